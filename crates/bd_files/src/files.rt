@@ -1,0 +1,60 @@
+ghost use Rattle.std.specs.Prelude.{◌≡◌, ◌+◌, ◌≤◌, ℕ, List, length, replicate, IfOk, OnOk, IsErr};
+ghost use Rattle.std.specs.FinMap as map;
+ghost use Rattle.bd_disk.specs.Calls.{HasCause};
+ghost use Rattle.bd_disk.specs.Images.{overwritten};
+ghost use Rattle.bd_model.specs.FileMap.{FileMap};
+ghost use Rattle.bd_files.specs.Files.{ChangesOnly, CountsStrays, Fetches, Holds, Lacks};
+
+use bd_disk::Failed;
+use bd_model::Name;
+
+/// Named files: sources that are fetched, and targets that are begun, filled and finished.
+pub trait Files {
+    /// That files of this type tell what they hold.
+    ghost tells: { Type 0 };
+
+    /// What is under each name, where they tell.
+    ghost files: { Self → FileMap };
+
+    /// How often a fetch has failed.
+    ghost source_faults: { Self → ℕ };
+
+    /// How often one of the three other calls has failed.
+    ghost target_faults: { Self → ℕ };
+
+    /// How often a name was fetched that isn't there, where they tell.
+    ghost strays: { Self → ℕ };
+
+    fn fetch(&mut self, name: &Name, at: u64, into: &mut [u8]) -> Result<usize, Failed>
+        ensures cause { HasCause (source_faults self.old) (source_faults self.new) result }
+        ensures targets { target_faults self.new ≡ target_faults self.old }
+        ensures within { IfOk result (λ n. n ≤ length into.old) }
+        ensures read { IfOk result (λ n. tells → Fetches (files self.old) name.now at (length into.old) n into.new) }
+        ensures missing { tells → Lacks (files self.old) name.now → IsErr result }
+        ensures strays { tells → CountsStrays (files self.old) name.now (strays self.old) (strays self.new) }
+        ensures same { tells → files self.new ≡ files self.old };
+
+    /// Puts `length` bytes of 0 under the name.
+    fn begin(&mut self, name: &Name, length: u64) -> Result<(), Failed>
+        ensures cause { HasCause (target_faults self.old) (target_faults self.new) result }
+        ensures sources { source_faults self.new ≡ source_faults self.old }
+        ensures strays { tells → strays self.new ≡ strays self.old }
+        ensures ok { OnOk result (tells → files self.new ≡ map.insert (files self.old) name.now (replicate length 0)) }
+        ensures others { tells → ChangesOnly name.now (files self.old) (files self.new) };
+
+    /// Changes bytes of a file that is there.
+    fn put(&mut self, name: &Name, at: u64, bytes: &[u8]) -> Result<(), Failed>
+        requires there { tells → (old : List ℕ) × Holds (files self.old) name.now old × (at + length bytes.now ≤ length old) }
+        ensures cause { HasCause (target_faults self.old) (target_faults self.new) result }
+        ensures sources { source_faults self.new ≡ source_faults self.old }
+        ensures strays { tells → strays self.new ≡ strays self.old }
+        ensures ok { OnOk result (tells → (old : List ℕ) → Holds (files self.old) name.now old → files self.new ≡ map.insert (files self.old) name.now (overwritten old at bytes.now)) }
+        ensures others { tells → ChangesOnly name.now (files self.old) (files self.new) };
+
+    /// Makes sure of a file that was begun.
+    fn finish(&mut self, name: &Name) -> Result<(), Failed>
+        ensures cause { HasCause (target_faults self.old) (target_faults self.new) result }
+        ensures sources { source_faults self.new ≡ source_faults self.old }
+        ensures strays { tells → strays self.new ≡ strays self.old }
+        ensures same { tells → files self.new ≡ files self.old };
+}

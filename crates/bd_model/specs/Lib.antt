@@ -1,0 +1,15 @@
+pub mod Category
+pub mod Chunks
+pub mod FileMap
+pub mod History
+pub mod Labels
+pub mod Layout
+pub mod Limits
+pub mod Marks
+pub mod Recipe
+pub mod Room
+pub mod Roomy
+pub mod Shapes
+pub mod Sizes
+pub mod Folds
+pub mod Step
