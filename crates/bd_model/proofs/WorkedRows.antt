@@ -2,9 +2,9 @@
 use Rattle.std.proofs.Common.{◌≡◌, ℕ, List, [], ◌∷◌, ◌++◌, refl, map, length}
 use Rattle.bd_model.specs.History.{History}
 use Rattle.bd_model.specs.Category.{category}
-use Rattle.bd_model.specs.Layout.{volume, open_category, rows, row_of}
+use Rattle.bd_model.specs.Layout.{closed_volume, open_category, rows, row_of}
 use Rattle.bd_model.specs.declared.layout.Phase.TheVariants.{Settled, Waiting}
-use Rattle.bd_model.specs.Room.{need, counted, owned, fresh, rest}
+use Rattle.bd_model.specs.Room.{need, counted, owned, fresh, reserve_left}
 use Rattle.std.specs.Prelude.{Some, option_map, IsTrue}
 use Rattle.std.specs.Int.{is_power_of_two}
 use lib.Count.{ones}
@@ -17,9 +17,8 @@ use Rattle.bd_model.specs.declared.answer.VersionLine.{VersionLine}
 use Rattle.bd_model.specs.Shapes.{payload_room, half_bytes, disk_bytes}
 use Rattle.bd_model.specs.Chunks.{chunks_from}
 use Rattle.bd_model.specs.FileMap.{FileMap}
-use Rattle.bd_model.specs.Step.{Streams, empty, cut_of, backed_up, step, record_count, entry_count, expired_extents}
-use Rattle.bd_model.specs.Labels.{VersionState, labelled, dropped_by_keep, keep_extents}
-use Rattle.std.specs.Prelude.{codes}
+use Rattle.bd_model.specs.State.{Version, VersionState, empty, cut_of}
+use Rattle.bd_model.specs.Step.{backed_up, step, record_count, entry_count, expired_extents}
 use Rattle.bd_model.proofs.PieceLemmas.{pieces_from, chunks_from-pieces}
 
 abbrev line : ℕ → ℕ → ℕ → ℕ → VersionLine
@@ -66,53 +65,53 @@ three_less_one = record three { expired = 1 }
 
 -- one version
 need_first : need 64 none abc ∷ owned 64 one Settled ∷ [] ≡ 4 ∷ 4 ∷ []
-unfolding need owned rest counted
+unfolding need owned reserve_left counted
 need_first = refl
 
 -- a second one
 need_second : need 64 one acd ≡ 6
-unfolding need owned rest counted
+unfolding need owned reserve_left counted
 need_second = refl
 
 fresh_second : fresh one acd ≡ d ∷ []
 fresh_second = refl
 
-second_volume : volume two Settled 1 ≡ b ∷ []
+second_volume : closed_volume two Settled 1 ≡ b ∷ []
 second_volume = refl
 
 second_open : map (open_category two Settled) (1 ∷ 2 ∷ []) ≡ (a ∷ c ∷ []) ∷ (d ∷ []) ∷ []
 second_open = refl
 
 second_owned : owned 64 two Settled ≡ 8
-unfolding need owned rest counted
+unfolding need owned reserve_left counted
 second_owned = refl
 
 second_waiting : map (open_category two (Waiting 1)) (1 ∷ 2 ∷ []) ≡ (a ∷ b ∷ c ∷ []) ∷ (d ∷ []) ∷ []
 second_waiting = refl
 
 -- what the second one needed besides fresh chunks and recipe is what arranging has to take
-second_rest : owned 64 two (Waiting 1) ∷ rest 64 two (Waiting 1) ∷ [] ≡ 7 ∷ 3 ∷ []
-unfolding need owned rest counted
+second_rest : owned 64 two (Waiting 1) ∷ reserve_left 64 two (Waiting 1) ∷ [] ≡ 7 ∷ 3 ∷ []
+unfolding need owned reserve_left counted
 second_rest = refl
 
 -- a third one
 need_third : need 64 two bad ≡ 5
-unfolding need owned rest counted
+unfolding need owned reserve_left counted
 need_third = refl
 
 third_categories : map (category three 1) (1 ∷ 2 ∷ 3 ∷ []) ++ map (category three 2) (2 ∷ 3 ∷ []) ++ map (category three 3) (3 ∷ [])
     ≡ (b ∷ []) ∷ (c ∷ []) ∷ (a ∷ []) ∷ [] ∷ (d ∷ []) ∷ (b ∷ []) ∷ []
 third_categories = refl
 
-third_volumes : map (volume three Settled) (1 ∷ 2 ∷ []) ≡ (b ∷ []) ∷ (c ∷ []) ∷ []
+third_volumes : map (closed_volume three Settled) (1 ∷ 2 ∷ []) ≡ (b ∷ []) ∷ (c ∷ []) ∷ []
 third_volumes = refl
 
 third_owned : owned 64 three Settled ≡ 11
-unfolding need owned rest counted
+unfolding need owned reserve_left counted
 third_owned = refl
 
-third_rest : map (owned 64 three) (Waiting 1 ∷ Waiting 2 ∷ Waiting 3 ∷ Settled ∷ []) ++ map (rest 64 three) (Waiting 1 ∷ Waiting 2 ∷ Waiting 3 ∷ Settled ∷ []) ≡ 11 ∷ 11 ∷ 11 ∷ 11 ∷ 2 ∷ 0 ∷ 0 ∷ 0 ∷ []
-unfolding need owned rest counted
+third_rest : map (owned 64 three) (Waiting 1 ∷ Waiting 2 ∷ Waiting 3 ∷ Settled ∷ []) ++ map (reserve_left 64 three) (Waiting 1 ∷ Waiting 2 ∷ Waiting 3 ∷ Settled ∷ []) ≡ 11 ∷ 11 ∷ 11 ∷ 11 ∷ 2 ∷ 0 ∷ 0 ∷ 0 ∷ []
+unfolding need owned reserve_left counted
 third_rest = refl
 
 third_lines : record_count three ∷ entry_count three ∷ [] ≡ 5 ∷ 9 ∷ []
@@ -120,7 +119,7 @@ third_lines = refl
 
 -- after an expiry
 expiry : expired_extents 64 three ∷ owned 64 three_less_one Settled ∷ [] ≡ 3 ∷ 8 ∷ []
-unfolding need owned rest counted
+unfolding need owned reserve_left counted
 expiry = refl
 
 expiry_rows : rows three_less_one Settled 2 ≡ row_of 2 (c ∷ []) ∷ []
@@ -128,27 +127,27 @@ expiry_rows = refl
 
 -- the same stream twice
 same_twice : need 64 one abc ∷ owned 64 (history_of 0 (abc ∷ abc ∷ [])) Settled ∷ [] ≡ 2 ∷ 6 ∷ []
-unfolding need owned rest counted
+unfolding need owned reserve_left counted
 same_twice = refl
 
 -- nothing in common
 nothing_common : need 64 none (a ∷ []) ∷ need 64 (history_of 0 ((a ∷ []) ∷ [])) (b ∷ []) ∷ owned 64 (history_of 0 ((a ∷ []) ∷ (b ∷ []) ∷ [])) Settled ∷ [] ≡ 2 ∷ 3 ∷ 4 ∷ []
-unfolding need owned rest counted
+unfolding need owned reserve_left counted
 nothing_common = refl
 
 -- one chunk three times
 three_times : need 64 none (a ∷ a ∷ a ∷ []) ∷ length (fresh none (a ∷ a ∷ a ∷ [])) ∷ [] ≡ 3 ∷ 1 ∷ []
-unfolding need owned rest counted
+unfolding need owned reserve_left counted
 three_times = refl
 
 -- a store that was emptied
 emptied : expired_extents 64 one ∷ need 64 (history_of 1 []) abc ∷ owned 64 (history_of 1 (abc ∷ [])) Settled ∷ [] ≡ 4 ∷ 4 ∷ 4 ∷ []
-unfolding need owned rest counted
+unfolding need owned reserve_left counted
 emptied = refl
 
 -- refusals: room for nine extents, and for three
 refused : counted 64 one acd 5 ∷ counted 64 none abc 3 ∷ [] ≡ 6 ∷ 4 ∷ []
-unfolding need owned rest counted
+unfolding need owned reserve_left counted
 refused = refl
 
 -- Commands, over streams. With no bits the chunks are pieces of four bytes.
@@ -186,36 +185,25 @@ sizes = refl
 pieces : (s : List ℕ) (start count : ℕ) → chunks_from (cut_of shape) s start count ≡ pieces_from 4 s start count
 pieces s start count = chunks_from-pieces (cut_of shape) s start count refl (lit≤ tt)
 
-first_backup : backed_up shape 0 empty (a ++ b ++ c) ≡ (BackedUp 1 12 3 3 4, record { base = 0; streams = (a ++ b ++ c) ∷ []; expired = 0 })
-unfolding need owned rest counted
+abbrev given_as : List ℕ → Version
+given_as stream = record { stream = stream }
+
+first_backup : backed_up shape 0 empty (a ++ b ++ c) ≡ (BackedUp 1 12 3 3 4, record { base = 0; versions = given_as (a ++ b ++ c) ∷ []; expired = 0 })
+unfolding need owned reserve_left counted
 first_backup = simp pieces
 
-abbrev after_three : Streams
-after_three = record { base = 0; streams = (a ++ b ++ c) ∷ (a ++ c ++ d) ∷ (b ++ a ++ d) ∷ []; expired = 0 }
+abbrev after_three : VersionState
+after_three = record { base = 0; versions = given_as (a ++ b ++ c) ∷ given_as (a ++ c ++ d) ∷ given_as (b ++ a ++ d) ∷ []; expired = 0 }
 
 expire_step : option_map (λ o. o.answer) (step shape 0 after_three map.empty Expire) ≡ Some (Expired 1 3)
-unfolding need owned rest counted
+unfolding need owned reserve_left counted
 expire_step = simp pieces
 
 list_step : option_map (λ o. o.answer) (step shape 0 after_three map.empty Listing)
     ≡ Some (Listed (record { items = line 1 12 3 3 ∷ line 2 12 3 1 ∷ line 3 12 3 1 ∷ []; spare = 0 }))
 list_step = simp pieces
 
--- keeping the last versions
-keeping : map (keep_extents 64 three) (1 ∷ 2 ∷ 3 ∷ []) ++ map (dropped_by_keep three) (1 ∷ 2 ∷ 3 ∷ []) ≡ 6 ∷ 3 ∷ 0 ∷ 2 ∷ 1 ∷ 0 ∷ []
-keeping = refl
-
-monday : List ℕ
-monday = codes "monday"
-
-labelled_state : VersionState
-labelled_state = record { format = 2; base = 0; versions = record { stream = a ++ b ++ c; label = monday; moment = 1 } ∷ record { stream = a ++ c ++ d; label = monday; moment = 5 } ∷ []; expired = 0 }
-
-newest_monday : labelled labelled_state two monday ≡ Some 2
-unfolding labelled_state monday
-newest_monday = refl
-
 -- the first backup, from files that have the stream under the name
 backup_step : (files : FileMap) (name : List ℕ) → map.get files name ≡ Some (a ++ b ++ c) → option_map (λ o. o.answer) (step shape 0 empty files (Backup name)) ≡ Some (BackedUp 1 12 3 3 4)
-unfolding need owned rest counted
+unfolding need owned reserve_left counted
 backup_step files name there = rw there (simp pieces)

@@ -1,8 +1,8 @@
 pub mod Category
 pub mod Chunks
 pub mod FileMap
+pub mod Folds
 pub mod History
-pub mod Labels
 pub mod Layout
 pub mod Limits
 pub mod Marks
@@ -11,5 +11,6 @@ pub mod Room
 pub mod Roomy
 pub mod Shapes
 pub mod Sizes
-pub mod Folds
+pub mod State
 pub mod Step
+pub mod Texts
