@@ -1,5 +1,6 @@
 pub mod Category
 pub mod Chunks
+pub mod Extents
 pub mod FileMap
 pub mod Folds
 pub mod History
@@ -7,6 +8,7 @@ pub mod Layout
 pub mod Limits
 pub mod Marks
 pub mod Recipe
+pub mod Records
 pub mod Room
 pub mod Roomy
 pub mod Shapes

@@ -1,0 +1,2 @@
+//! The catalogue of a store, its one spelling, and what an image stands for.
+#![tactic(auto)]
