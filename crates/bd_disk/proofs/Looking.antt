@@ -1,0 +1,59 @@
+-- Where a run of calls reads.
+use Rattle.std.proofs.Common.{◌≡◌, ℕ, zero, suc, ◌+◌, List, [], ◌∷◌, ◌++◌, Some, None, sym, ◌∙◌, ap, subst, arith}
+use Rattle.std.proofs.lemmas.List.{append_cancel_left}
+use Rattle.std.specs.List.{AllByRecursion}
+use Rattle.bd_disk.specs.Images.{InRange}
+use Rattle.bd_disk.specs.History.{Call, Put, Flush, Idle, History}
+use Rattle.bd_disk.specs.Calls.{Done, Fails, IsIdle}
+use Rattle.bd_disk.specs.Made.{Made}
+use Rattle.bd_disk.specs.Looks.{Looks, LooksOnlyAt}
+use Rattle.bd_disk.specs.Trace.{shown, upward, places_of, reads, ReadsOnly}
+use Rattle.bd_disk.specs.declared.touch.Touch.TheVariants.{Read, Write, Sync}
+use Rattle.bd_disk.proofs.Frames.{made_done, made_fails, made_wider, idle_kind}
+use Rattle.bd_disk.proofs.Traces.{part, reads_on}
+
+call_wider : (Places Wider : ℕ → Type 0) → ((place : ℕ) → Places place → Wider place) → (call : Call) → Looks Places call → Looks Wider call
+call_wider Places Wider sub (Put at bytes) looks = tt
+call_wider Places Wider sub Flush looks = tt
+call_wider Places Wider sub (Idle None) looks = tt
+call_wider Places Wider sub (Idle (Some (Read at n))) looks = λ place r. sub place (looks place r)
+call_wider Places Wider sub (Idle (Some (Write at n))) looks = tt
+call_wider Places Wider sub (Idle (Some Sync)) looks = tt
+
+pub looks_wider : {Places : ℕ → Type 0} (Wider : ℕ → Type 0) {a b : History} → ((place : ℕ) → Places place → Wider place) → LooksOnlyAt Places a b → LooksOnlyAt Wider a b
+looks_wider {Places} Wider sub f = made_wider (Looks Wider) (call_wider Places Wider sub) f
+
+-- a read that answered Ok, and one that failed
+pub read_looks : {at n : ℕ} {a b : History} → Done (Idle (Some (Read at n))) a b → LooksOnlyAt (InRange at n) a b
+read_looks done = made_done (λ place r. r) done
+
+pub failed_read_looks : {at n : ℕ} {a b : History} → Fails (IsIdle (Read at n)) a b → LooksOnlyAt (InRange at n) a b
+failed_read_looks {at} {n} fails = made_fails (IsIdle (Read at n)) (idle_kind (Looks (InRange at n)) (Read at n) (λ place r. r) tt) fails
+
+all-upward : (P : ℕ → Type 0) (at n : ℕ) → ((place : ℕ) → InRange at n place → P place) → AllByRecursion P (upward at n)
+unfolding upward
+all-upward P at zero each = tt
+all-upward P at (suc n) each = (each at (omega arith, omega arith), all-upward P (at + 1) n (λ place r. each place (omega (arith, r.0), omega (arith, r.1))))
+
+all-places : (P : ℕ → Type 0) (call : Call) → Looks P call → AllByRecursion P (places_of (shown call))
+all-places P (Put at bytes) looks = tt
+all-places P Flush looks = tt
+all-places P (Idle None) looks = tt
+all-places P (Idle (Some (Read at n))) looks = all-upward P at n looks
+all-places P (Idle (Some (Write at n))) looks = tt
+all-places P (Idle (Some Sync)) looks = tt
+
+all-both : (P : ℕ → Type 0) (xs ys : List ℕ) → AllByRecursion P xs → AllByRecursion P ys → AllByRecursion P (xs ++ ys)
+all-both P [] ys f g = g
+all-both P (x ∷ xs) ys f g = (f.0, all-both P xs ys f.1 g)
+
+all-part : (P : ℕ → Type 0) (h : History) (calls : List Call) → AllByRecursion (Looks P) calls → AllByRecursion P (part h calls)
+unfolding part
+all-part P h [] all = tt
+all-part P h (call ∷ calls) all = all-both P (part h calls) (places_of (shown call)) (all-part P h calls all.1) (all-places P call all.0)
+
+-- what a run reads lies where it looks
+pub reads_within : {Places : ℕ → Type 0} {places : List ℕ} {a b : History} → LooksOnlyAt Places a b → ReadsOnly places a b → AllByRecursion Places places
+reads_within {Places} {places} {a} {b} f g =
+    let same : part a f.calls ≡ places = append_cancel_left (reads a) _ _ (sym (reads_on a f.calls) ∙ ap reads (sym f.so) ∙ g.so) in
+    subst (AllByRecursion Places) same (all-part Places a f.calls f.each)
