@@ -1,13 +1,8 @@
-// A library with one function.
+//! Extent numbers, and who uses them: an owner's list, and the use of each number of a space.
 #![tactic(auto)]
 
-ghost use Rattle.std.specs.Prelude.{◌≡◌};
-ghost use Rattle.bd_space.specs.Echo.{echo_of};
+mod owned;
+mod space;
 
-// The `ensures` clause is the contract: what `echo` returns is `echo_of` of its argument, a definition
-// in `specs/Echo.antt`, which a caller's clause can cite too.
-pub fn echo(x: usize) -> usize
-    ensures { result ≡ echo_of x }
-{
-    x
-}
+pub use owned::Owned;
+pub use space::{Space, SpaceFault, Use};
