@@ -60,13 +60,22 @@ each_marked us (n ∷ ns) u within =
     (marked_kept (set us n u) ns u n (omega arith) (slice_get-set_same us n u here))
     (each_marked (set us n u) ns u within')
 
-pub Marks-marked_uses : (ns : List ℕ) (u : Use) (old new : Allotment) → All (λ n. n < length old.uses) ns
-    → new.uses ≡ marked_uses old.uses ns u → Marks ns u old new
-Marks-marked_uses ns u old new within is = record {
-  size = ap length is ∙ length-marked_uses old.uses ns u;
-  marked = subst (λ (us : List Use). All (λ n. slice_get us n ≡ Some u) ns) (sym is) (each_marked old.uses ns u within);
-  others = λ m without. ap (λ us. slice_get us m) is ∙ other_kept old.uses ns u m without;
+-- these numbers have this use in `vs`, and every other has the use that it had in `us`
+pub record IsMarked (ns : List ℕ) (u : Use) (us vs : List Use) : Type 0 where
+  pub size : length vs ≡ length us
+  pub marked : All (λ n. slice_get vs n ≡ Some u) ns
+  pub others : (n : ℕ) → (Contains ns n → ⊥) → slice_get vs n ≡ slice_get us n
+
+pub marked_uses_marked : (ns : List ℕ) (u : Use) (us vs : List Use) → All (λ n. n < length us) ns
+    → vs ≡ marked_uses us ns u → IsMarked ns u us vs
+marked_uses_marked ns u us vs within is = record {
+  size = ap length is ∙ length-marked_uses us ns u;
+  marked = subst (λ (xs : List Use). All (λ n. slice_get xs n ≡ Some u) ns) (sym is) (each_marked us ns u within);
+  others = λ m without. ap (λ xs. slice_get xs m) is ∙ other_kept us ns u m without;
 }
+
+pub Marks-from_marked : (ns : List ℕ) (u : Use) (old new : Allotment) → IsMarked ns u old.uses new.uses → Marks ns u old new
+Marks-from_marked ns u old new m = record { size = m.size; marked = m.marked; others = m.others }
 
 -- ---- how many uses pass a test
 

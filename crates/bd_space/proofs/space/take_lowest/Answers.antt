@@ -3,7 +3,8 @@ use Rattle.bd_space.specs.declared.space.Use.{Use}
 use Rattle.bd_space.specs.declared.space.Use.TheVariants.{Free, Taken}
 use Rattle.bd_space.specs.Allotment.{is_free, numbers_from}
 use Rattle.bd_space.specs.Marking.{marked_uses}
-use Rattle.bd_space.proofs.Kept.{appended_part, All-within, All-free_numbers}
+use Rattle.bd_space.proofs.Kept.{appended_part, All-within}
+use Rattle.bd_space.proofs.Lowest.{All-lowest}
 use Rattle.bd_space.proofs.space.take_lowest.Goals as goal
 
 pub mark-requires : goal.mark-requires
@@ -14,7 +15,7 @@ mark-requires c =
     (c.numbers.ensures ∙ c.collect_free-behind.ensures.appended ∙ ap (λ ns. c.args.owner.now.numbers ++ take c.args.count ns) c.requires.below)
     c.len-known.ensures in
     subst (λ (ns : List ℕ). All (λ n. n < length us) ns) (sym part)
-    (All-within us Free added (All-free_numbers c.args.count (record { uses = us })))
+    (All-within us Free added (All-lowest c.args.count us))
 
 pub returns-clause-marked : goal.returns-clause-marked
 returns-clause-marked c =

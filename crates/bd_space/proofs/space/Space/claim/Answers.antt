@@ -5,6 +5,7 @@ use Rattle.bd_space.specs.declared.space.Use.TheVariants.{Free, Taken}
 use Rattle.bd_space.specs.Allotment.{Allotment, IsFree}
 use Rattle.bd_space.specs.Marking.{marked_uses}
 use Rattle.bd_space.proofs.Kept.{few_taken, kept_taken, moved_to_taken}
+use Rattle.bd_space.proofs.Marked.{Marks-from_marked}
 use Rattle.bd_space.proofs.space.Space.claim.Goals as goal
 
 pub overflow_cast-self : goal.overflow_cast-self
@@ -31,5 +32,5 @@ returns c =
     let items = with_items_is c.self.inside.uses c.mark.new.uses (omega arith) in
     let was = ap (λ (a : Allotment). a.uses) c.self.view_is in
     let marked : c.mark.new.uses ≡ marked_uses c.args.self.now.uses c.args.owner.now.numbers Taken = cc was in
-    let moved = moved_to_taken c.args.owner.now.numbers c.args.self.now _ c.requires.distinct c.requires.free (items ∙ marked) in
-    record { taken = moved.marks; free = omega (arith, moved.free); held = moved.held }
+    let moved = moved_to_taken c.args.owner.now.numbers c.args.self.now.uses _ c.requires.distinct c.requires.free (items ∙ marked) in
+    record { taken = Marks-from_marked _ Taken c.args.self.now _ moved.marks; free = omega (arith, moved.free); held = moved.held }

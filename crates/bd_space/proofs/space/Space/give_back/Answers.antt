@@ -5,6 +5,7 @@ use Rattle.bd_space.specs.declared.space.Use.TheVariants.{Free, Taken}
 use Rattle.bd_space.specs.Allotment.{Allotment, IsTaken}
 use Rattle.bd_space.specs.Marking.{marked_uses}
 use Rattle.bd_space.proofs.Kept.{few_freed, kept_freed, moved_to_free}
+use Rattle.bd_space.proofs.Marked.{Marks-from_marked}
 use Rattle.bd_space.proofs.space.Space.give_back.Goals as goal
 
 pub overflow_cast-self : goal.overflow_cast-self
@@ -32,5 +33,5 @@ returns c =
     let items = with_items_is c.self.inside.uses c.mark.new.uses (omega arith) in
     let was = ap (λ (a : Allotment). a.uses) c.self.view_is in
     let marked : c.mark.new.uses ≡ marked_uses c.args.self.now.uses c.args.owner.numbers Free = cc was in
-    let moved = moved_to_free c.args.owner.numbers c.args.self.now _ c.requires.distinct c.requires.taken (items ∙ marked) in
-    record { freed = moved.marks; free = omega (arith, moved.free); held = moved.held }
+    let moved = moved_to_free c.args.owner.numbers c.args.self.now.uses _ c.requires.distinct c.requires.taken (items ∙ marked) in
+    record { freed = Marks-from_marked _ Free c.args.self.now _ moved.marks; free = omega (arith, moved.free); held = moved.held }
