@@ -1,0 +1,6 @@
+pub mod Numbers
+pub mod Kept
+pub mod Marked
+pub mod Lowest
+pub mod Distinct
+pub mod Uses
