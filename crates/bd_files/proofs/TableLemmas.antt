@@ -14,6 +14,7 @@ use Rattle.bd_disk.specs.Images.{overwritten}
 use Rattle.bd_model.specs.FileMap.{FileMap}
 use Rattle.bd_files.specs.Files.{Holds}
 use Rattle.bd_files.specs.Table.{file_map}
+use Rattle.bd_files.proofs.FileLemmas.{only_equal_names_tie}
 use borrow.Rule.Slice.PartMut.{put_mid}
 
 -- a write into a part of a slice
@@ -37,23 +38,15 @@ swapped true true x y z apart = absurd (apart tt tt)
 swapped true false x y z apart = refl
 swapped false b x y z apart = refl
 
-equal : (r : Ordering) → T (is_eq r) → r ≡ Equal
-equal Less p = absurd p
-equal Equal p = refl
-equal Greater p = absurd p
-
 -- ---- names
 
 abbrev order : List ℕ → List ℕ → Ordering
 order = slice_cmp nat_cmp
 
-only_equal_tie : IsAntisymmetric order
-only_equal_tie = slice_cmp-IsAntisymmetric nat_cmp-IsAntisymmetric
-
 -- a name that ties with two ties them
 one_tie : (q a b : List ℕ) (r : Ordering) → order a b ≡ r → (T (is_eq r) → ⊥) → T (eq_by_cmp order q b) → T (eq_by_cmp order q a) → ⊥
 one_tie q a b r is apart at_b at_a =
-    let same : q ≡ a = only_equal_tie q a (equal _ at_a) in
+    let same : q ≡ a = only_equal_names_tie q a at_a in
     apart (subst T (ap (λ n. is_eq (order n b)) same ∙ ap is_eq is) at_b)
 
 module _ {A : Type 0} where
@@ -95,7 +88,7 @@ module _ {A : Type 0} where
 
   by_name : (old new : List (Vec ℕ A × Vec ℕ A)) (k bytes : List ℕ) → ((q : List ℕ) → find order q (pairs new) ≡ cond (eq_by_cmp order q k) (Some bytes) (find order q (pairs old))) → file_map new ≡ map.insert (file_map old) k bytes
   by_name old new k bytes is =
-      same_map nat_list_cmp_total only_equal_tie _ _ (λ q. get-from_entries nat_list_cmp_total (pairs new) q ∙ is q ∙ sym (get-insert nat_list_cmp_total _ k bytes q ∙ ap (cond (eq_by_cmp order q k) (Some bytes)) (get-from_entries nat_list_cmp_total (pairs old) q)))
+      same_map nat_list_cmp_total (slice_cmp-IsAntisymmetric nat_cmp-IsAntisymmetric) _ _ (λ q. get-from_entries nat_list_cmp_total (pairs new) q ∙ is q ∙ sym (get-insert nat_list_cmp_total _ k bytes q ∙ ap (cond (eq_by_cmp order q k) (Some bytes)) (get-from_entries nat_list_cmp_total (pairs old) q)))
 
   -- an entry more, or another value of one
   pub file_map-insert_entry : (entries : List (Vec ℕ A × Vec ℕ A)) (k v : Vec ℕ A) → file_map (insert_entry vec_order entries k v) ≡ map.insert (file_map entries) k.items v.items

@@ -1,8 +1,7 @@
-ghost use Rattle.std.specs.Prelude.{◌≡◌, ◌≤◌, ◌↔◌, ◌⊎◌, [], ◌∷◌, ◌++◌, OnOk, OnErr, IsErr, Some};
+ghost use Rattle.std.specs.Prelude.{◌≡◌, ◌↔◌, ◌⊎◌, [], ◌∷◌, ◌++◌, OnOk, OnErr, IsErr, Some};
 ghost use Rattle.bd_disk.specs.Calls.{HasCause, Rose};
 ghost use Rattle.bd_disk.specs.History.{clock};
-ghost use Rattle.bd_files.specs.Calls.{next};
-ghost use Rattle.bd_files.specs.Fakes.{FailsNext, empty_sink};
+ghost use Rattle.bd_files.specs.Fakes.{Counts, CountsRefused, FailsNext, empty_sink};
 ghost use Rattle.bd_files.specs.Sinks.{WritesPart};
 
 use crate::Sink;
@@ -109,11 +108,8 @@ impl Sink for MemSink {
         // It fails where it was set to, or where no room is given, and then takes nothing.
         ensures fails { IsErr result ↔ (FailsNext self.old.puts ⊎ Rose self.old.refused self.new.refused) }
         ensures unwritten { OnErr result (self.new.written ≡ self.old.written) }
-        ensures made { self.new.puts.made ≡ next self.old.puts.made }
-        ensures failing { self.new.puts.failing ≡ self.old.puts.failing }
-        ensures refused { self.old.refused ≤ self.new.refused }
-        ensures ok_refused { OnOk result (self.new.refused ≡ self.old.refused) }
-        ensures err_faults { OnErr result (self.new.puts.faults ≡ next self.old.puts.faults) }
+        ensures counts { Counts self.old.puts self.new.puts result }
+        ensures refused { CountsRefused self.old.puts self.old.refused self.new.refused result }
     {
         if self.puts.count() || self.refused == u64::MAX {
             return Err(self.puts.fail());

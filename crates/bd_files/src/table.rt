@@ -1,5 +1,5 @@
 // Bytes under names, in the names' order.
-ghost use Rattle.std.specs.Prelude.{◌≡◌, ◌+◌, ◌≤◌, ℕ, List, length, map as each, OnOk, OnErr};
+ghost use Rattle.std.specs.Prelude.{◌≡◌, ◌+◌, ◌≤◌, ℕ, List, length, replicate, OnOk, OnErr};
 ghost use Rattle.std.specs.Option.{option_map};
 ghost use Rattle.std.specs.FinMap as map;
 ghost use Rattle.bd_disk.specs.Images.{overwritten};
@@ -64,6 +64,20 @@ impl Table {
         let key = name.to_vec(alloc)?;
         self.files.insert(key, bytes)?;
         Ok(())
+    }
+
+    // Puts so many bytes of 0 under the name, in place of any that were there.
+    pub(crate) fn insert_zeros(
+        &mut self,
+        alloc: Global,
+        name: &[u8],
+        length: usize,
+    ) -> Result<(), AllocError>
+        ensures ok { OnOk result (self.new ≡ map.insert self.old name.now (replicate length 0)) }
+        ensures err { OnErr result (self.new ≡ self.old) }
+    {
+        let zeros = vec![in alloc; 0u8; length]?;
+        self.insert(alloc, name, zeros)
     }
 
     // Writes over bytes of a file that is there.
