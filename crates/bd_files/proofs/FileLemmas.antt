@@ -41,6 +41,6 @@ changes_only_what_was_put old new name bytes is = record {
 pub holds_or_lacks : (files : FileMap) (name : List ℕ) → ((bytes : List ℕ) × Holds files name bytes) ⊎ Lacks files name
 holds_or_lacks files name = by (map.get files name) refl
   where
-  by : (found : Option (List ℕ)) → map.get files name ≡ found → ((bytes : List ℕ) × Holds files name bytes) ⊎ Lacks files name
-  by None is = inr (record { none = is })
-  by (Some bytes) is = inl (bytes, record { there = is })
+    by : (found : Option (List ℕ)) → map.get files name ≡ found → ((bytes : List ℕ) × Holds files name bytes) ⊎ Lacks files name
+    by None is = inr (record { none = is })
+    by (Some bytes) is = inl (bytes, record { there = is })

@@ -68,8 +68,7 @@ impl MemFiles {
         ensures err { OnErr result (self.new ≡ self.old) }
     {
         let copy = bytes.to_vec(self.alloc)?;
-        self.table
-            .insert(self.alloc, name.text().as_bytes(), copy)
+        self.table.insert(self.alloc, name.text().as_bytes(), copy)
     }
 
     /// The bytes under the name; none where nothing is there.
