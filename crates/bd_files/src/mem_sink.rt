@@ -90,7 +90,7 @@ impl MemSink {
 impl Sink for MemSink {
     ghost tells = { Unit {0} };
 
-    ghost takes = { λ disk. Unit {0} };
+    ghost takes = { λ disks history. Unit {0} };
 
     ghost written = { λ s. s.written };
 

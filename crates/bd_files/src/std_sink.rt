@@ -32,7 +32,7 @@ impl StdSink {
 impl Sink for StdSink {
     ghost tells = { ⊥ };
 
-    ghost takes = { λ disk. Unit {0} };
+    ghost takes = { λ disks history. Unit {0} };
 
     ghost written = { λ s. [] };
 
