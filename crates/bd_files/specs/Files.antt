@@ -30,3 +30,8 @@ pub record CountsStrays (files : FileMap) (name : List ℕ) (before now : ℕ) :
   pub later : before ≤ now
   pub rose : Lacks files name → Rose before now
   pub kept : (bytes : List ℕ) → Holds files name bytes → now ≡ before
+
+-- how often a fetch failed, and one of the other calls
+pub record FaultCounts : Type 0 where
+  pub sources : ℕ
+  pub targets : ℕ

@@ -1,0 +1,46 @@
+-- What is under each name after bytes were put under one.
+use Rattle.std.proofs.Common.{◌≡◌, ◌⊎◌, inl, inr, ℕ, Bool, true, false, cond, T, List, refl, sym, ap, subst, ◌∙◌, Some, None, Option}
+use Rattle.std.specs.declared.cmp.Ordering.{Ordering}
+use Rattle.std.specs.declared.cmp.Ordering.TheVariants.{Less, Equal, Greater}
+use Rattle.std.specs.Ordering.{nat_cmp, is_eq, eq_by_cmp}
+use Rattle.std.specs.Cmp.Lexicographic.{slice_cmp, nat_list_cmp_total}
+use Rattle.std.specs.Cmp.{tied_itself}
+use Rattle.std.specs.FinMap as map
+use Rattle.std.specs.FinMap.{get-insert, IsAntisymmetric, nat_cmp-IsAntisymmetric, slice_cmp-IsAntisymmetric}
+use Rattle.bd_model.specs.FileMap.{FileMap}
+use Rattle.bd_files.specs.Files.{ChangesOnly, Holds, Lacks}
+
+equal : (r : Ordering) → T (is_eq r) → r ≡ Equal
+equal Less p = absurd p
+equal Equal p = refl
+equal Greater p = absurd p
+
+-- names that tie are one name
+pub only_equal_names_tie : (a b : List ℕ) → T (eq_by_cmp (slice_cmp nat_cmp) a b) → a ≡ b
+only_equal_names_tie a b tie =
+    let same : IsAntisymmetric (slice_cmp nat_cmp) = slice_cmp-IsAntisymmetric nat_cmp-IsAntisymmetric in
+    same a b (equal _ tie)
+
+not_chosen : {A : Type 0} (b : Bool) (x y : A) → (T b → ⊥) → cond b x y ≡ y
+not_chosen true x y apart = absurd (apart tt)
+not_chosen false x y apart = refl
+
+-- bytes that were put under a name are there
+pub holds_what_was_put : (files : FileMap) (name bytes : List ℕ) → Holds (map.insert files name bytes) name bytes
+holds_what_was_put files name bytes = record {
+  there = get-insert nat_list_cmp_total files name bytes name ∙ ap (λ r. cond (is_eq r) (Some bytes) (map.get files name)) (tied_itself nat_list_cmp_total name);
+}
+
+-- to put bytes under a name changes no other name
+pub changes_only_what_was_put : (old new : FileMap) (name bytes : List ℕ) → new ≡ map.insert old name bytes → ChangesOnly name old new
+changes_only_what_was_put old new name bytes is = record {
+  others = λ other apart. ap (λ files. map.get files other) is ∙ get-insert nat_list_cmp_total old name bytes other ∙ not_chosen _ _ _ (λ tie. apart (only_equal_names_tie other name tie));
+}
+
+-- a name has bytes or it hasn't
+pub holds_or_lacks : (files : FileMap) (name : List ℕ) → ((bytes : List ℕ) × Holds files name bytes) ⊎ Lacks files name
+holds_or_lacks files name = by (map.get files name) refl
+  where
+    by : (found : Option (List ℕ)) → map.get files name ≡ found → ((bytes : List ℕ) × Holds files name bytes) ⊎ Lacks files name
+    by None is = inr (record { none = is })
+    by (Some bytes) is = inl (bytes, record { there = is })

@@ -1,0 +1,7 @@
+-- What a sink was given.
+use Rattle.std.specs.Prelude.{◌≡◌, ℕ, List, ◌++◌, take}
+
+-- the bytes so far stay, and a first part of these follows, all of them or fewer
+pub record WritesPart (bytes old new : List ℕ) : Type 0 where
+  pub count : ℕ
+  pub so : new ≡ old ++ take count bytes
