@@ -3,6 +3,7 @@ pub mod Chunks
 pub mod FileMap
 pub mod Folds
 pub mod History
+pub mod Laws
 pub mod Layout
 pub mod Limits
 pub mod Marks
