@@ -1,5 +1,5 @@
 -- What is counted from two recipes alone.
-use Rattle.std.proofs.Common.{◌≡◌, ℕ, zero, suc, ◌+◌, ◌*◌, ◌<◌, ◌≤◌, Bool, true, false, cond, not, ◌&&◌, ◌||◌, List, [], ◌∷◌, ◌++◌, refl, sym, ◌∙◌, ap, subst, arith, filter, length, map, take, find, unwrap_or, sum_by, nat_eq, nat_lt, eq-eqb, length-take, inl, inr}
+use Rattle.std.proofs.Common.{◌≡◌, ℕ, zero, suc, ◌+◌, ◌*◌, ◌<◌, ◌≤◌, Bool, true, false, cond, not, ◌&&◌, ◌||◌, List, [], ◌∷◌, ◌++◌, refl, sym, ◌∙◌, ap, subst, arith, filter, length, map, take, find, unwrap_or, sum_by, nat_eq, nat_lt, eq-eqb, length-take, take-append-drop, drop, inl, inr}
 use Rattle.std.proofs.lemmas.Bool.{false≢true, or_left, or_right, or_cases, eqb-true}
 use Rattle.std.proofs.lemmas.List.{length-map, take-map}
 use Rattle.std.proofs.lemmas.List.Sums.{sum_by-cons}
@@ -10,12 +10,14 @@ use Rattle.bd_model.specs.Marks.{mark, Distinct}
 use Rattle.bd_model.specs.History.{History, version, newest, contains, distinct}
 use Rattle.bd_model.specs.declared.layout.RecipeEntry.{RecipeEntry}
 use Rattle.bd_model.specs.Recipe.{start_of, entry_of, recipe, first_entries, has_mark, entry_records, starts_of}
+use Rattle.bd_model.specs.Layout.{record_bytes}
 use Rattle.bd_model.specs.Room.{up, need, counted, running, fresh, need_of, counted_of, running_of, fresh_entries, kept_entries, archived_entries, entries_from}
 use Rattle.bd_model.proofs.ListLemmas.{filter-filter, sum_by-agree, sum_by-zero, sum_by-plus, sum_by-one_key, sum_by-filter}
-use Rattle.bd_model.proofs.ChunkListLemmas.{bytes_eq-refl}
+use Rattle.bd_model.proofs.ChunkListLemmas.{bytes_eq-refl, contains-append}
 use Rattle.bd_model.proofs.RecipeLemmas.{start_of-low, start_of-le}
 use Rattle.bd_model.proofs.RoomLemmas.{up-le}
-use Rattle.bd_model.proofs.NeedLemmas.{need_over, need_over-need}
+use Rattle.bd_model.proofs.NeedLemmas.{need_over, need_over-need, fresh-from_entries}
+use Rattle.bd_model.proofs.CountedLemmas.{first_above}
 
 -- whether an entry has the start
 abbrev pub has_start : List RecipeEntry → ℕ → Bool
@@ -106,3 +108,48 @@ module _ (h : History) (w : List (List ℕ)) (e : List ℕ → RecipeEntry) (is_
       need_of-over h w extent (recipe h (newest h)) (map e w) (h.base + 1) (newest h)
       (start_within h (newest h) (h.base + 1) (newest h) (version h (newest h)) (λ c has. (start_of-low h (newest h) c has, start_of-le h (newest h) c)))
       ∙ need_over-need h w extent e is_mark is_length apart
+
+  taken : (n : ℕ) (c : List ℕ) → contains (take n w) c ≡ true → contains w c ≡ true
+  taken n c has = ap (λ cs. contains cs c) (sym (take-append-drop n w)) ∙ contains-append (take n w) (drop n w) c ∙ or_left (contains (take n w) c) (contains (drop n w) c) has
+
+  running_of-running : (extent : ℕ) → Distinct (version h (newest h) ++ w) → (n : ℕ) → running_of extent (recipe h (newest h)) (map e w) n ≡ running extent h w n
+  running_of-running extent apart n =
+      let last = version h (newest h) in
+      let in_last : (c : List ℕ) → contains last c ≡ true → contains (last ++ w) c ≡ true = λ c has. contains-append last w c ∙ or_left (contains last c) (contains w c) has in
+      let in_w : (c : List ℕ) → contains (take n w) c ≡ true → contains (last ++ w) c ≡ true = λ c has. contains-append last w c ∙ or_right (contains last c) (contains w c) (taken n c has) in
+      let bytes : entry_records (fresh_entries (recipe h (newest h)) (map e (take n w))) ≡ record_bytes (fresh h (take n w)) =
+      fresh-from_entries h (take n w) e is_mark is_length (λ c has d there. apart c d (in_w c has) (in_last d there)) (λ c has d there. apart c d (in_w c has) (in_w d there)) in
+      let first : take n (map e w) ≡ map e (take n w) = take-map e n w in
+      (λ k. up extent (entry_records (fresh_entries (recipe h (newest h)) (first k))) + up extent (40 * length (first k)))
+      ∙ (λ k. up extent (bytes k) + up extent (40 * length-map (take n w) e k))
+
+  -- and the number that a refusal names is the same
+  pub counted_of-counted : (extent : ℕ) → Distinct (version h (newest h) ++ w) → (free : ℕ) → counted_of extent (recipe h (newest h)) (map e w) free ≡ counted extent h w free
+  unfolding counted counted_of
+  counted_of-counted extent apart free =
+      λ k. unwrap_or (find (nat_lt free) (map (λ n. running_of-running extent apart n k) (numbers 1 (length-map w e k)))) (need_of-need extent apart k)
+
+-- fewer entries have no more bytes of different marks
+first_entries-take : (p : RecipeEntry → Bool) (n : ℕ) (es : List RecipeEntry) → entry_records (filter p (first_entries (take n es))) ≤ entry_records (filter p (first_entries es))
+first_entries-take p zero es = omega arith
+first_entries-take p (suc n) [] = omega arith
+first_entries-take p (suc n) (e ∷ es) =
+    let other : RecipeEntry → Bool = λ f. not (bytes_eq e.mark.0 f.mark.0) in
+    let size : RecipeEntry → ℕ = λ x. 36 + x.length in
+    omega (
+      arith,
+      cond-plus size (p e) e (filter p (filter other (first_entries (take n es)))),
+      cond-plus size (p e) e (filter p (filter other (first_entries es))),
+      ap entry_records (filter-filter p other (first_entries (take n es))),
+      ap entry_records (filter-filter p other (first_entries es)),
+      first_entries-take (λ x. other x && p x) n es,
+    )
+
+-- what a refusal counts from recipes is more than what is free exactly where the need is, whatever the recipes are
+pub counted_of-above : (extent : ℕ) → 1 ≤ extent → (old new : List RecipeEntry) (free : ℕ) →
+    (free < counted_of extent old new free → free < need_of extent old new) × (free < need_of extent old new → free < counted_of extent old new free)
+unfolding counted_of need_of
+counted_of-above extent some old new free =
+    first_above (running_of extent old new) (need_of extent old new) free
+    (λ n. omega (arith, up-le extent _ _ some (first_entries-take (λ x. not (has_mark old x.mark.0)) n new), up-le extent (40 * length (take n new)) (40 * length new) some (omega (arith, length-take n new))))
+    (numbers 1 (length new))
