@@ -1,5 +1,5 @@
 -- What holds of the definitions, in the words of the subject. Each law stands on a function of its own.
-use Rattle.std.specs.Prelude.{◌≡◌, ◌+◌, ℕ, ◌≤◌, List, [], ◌∷◌, length, ◌==◌, if◌then◌else◌, IfSome}
+use Rattle.std.specs.Prelude.{◌≡◌, ◌+◌, ℕ, ◌<◌, ◌≤◌, List, [], ◌∷◌, ◌++◌, length, ◌==◌, if◌then◌else◌, IfSome}
 use Rattle.std.specs.List.{concat}
 use Rattle.bd_model.specs.declared.shape.Shape.{Shape}
 use Rattle.bd_model.specs.declared.command.Command.{Command}
@@ -8,10 +8,12 @@ use Rattle.bd_model.specs.declared.layout.Phase.{Phase}
 use Rattle.bd_model.specs.declared.layout.Phase.TheVariants.{Settled, Waiting}
 use Rattle.bd_model.specs.Chunks.{Cut, chunks}
 use Rattle.bd_model.specs.FileMap.{FileMap}
-use Rattle.bd_model.specs.History.{History}
-use Rattle.bd_model.specs.Layout.{record_bytes, row_of}
+use Rattle.bd_model.specs.History.{History, newest, oldest, retained}
+use Rattle.bd_model.specs.Layout.{record_bytes, row_of, rows, row_chunks, closed_volume, open_category}
+use Rattle.bd_model.specs.Recipe.{recipe}
+use Rattle.bd_model.specs.Room.{owned}
 use Rattle.bd_model.specs.State.{VersionState, IsState, IsPhase, history}
-use Rattle.bd_model.specs.Step.{Outcome, step, phase_after, phase_after_step}
+use Rattle.bd_model.specs.Step.{Outcome, step, drop_oldest, dropped_extents, expired_extents, phase_after, phase_after_step}
 
 -- the least chunk has a byte, and is no longer than the longest
 abbrev pub IsCut : Cut → Type 0
@@ -42,3 +44,31 @@ rows_with r [] rows = rows
 rows_with r chunks [] = row_of r chunks ∷ []
 rows_with r chunks (row ∷ []) = if row.start == r then row_with row chunks ∷ [] else row ∷ row_of r chunks ∷ []
 rows_with r chunks (row ∷ rows) = row ∷ rows_with r chunks rows
+
+-- the history after a version of these chunks is backed up, and after the oldest one is given up
+abbrev pub grown : History → List (List ℕ) → History
+grown h chunks = record h { versions = h.versions ++ chunks ∷ [] }
+
+abbrev pub given_up : History → History
+given_up h = record h { expired = h.expired + 1 }
+
+-- giving up the oldest version takes its recipe and its closed volume; each other part is the same, and the rows of the
+-- first two recorded starts become one
+pub record TakesOnlyTheOldest (h : History) (phase : Phase) : Type 0 where
+  pub extents : (extent : ℕ) → owned extent h phase ≡ dropped_extents extent h (oldest h) + owned extent (given_up h) phase
+  pub oldest_next : oldest (given_up h) ≡ oldest h + 1
+  pub recipes : (v : ℕ) → recipe (given_up h) v ≡ recipe h v
+  pub volumes : (j : ℕ) → closed_volume (given_up h) phase j ≡ closed_volume h phase j
+  pub categories : (i : ℕ) → open_category (given_up h) phase i ≡ open_category h phase i
+  pub first_row : (j : ℕ) → row_chunks (given_up h) phase j (oldest h + 1) ≡ row_chunks h phase j (oldest h) ++ row_chunks h phase j (oldest h + 1)
+  pub other_rows : (j r : ℕ) → oldest h + 1 < r → row_chunks (given_up h) phase j r ≡ row_chunks h phase j r
+
+-- An expiry takes only the oldest version's parts where others are left, in a settled store or one with three versions
+-- or more; with the only version it takes all.
+pub record ExpiryTakesOnlyTheOldest : Type 0 where
+  pub settled : (h : History) → 2 ≤ retained h → TakesOnlyTheOldest h Settled
+  pub waiting : (h : History) (phase : Phase) → 3 ≤ retained h → TakesOnlyTheOldest h phase
+  pub state : (shape : Shape) (s : VersionState) → 2 ≤ retained (history shape s) → history shape (drop_oldest s) ≡ given_up (history shape s)
+  pub answer : (extent : ℕ) (h : History) → 2 ≤ retained h → expired_extents extent h ≡ dropped_extents extent h (oldest h)
+  pub last_answer : (extent : ℕ) (h : History) → retained h ≡ 1 → expired_extents extent h ≡ owned extent h Settled
+  pub last_state : (shape : Shape) (s : VersionState) (extent : ℕ) → retained (history shape s) ≡ 1 → owned extent (history shape (drop_oldest s)) Settled ≡ 0
