@@ -28,11 +28,11 @@ rows_with-front r (c ∷ cs) (x ∷ x' ∷ xs) y = ap (λ ys. x ∷ ys) (rows_wi
 abbrev has_no : ℕ → List CategoryRow → Bool
 has_no r xs = list_all (λ row. not (nat_eq row.start r)) xs
 
-left_and : (a b : Bool) → (a && b) ≡ true → a ≡ true
+pub left_and : (a b : Bool) → (a && b) ≡ true → a ≡ true
 left_and true b e = refl
 left_and false b e = e
 
-right_and : (a b : Bool) → (a && b) ≡ true → b ≡ true
+pub right_and : (a b : Bool) → (a && b) ≡ true → b ≡ true
 right_and true b e = e
 right_and false true e = refl
 right_and false false e = e
@@ -125,6 +125,11 @@ rows_over-more f g a r b more one low high same last none =
 numbers-one : (k : ℕ) → numbers k k ≡ k ∷ []
 numbers-one k = numbers-cons k k (omega arith) ∙ ap (λ ns. k ∷ ns) (numbers-none (k + 1) k (omega arith))
 
+-- the starts that are recorded as one are numbers up to it
+pub recorded_as-numbers : (h : History) (k : ℕ) → recorded_as h k ≡ numbers (cond (nat_eq k (oldest h)) (h.base + 1) k) k
+recorded_as-numbers h k =
+    elim (nat_eq k (oldest h)) as (λ t. cond t (numbers (h.base + 1) k) (k ∷ []) ≡ numbers (cond t (h.base + 1) k) k) [ true ↦ refl | false ↦ sym (numbers-one k) ]
+
 one_more : (x i : ℕ) → x ≢ i → nat_lt x (i + 1) ≡ nat_lt x i
 one_more x i other =
     ⊎_elim (λ less. lt-ltb x (i + 1) (omega arith) ∙ sym (lt-ltb x i less)) (λ past. le-ltb x (i + 1) (omega arith) ∙ sym (le-ltb x i past)) (cases_lt x i)
@@ -141,9 +146,7 @@ module _ (h : History) (w : List (List ℕ)) where
   row_chunks-waiting cursor k =
       let «open» : nat_lt (newest h + 1) (newest (grown h w)) ≡ false = le-ltb (newest h + 1) (newest (grown h w)) (omega (arith, newest-grown h w)) in
       let last : nat_eq (newest h + 1) (newest (grown h w)) ≡ true = eq-eqb (newest h + 1) (newest (grown h w)) (sym (newest-grown h w)) in
-      let recorded : recorded_as (grown h w) k ≡ numbers (least k) k =
-      elim (nat_eq k (oldest h)) as (λ t. cond t (numbers (h.base + 1) k) (k ∷ []) ≡ numbers (cond t (h.base + 1) k) k) [ true ↦ refl | false ↦ sym (numbers-one k) ] in
-      ap (flat_map cats) (filter-same (λ i j. «open» j || (last j && nat_lt i cursor)) recorded)
+      ap (flat_map cats) (filter-same (λ i j. «open» j || (last j && nat_lt i cursor)) (recorded_as-numbers (grown h w) k))
 
   least_is : (k : ℕ) → oldest h ≤ k → ((k ≡ oldest h) × (least k ≡ h.base + 1)) ⊎ ((oldest h < k) × (least k ≡ k))
   least_is k le =

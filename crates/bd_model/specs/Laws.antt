@@ -1,16 +1,18 @@
 -- What holds of the definitions, in the words of the subject. Each law stands on a function of its own.
-use Rattle.std.specs.Prelude.{◌≡◌, ◌+◌, ℕ, ◌<◌, ◌≤◌, List, [], ◌∷◌, ◌++◌, length, ◌==◌, if◌then◌else◌, IfSome}
+use Rattle.std.specs.Prelude.{◌≡◌, ◌+◌, ℕ, ◌<◌, ◌≤◌, List, [], ◌∷◌, ◌++◌, length, ◌==◌, if◌then◌else◌, IfSome, IsTrue, filter, flat_map}
+use Rattle.std.specs.Str.{bytes_eq}
 use Rattle.std.specs.List.{concat}
 use Rattle.bd_model.specs.declared.shape.Shape.{Shape}
 use Rattle.bd_model.specs.declared.command.Command.{Command}
 use Rattle.bd_model.specs.declared.layout.CategoryRow.{CategoryRow}
 use Rattle.bd_model.specs.declared.layout.Phase.{Phase}
 use Rattle.bd_model.specs.declared.layout.Phase.TheVariants.{Settled, Waiting}
-use Rattle.bd_model.specs.Chunks.{Cut, chunks}
+use Rattle.bd_model.specs.Chunks.{Cut, numbers, chunks}
 use Rattle.bd_model.specs.FileMap.{FileMap}
-use Rattle.bd_model.specs.History.{History, newest, oldest, retained}
-use Rattle.bd_model.specs.Layout.{record_bytes, row_of, rows, row_chunks, closed_volume, open_category}
-use Rattle.bd_model.specs.Recipe.{recipe}
+use Rattle.bd_model.specs.History.{History, version, contains, newest, oldest, retained}
+use Rattle.bd_model.specs.Category.{category}
+use Rattle.bd_model.specs.Layout.{record_bytes, row_of, rows, row_chunks, closed_volume, open_category, arranged_to}
+use Rattle.bd_model.specs.Recipe.{recipe, start_of}
 use Rattle.bd_model.specs.Room.{owned}
 use Rattle.bd_model.specs.State.{VersionState, IsState, IsPhase, history}
 use Rattle.bd_model.specs.Step.{Outcome, step, drop_oldest, dropped_extents, expired_extents, phase_after, phase_after_step}
@@ -72,3 +74,26 @@ pub record ExpiryTakesOnlyTheOldest : Type 0 where
   pub answer : (extent : ℕ) (h : History) → 2 ≤ retained h → expired_extents extent h ≡ dropped_extents extent h (oldest h)
   pub last_answer : (extent : ℕ) (h : History) → retained h ≡ 1 → expired_extents extent h ≡ owned extent h Settled
   pub last_state : (shape : Shape) (s : VersionState) (extent : ℕ) → retained (history shape s) ≡ 1 → owned extent (history shape (drop_oldest s)) Settled ≡ 0
+
+-- the chunks of the closed volume j in the rows with a start up to v
+abbrev pub front_of : History → Phase → ℕ → ℕ → List (List ℕ)
+front_of h phase j v = flat_map (row_chunks h phase j) (numbers (oldest h) v)
+
+-- In its own closed volume and the later ones a version finds the rows with a start up to it in front, and uses each
+-- chunk of them; of the open categories that begin up to it and are arranged for it or a later version it uses all.
+pub record AVersionUsesAFront : Type 0 where
+  pub front : (h : History) (phase : Phase) (v j : ℕ) → oldest h ≤ v → v ≤ j → closed_volume h phase j ≡ front_of h phase j v ++ flat_map (row_chunks h phase j) (numbers (v + 1) j)
+  pub used : (h : History) (phase : Phase) (v j : ℕ) (c : List ℕ) → oldest h ≤ v → v ≤ j → IsTrue (contains (front_of h phase j v) c) → IsTrue (contains (version h v) c)
+  pub open_used : (h : History) (phase : Phase) (v i : ℕ) (c : List ℕ) → i ≤ v → v ≤ arranged_to h phase i → IsTrue (contains (open_category h phase i) c) → IsTrue (contains (version h v) c)
+
+-- the chunk lies once in the category from its start in version v to `last`, and in no other one whose run goes through v
+pub record LiesInOneCategory (h : History) (v : ℕ) (c : List ℕ) : Type 0 where
+  pub last : ℕ
+  pub begun : (h.base + 1 ≤ start_of h v c) × (start_of h v c ≤ v)
+  pub ended : (v ≤ last) × (last ≤ newest h)
+  pub once : filter (bytes_eq c) (category h (start_of h v c) last) ≡ c ∷ []
+  pub no_other : (i j : ℕ) → h.base + 1 ≤ i → i ≤ v → v ≤ j → j ≤ newest h → IsTrue (contains (category h i j) c) → (i ≡ start_of h v c) × (j ≡ last)
+
+-- Each chunk of a version lies in exactly one category of a run through it, and that one begins at the chunk's start.
+abbrev pub EachChunkLiesInOneCategory : Type 0
+EachChunkLiesInOneCategory = (h : History) (v : ℕ) (c : List ℕ) → IsTrue (contains (version h v) c) → LiesInOneCategory h v c
