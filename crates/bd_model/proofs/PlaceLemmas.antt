@@ -12,12 +12,12 @@ use Rattle.bd_model.specs.declared.layout.Phase.{Phase}
 use Rattle.bd_model.specs.Layout.{closed_volume, open_category, arranged_to, is_closed, row_chunks}
 use Rattle.bd_model.specs.Recipe.{start_of}
 use Rattle.bd_model.specs.Laws.{front_of, LiesInOneCategory, EachChunkLiesInOneCategory, AVersionUsesAFront}
-use Rattle.bd_model.proofs.ListLemmas.{numbers-split, filter-filter, filter-same, and_comm, flat_map-filter}
+use Rattle.bd_model.proofs.ListLemmas.{left_and, right_and, numbers-split, filter-filter, filter-same, and_comm, flat_map-filter}
 use Rattle.bd_model.proofs.ChunkListLemmas.{contains-filter, contains-filter_distinct, contains-append, filter-equal}
 use Rattle.bd_model.proofs.HistoryLemmas.{above_base, version-past}
 use Rattle.bd_model.proofs.RecipeLemmas.{lasts-suc, start_of-is, start_of-le, start_of-low}
 use Rattle.bd_model.proofs.LayoutLemmas.{closed_volume-rows}
-use Rattle.bd_model.proofs.RowLemmas.{left_and, right_and, recorded_as-numbers}
+use Rattle.bd_model.proofs.RowLemmas.{recorded_as-numbers}
 
 all_at : (p : ℕ → Bool) (a n : ℕ) → list_all p (range_with_len a n) ≡ true → (v : ℕ) → a ≤ v → v < a + n → p v ≡ true
 all_at p a zero all v low high = absurd (omega arith)

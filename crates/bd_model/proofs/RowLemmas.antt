@@ -14,7 +14,7 @@ use Rattle.bd_model.specs.declared.layout.Phase.TheVariants.{Settled, Waiting}
 use Rattle.bd_model.specs.Layout.{is_closed, recorded_as, row_chunks, row_of, rows, record_bytes}
 use Rattle.bd_model.specs.Room.{archived}
 use Rattle.bd_model.specs.Laws.{row_with, rows_with}
-use Rattle.bd_model.proofs.ListLemmas.{filter-same, filter-numbers, filter-numbers_none, filter-below, numbers-split, numbers-cons, numbers-none, numbers-suc, flat_map-numbers}
+use Rattle.bd_model.proofs.ListLemmas.{left_and, right_and, filter-same, filter-numbers, filter-numbers_none, filter-below, numbers-split, numbers-cons, numbers-none, numbers-suc, flat_map-numbers}
 use Rattle.bd_model.proofs.HistoryLemmas.{grown, newest-grown}
 use Rattle.bd_model.proofs.CategoryLemmas.{category-archived, category-newest}
 
@@ -27,15 +27,6 @@ rows_with-front r (c ∷ cs) (x ∷ x' ∷ xs) y = ap (λ ys. x ∷ ys) (rows_wi
 -- whether no row has the start
 abbrev has_no : ℕ → List CategoryRow → Bool
 has_no r xs = list_all (λ row. not (nat_eq row.start r)) xs
-
-pub left_and : (a b : Bool) → (a && b) ≡ true → a ≡ true
-left_and true b e = refl
-left_and false b e = e
-
-pub right_and : (a b : Bool) → (a && b) ≡ true → b ≡ true
-right_and true b e = e
-right_and false true e = refl
-right_and false false e = e
 
 last_other : (b : Bool) (x y z : List CategoryRow) → not b ≡ true → y ≡ z → cond b x y ≡ z
 last_other false x y z e f = f
