@@ -69,7 +69,7 @@ rows_over-append f (x ∷ xs) ys =
       | false ↦ rows_over-append f xs ys
     ]
 
-rows_over-same : (f g : ℕ → List (List ℕ)) (a n : ℕ) → ((v : ℕ) → a ≤ v → v < a + n → f v ≡ g v) → rows_over f (range_with_len a n) ≡ rows_over g (range_with_len a n)
+pub rows_over-same : (f g : ℕ → List (List ℕ)) (a n : ℕ) → ((v : ℕ) → a ≤ v → v < a + n → f v ≡ g v) → rows_over f (range_with_len a n) ≡ rows_over g (range_with_len a n)
 rows_over-same f g a zero agree = refl
 rows_over-same f g a (suc n) agree =
     let tail = rows_over-same f g (a + 1) n (λ v low high. agree v (omega arith) (omega arith)) in
@@ -121,7 +121,7 @@ pub recorded_as-numbers : (h : History) (k : ℕ) → recorded_as h k ≡ number
 recorded_as-numbers h k =
     elim (nat_eq k (oldest h)) as (λ t. cond t (numbers (h.base + 1) k) (k ∷ []) ≡ numbers (cond t (h.base + 1) k) k) [ true ↦ refl | false ↦ sym (numbers-one k) ]
 
-one_more : (x i : ℕ) → x ≢ i → nat_lt x (i + 1) ≡ nat_lt x i
+pub one_more : (x i : ℕ) → x ≢ i → nat_lt x (i + 1) ≡ nat_lt x i
 one_more x i other =
     ⊎_elim (λ less. lt-ltb x (i + 1) (omega arith) ∙ sym (lt-ltb x i less)) (λ past. le-ltb x (i + 1) (omega arith) ∙ sym (le-ltb x i past)) (cases_lt x i)
 
