@@ -4,6 +4,7 @@ pub mod Extents
 pub mod FileMap
 pub mod Folds
 pub mod History
+pub mod Laws
 pub mod Layout
 pub mod Limits
 pub mod Marks

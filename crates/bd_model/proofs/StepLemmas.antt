@@ -1,0 +1,140 @@
+-- A command leaves a legal state and a legal phase.
+use Rattle.std.proofs.Common.{◌≡◌, ◌⊎◌, ◌≢◌, ℕ, ◌+◌, ◌-◌, ◌<◌, ◌≤◌, Bool, true, false, cond, not, ◌&&◌, List, [], ◌∷◌, ◌++◌, refl, sym, ◌∙◌, ap, subst, arith, length, map, find, nat_eq, nat_lt, nat_le, length-append, Option, Some, None, IfSome, option_map, inl, inr, ⊎_elim}
+use Rattle.std.proofs.lemmas.Bool.{eqb-true, eqb-false, ltb-true, ltb-false, leb-true, leb-false}
+use Rattle.std.proofs.lemmas.List.{length-map, length_push}
+use Rattle.std.specs.FinMap as map
+use Rattle.bd_model.specs.declared.shape.Shape.{Shape}
+use Rattle.bd_model.specs.declared.command.Command.{Command}
+use Rattle.bd_model.specs.declared.command.Command.TheVariants.{Backup, Restore, Expire, Reorganise, Scrub, List as Listing}
+use Rattle.bd_model.specs.declared.answer.Answer.{Answer}
+use Rattle.bd_model.specs.declared.answer.Answer.TheVariants.{BackedUp, Restored, Expired, Arranged, Scrubbed, Listed, FullNumbers, FullVersions, FullExtents, NoVersion, NothingRetained}
+use Rattle.bd_model.specs.declared.layout.Phase.{Phase}
+use Rattle.bd_model.specs.declared.layout.Phase.TheVariants.{Settled, Waiting}
+use Rattle.bd_model.specs.Chunks.{chunks, numbers}
+use Rattle.bd_model.specs.History.{History, newest, oldest, retained}
+use Rattle.bd_model.specs.FileMap.{FileMap}
+use Rattle.bd_model.specs.State.{Version, VersionState, IsState, IsPhase, history, streams, cut_of, last_number}
+use Rattle.bd_model.specs.Layout.{open_category}
+use Rattle.bd_model.specs.Room.{counted, need, fresh}
+use Rattle.bd_model.specs.Laws.{Keeps, StatesStayLegal}
+use Rattle.std.proofs.lemmas.Option.{IfSome_then}
+use Rattle.bd_model.specs.Step.{Outcome, unchanged, restore, expired_extents, step, backup, free_extents, drop_oldest, with_version, phase_after, next_start, phase_after_step}
+use Rattle.bd_model.proofs.ListLemmas.{IfSome-find_range_with_len}
+
+module _ (shape : Shape) where
+  pub length-history : (s : VersionState) → length (history shape s).versions ≡ length s.versions
+  length-history s = length-map (streams s) (chunks (cut_of shape)) ∙ length-map s.versions (λ v. v.stream)
+
+  IsState-pushed : (s : VersionState) (stream : List ℕ) → IsState s → newest (history shape s) ≢ last_number → IsState (with_version s stream)
+  IsState-pushed s stream is below =
+      let long : length (with_version s stream).versions ≡ length s.versions + 1 = length_push s.versions (record { stream = stream }) in
+      record {
+        some = inl (⊎_elim (λ lt. omega arith) (λ none. omega arith) is.some);
+        numbered = omega (arith, is.numbered, below, length-history s);
+      }
+
+  IsPhase-pushed : (s : VersionState) (stream : List ℕ) → IsState s →
+      IsPhase (history shape (with_version s stream)) (cond (nat_eq (length (with_version s stream).versions - s.expired) 1) Settled (Waiting (s.base + 1)))
+  IsPhase-pushed s stream is =
+      let long : length (with_version s stream).versions ≡ length s.versions + 1 = length_push s.versions (record { stream = stream }) in
+      let kept : s.expired < length (with_version s stream).versions = ⊎_elim (λ lt. omega arith) (λ none. omega arith) is.some in
+      elim (nat_eq (length (with_version s stream).versions - s.expired) 1)
+      as (λ t. nat_eq (length (with_version s stream).versions - s.expired) 1 ≡ t → IsPhase (history shape (with_version s stream)) (cond t Settled (Waiting (s.base + 1)))) [
+        | true ↦ λ e. tt
+        | false ↦ λ e.
+            let more : length (with_version s stream).versions - s.expired ≢ 1 = eqb-false _ 1 e in
+            let same = length-history (with_version s stream) in
+            (omega arith, omega arith, omega arith)
+      ] refl
+
+  keeps-backup : (held : ℕ) (s : VersionState) (files : FileMap) (stream : List ℕ) → IsState s → newest (history shape s) ≢ last_number → Keeps shape s (backup shape held s files stream)
+  keeps-backup held s files stream is below =
+      let h = history shape s in
+      let parts = chunks (cut_of shape) stream in
+      let free = free_extents shape held s in
+      let count = counted shape.extent h parts free in
+      elim (nat_lt free count) as (λ t. Keeps shape s (let result : Answer × VersionState = cond t (FullExtents count free held, s) (BackedUp (newest h + 1) (length stream) (length parts) (length (fresh h parts)) (need shape.extent h parts), with_version s stream) in
+      record { answer = result.0; state = result.1; files = files })) [
+        | true ↦ record { state = is; phase = λ phase k. tt }
+        | false ↦ record { state = IsState-pushed s stream is below; phase = λ phase k. IsPhase-pushed s stream is }
+      ]
+
+  IsState-dropped : (s : VersionState) → IsState s → s.expired < length s.versions → IsState (drop_oldest s)
+  IsState-dropped s is some =
+      elim (nat_eq (s.expired + 1) (length s.versions))
+      as (λ t. nat_eq (s.expired + 1) (length s.versions) ≡ t → IsState (cond t (record { base = s.base + length s.versions; versions = []; expired = 0 }) (record s { expired = s.expired + 1 }))) [
+        | true ↦ λ e. record { some = inr (refl, refl); numbered = omega (arith, is.numbered) }
+        | false ↦ λ e. let more : s.expired + 1 ≢ length s.versions = eqb-false _ _ e in record { some = inl (omega arith); numbered = is.numbered }
+      ] refl
+
+  -- where two or more are left, the base and the newest stay
+  IsPhase-dropped : (s : VersionState) (phase : Phase) → IsPhase (history shape s) phase →
+      IsPhase (history shape (drop_oldest s)) (cond (nat_le (length (drop_oldest s).versions - (drop_oldest s).expired) 1) Settled phase)
+  IsPhase-dropped s Settled is = elim (nat_le (length (drop_oldest s).versions - (drop_oldest s).expired) 1) as (λ t. IsPhase (history shape (drop_oldest s)) (cond t Settled Settled)) [ true ↦ tt | false ↦ tt ]
+  IsPhase-dropped s (Waiting cursor) is =
+      elim (nat_eq (s.expired + 1) (length s.versions))
+      as (λ t. let next : VersionState = cond t (record { base = s.base + length s.versions; versions = []; expired = 0 }) (record s { expired = s.expired + 1 }) in
+      IsPhase (history shape next) (cond (nat_le (length next.versions - next.expired) 1) Settled (Waiting cursor))) [
+        | true ↦ tt
+        | false ↦
+            elim (nat_le (length s.versions - (s.expired + 1)) 1)
+            as (λ t. nat_le (length s.versions - (s.expired + 1)) 1 ≡ t → IsPhase (history shape (record s { expired = s.expired + 1 })) (cond t Settled (Waiting cursor))) [
+              | true ↦ λ e. tt
+              | false ↦ λ e. let more : 1 < length s.versions - (s.expired + 1) = leb-false _ 1 e in (omega (arith, length-history s), is.1, is.2)
+            ] refl
+      ]
+
+  pub keeps : (held : ℕ) (s : VersionState) (files : FileMap) (command : Command) → IsState s → IfSome (step shape held s files command) (Keeps shape s)
+  keeps held s files (Backup name) is =
+      let h = history shape s in
+      elim (nat_eq (newest h) last_number)
+      as (λ t. nat_eq (newest h) last_number ≡ t → IfSome (cond t (Some (unchanged s files FullNumbers)) (cond (nat_eq (retained h) shape.retain) (Some (unchanged s files (FullVersions shape.retain))) (option_map (backup shape held s files) (map.get files name)))) (Keeps shape s)) [
+        | true ↦ λ e. record { state = is; phase = λ phase k. k }
+        | false ↦ λ e.
+            elim (nat_eq (retained h) shape.retain)
+            as (λ t. IfSome (cond t (Some (unchanged s files (FullVersions shape.retain))) (option_map (backup shape held s files) (map.get files name))) (Keeps shape s)) [
+              | true ↦ record { state = is; phase = λ phase k. k }
+              | false ↦
+                  elim (map.get files name) as (λ t. IfSome (option_map (backup shape held s files) t) (Keeps shape s)) [
+                    | None ↦ tt
+                    | Some stream ↦ keeps-backup held s files stream is (eqb-false _ _ e)
+                  ]
+            ]
+      ] refl
+  keeps held s files (Restore v name) is =
+      let h = history shape s in
+      elim (nat_eq (retained h) 0)
+      as (λ t. IfSome (cond t (Some (unchanged s files (NothingRetained (Some v)))) (cond (nat_le (oldest h) v && nat_le v (newest h)) (Some (restore s files v name)) (Some (unchanged s files (NoVersion v (oldest h) (newest h)))))) (Keeps shape s)) [
+        | true ↦ record { state = is; phase = λ phase k. k }
+        | false ↦
+            elim (nat_le (oldest h) v && nat_le v (newest h))
+            as (λ t. IfSome (cond t (Some (restore s files v name)) (Some (unchanged s files (NoVersion v (oldest h) (newest h))))) (Keeps shape s)) [
+              | true ↦ record { state = is; phase = λ phase k. k }
+              | false ↦ record { state = is; phase = λ phase k. k }
+            ]
+      ]
+  keeps held s files Expire is =
+      let h = history shape s in
+      elim (nat_eq (retained h) 0)
+      as (λ t. nat_eq (retained h) 0 ≡ t → IfSome (cond t (Some (unchanged s files (NothingRetained None))) (Some (record { answer = Expired (oldest h) (expired_extents shape.extent h); state = drop_oldest s; files = files }))) (Keeps shape s)) [
+        | true ↦ λ e. record { state = is; phase = λ phase k. k }
+        | false ↦ λ e. let some : retained h ≢ 0 = eqb-false _ _ e in record { state = IsState-dropped s is (omega (arith, length-history s)); phase = IsPhase-dropped s }
+      ] refl
+  keeps held s files Reorganise is = record { state = is; phase = λ phase k. tt }
+  keeps held s files Scrub is = record { state = is; phase = λ phase k. k }
+  keeps held s files Listing is = record { state = is; phase = λ phase k. k }
+
+-- a step of arranging goes to a start that there is
+pub IsPhase-step : (h : History) (phase : Phase) → IsPhase h phase → IsPhase h (phase_after_step h phase)
+IsPhase-step h Settled is = tt
+IsPhase-step h (Waiting cursor) is =
+    let found : IfSome (next_start h cursor) (λ i. (cursor ≤ i) × (i + 1 ≤ newest h)) =
+    IfSome_then (next_start h cursor) (IfSome-find_range_with_len (λ i. nat_lt 0 (length (open_category h (Waiting cursor) i))) cursor (newest h - 1 + 1 - cursor)) (λ i k. (omega arith, omega arith)) in
+    go (next_start h cursor) found
+  where
+    go : (o : Option ℕ) → IfSome o (λ i. (cursor ≤ i) × (i + 1 ≤ newest h)) → IsPhase h (elim o as (λ _. Phase) [ None ↦ Settled | Some i ↦ Waiting (i + 1) ])
+    go None k = tt
+    go (Some i) k = (is.0, omega arith, k.1)
+
+pub states_stay_legal : StatesStayLegal
+states_stay_legal = record { command = keeps; arranging = IsPhase-step }

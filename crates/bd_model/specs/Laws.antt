@@ -1,0 +1,201 @@
+-- What holds of the definitions, in the words of the subject. Each law stands on a function of its own.
+use Rattle.std.specs.Prelude.{◌≡◌, ◌≢◌, ◌↔◌, ◌⊎◌, ℕ, zero, suc, ◌+◌, ◌-◌, ◌*◌, ◌%◌, ◌^◌, ◌<◌, ◌≤◌, max, ◌&&◌, List, [], ◌∷◌, ◌++◌, length, map, filter, flat_map, take, fold, slice_index, slice_range, nat_lt, ◌==◌, if◌then◌else◌, IfSome, IsTrue}
+use Rattle.std.specs.Str.{bytes_eq}
+use Rattle.std.specs.List.{concat}
+use Rattle.bd_model.specs.declared.shape.Shape.{Shape}
+use Rattle.bd_model.specs.declared.command.Command.{Command}
+use Rattle.bd_model.specs.declared.layout.CategoryRow.{CategoryRow}
+use Rattle.bd_model.specs.declared.layout.RecipeEntry.{RecipeEntry}
+use Rattle.bd_model.specs.declared.layout.Phase.{Phase}
+use Rattle.bd_model.specs.declared.layout.Phase.TheVariants.{Settled, Waiting}
+use Rattle.bd_model.specs.Chunks.{Cut, numbers, gear, window_hash, chunk_len, is_decided, chunks_after, chunks}
+use Rattle.bd_model.specs.FileMap.{FileMap}
+use Rattle.bd_model.specs.History.{History, version, contains, newest, oldest, retained}
+use Rattle.bd_model.specs.Category.{category}
+use Rattle.bd_model.specs.Layout.{record_bytes, row_of, rows, row_chunks, closed_volume, open_category, arranged_to, is_arranged}
+use Rattle.bd_model.specs.Marks.{mark, Distinct, Near}
+use Rattle.bd_model.specs.Recipe.{recipe, start_of}
+use Rattle.bd_model.specs.Room.{up, owned, recipe_bytes, fresh, kept, archived, lacks_some, need, counted, reserve_left, need_of, counted_of}
+use Rattle.bd_model.specs.State.{VersionState, IsState, IsPhase, history}
+use Rattle.bd_model.specs.Step.{Outcome, step, drop_oldest, dropped_extents, expired_extents, phase_after, phase_after_step}
+
+-- the least chunk has a byte, and is no longer than the longest
+abbrev pub IsCut : Cut → Type 0
+IsCut cut = (1 ≤ cut.least) × (cut.least ≤ cut.most)
+
+-- The chunks of a stream, joined together, are the stream.
+abbrev pub ChunksJoinedAreTheStream : Type 0
+ChunksJoinedAreTheStream = (cut : Cut) (stream : List ℕ) → IsCut cut → concat (chunks cut stream) ≡ stream
+
+-- the chunks from `start` on up to the first that isn't decided, at most `count` of them
+unfoldable pub decided_from : Cut → List ℕ → ℕ → ℕ → List (List ℕ)
+decided_from cut stream start zero = []
+decided_from cut stream start (suc count) =
+    if nat_lt start (length stream) && is_decided cut stream start
+    then slice_range stream start (start + chunk_len cut stream start) ∷ decided_from cut stream (start + chunk_len cut stream start) count
+    else []
+
+-- the first chunks of every stream that begins with this one
+abbrev pub decided_chunks : Cut → List ℕ → List (List ℕ)
+decided_chunks cut stream = decided_from cut stream 0 (length stream)
+
+-- What follows a stream changes no length that is decided, and no chunk up to the first that isn't.
+pub record DecidedChunksStay : Type 0 where
+  pub len : (cut : Cut) (stream more : List ℕ) (start : ℕ) → IsCut cut → IsTrue (is_decided cut stream start) → chunk_len cut (stream ++ more) start ≡ chunk_len cut stream start
+  pub front : (cut : Cut) (stream more : List ℕ) → IsCut cut →
+      chunks cut (stream ++ more) ≡ decided_chunks cut stream ++ chunks_after cut (stream ++ more) (length (concat (decided_chunks cut stream)))
+
+-- the hash after these bytes, one after the other
+abbrev pub rolled : List ℕ → ℕ
+rolled bytes = fold (λ hash byte. (2 * hash + gear byte) % 2 ^ 64) 0 bytes
+
+-- The hash at a position is the one that rolls over all bytes up to it: a byte is forgotten after 64 doublings.
+pub record TheHashRolls : Type 0 where
+  pub next : (stream : List ℕ) (p : ℕ) → window_hash stream (p + 1) ≡ (2 * window_hash stream p + gear (slice_index stream (p + 1))) % 2 ^ 64
+  pub whole : (stream : List ℕ) (p : ℕ) → p < length stream → window_hash stream p ≡ rolled (take (p + 1) stream)
+
+-- the history after a version of these chunks is backed up, and after the oldest one is given up
+abbrev pub grown : History → List (List ℕ) → History
+grown h chunks = record h { versions = h.versions ++ chunks ∷ [] }
+
+abbrev pub given_up : History → History
+given_up h = record h { expired = h.expired + 1 }
+
+-- A new version leaves the categories that ended before the newest one. Of each that lived to it, what the new one lacks
+-- ends there, and the rest lives on; what the newest lacks begins.
+pub record ANewVersionSplitsTheCategories : Type 0 where
+  pub earlier : (h : History) (w : List (List ℕ)) (i j : ℕ) → i ≤ newest h → j < newest h → category (grown h w) i j ≡ category h i j
+  pub ended : (h : History) (w : List (List ℕ)) (i : ℕ) → i ≤ newest h → category (grown h w) i (newest h) ≡ archived h w i
+  pub lived_on : (h : History) (w : List (List ℕ)) (i : ℕ) → i ≤ newest h → category (grown h w) i (newest h + 1) ≡ kept h w i
+  pub begun : (h : History) (w : List (List ℕ)) → category (grown h w) (newest h + 1) (newest h + 1) ≡ fresh h w
+
+-- the chunk lies once in the category from its start in version v to `last`, and in no other one whose run goes through v
+pub record LiesInOneCategory (h : History) (v : ℕ) (c : List ℕ) : Type 0 where
+  pub last : ℕ
+  pub begun : (h.base + 1 ≤ start_of h v c) × (start_of h v c ≤ v)
+  pub ended : (v ≤ last) × (last ≤ newest h)
+  pub once : filter (bytes_eq c) (category h (start_of h v c) last) ≡ c ∷ []
+  pub no_other : (i j : ℕ) → h.base + 1 ≤ i → i ≤ v → v ≤ j → j ≤ newest h → IsTrue (contains (category h i j) c) → (i ≡ start_of h v c) × (j ≡ last)
+
+-- Each chunk of a version lies in exactly one category of a run through it, and that one begins at the chunk's start.
+abbrev pub EachChunkLiesInOneCategory : Type 0
+EachChunkLiesInOneCategory = (h : History) (v : ℕ) (c : List ℕ) → IsTrue (contains (version h v) c) → LiesInOneCategory h v c
+
+-- A new version leaves the closed volumes; the newest one has what was archived of the categories that are arranged.
+-- An open category is as before while it waits, and afterwards what is kept of it; the new version's own has the fresh
+-- chunks.
+pub record ClosedVolumesGrow : Type 0 where
+  pub earlier : (h : History) (w : List (List ℕ)) (phase : Phase) (j : ℕ) → j < newest h → closed_volume (grown h w) phase j ≡ closed_volume h Settled j
+  pub newest_volume : (h : History) (w : List (List ℕ)) (phase : Phase) → closed_volume (grown h w) phase (newest h) ≡ flat_map (archived h w) (filter (is_arranged phase) (numbers (h.base + 1) (newest h)))
+  pub waiting : (h : History) (w : List (List ℕ)) (cursor i : ℕ) → cursor ≤ i → i ≤ newest h → open_category (grown h w) (Waiting cursor) i ≡ open_category h Settled i
+  pub arranged : (h : History) (w : List (List ℕ)) (cursor i : ℕ) → i < cursor → i ≤ newest h → open_category (grown h w) (Waiting cursor) i ≡ kept h w i
+  pub settled : (h : History) (w : List (List ℕ)) (i : ℕ) → i ≤ newest h → open_category (grown h w) Settled i ≡ kept h w i
+  pub own : (h : History) (w : List (List ℕ)) (phase : Phase) → open_category (grown h w) phase (newest h + 1) ≡ fresh h w
+
+-- more of a row, by these chunks
+abbrev pub row_with : CategoryRow → List (List ℕ) → CategoryRow
+row_with row chunks = record row { chunks = row.chunks + length chunks; bytes = row.bytes + record_bytes chunks }
+
+-- the rows after chunks of the recorded start r came behind theirs: the chunks go into the last row where it has that
+-- start, and are else a new last row; no chunks change nothing
+abbrev pub rows_with : ℕ → List (List ℕ) → List CategoryRow → List CategoryRow
+rows_with r [] rows = rows
+rows_with r chunks [] = row_of r chunks ∷ []
+rows_with r chunks (row ∷ []) = if row.start == r then row_with row chunks ∷ [] else row ∷ row_of r chunks ∷ []
+rows_with r chunks (row ∷ rows) = row ∷ rows_with r chunks rows
+
+-- one step of arranging the version of the chunks w, that of start i
+pub record ArrangesOne (h : History) (w : List (List ℕ)) (i : ℕ) : Type 0 where
+  pub volume : closed_volume (grown h w) (Waiting (i + 1)) (newest h) ≡ closed_volume (grown h w) (Waiting i) (newest h) ++ archived h w i
+  pub rows : h.expired < length h.versions → rows (grown h w) (Waiting (i + 1)) (newest h) ≡ rows_with (max i (oldest h)) (archived h w i) (rows (grown h w) (Waiting i) (newest h))
+  pub before : open_category (grown h w) (Waiting i) i ≡ open_category h Settled i
+  pub category : open_category (grown h w) (Waiting (i + 1)) i ≡ kept h w i
+  pub other_categories : (k : ℕ) → k ≢ i → open_category (grown h w) (Waiting (i + 1)) k ≡ open_category (grown h w) (Waiting i) k
+  pub other_volumes : (j : ℕ) → j ≢ newest h → closed_volume (grown h w) (Waiting (i + 1)) j ≡ closed_volume (grown h w) (Waiting i) j
+
+-- A step of arranging appends what is archived of one open category to the newest closed volume, in the row of its
+-- recorded start, and leaves what is kept; nothing else changes. Where all starts are done the store is settled.
+pub record OneStepOfArranging : Type 0 where
+  pub each : (h : History) (w : List (List ℕ)) (i : ℕ) → h.base + 1 ≤ i → i ≤ newest h → ArrangesOne h w i
+  pub done_volumes : (h : History) (w : List (List ℕ)) (j : ℕ) → j ≤ newest h → closed_volume (grown h w) (Waiting (newest h + 1)) j ≡ closed_volume (grown h w) Settled j
+  pub done_rows : (h : History) (w : List (List ℕ)) (j : ℕ) → j ≤ newest h → rows (grown h w) (Waiting (newest h + 1)) j ≡ rows (grown h w) Settled j
+  pub done_categories : (h : History) (w : List (List ℕ)) (i : ℕ) → i ≤ newest h + 1 → open_category (grown h w) (Waiting (newest h + 1)) i ≡ open_category (grown h w) Settled i
+
+-- giving up the oldest version takes its recipe and its closed volume; each other part is the same, and the rows of the
+-- first two recorded starts become one
+pub record TakesOnlyTheOldest (h : History) (phase : Phase) : Type 0 where
+  pub extents : (extent : ℕ) → owned extent h phase ≡ dropped_extents extent h (oldest h) + owned extent (given_up h) phase
+  pub oldest_next : oldest (given_up h) ≡ oldest h + 1
+  pub recipes : (v : ℕ) → recipe (given_up h) v ≡ recipe h v
+  pub volumes : (j : ℕ) → closed_volume (given_up h) phase j ≡ closed_volume h phase j
+  pub categories : (i : ℕ) → open_category (given_up h) phase i ≡ open_category h phase i
+  pub first_row : (j : ℕ) → row_chunks (given_up h) phase j (oldest h + 1) ≡ row_chunks h phase j (oldest h) ++ row_chunks h phase j (oldest h + 1)
+  pub other_rows : (j r : ℕ) → oldest h + 1 < r → row_chunks (given_up h) phase j r ≡ row_chunks h phase j r
+
+-- An expiry takes only the oldest version's parts where others are left, in a settled store or one with three versions
+-- or more; with the only version it takes all.
+pub record ExpiryTakesOnlyTheOldest : Type 0 where
+  pub settled : (h : History) → 2 ≤ retained h → TakesOnlyTheOldest h Settled
+  pub waiting : (h : History) (phase : Phase) → 3 ≤ retained h → TakesOnlyTheOldest h phase
+  pub state : (shape : Shape) (s : VersionState) → 2 ≤ retained (history shape s) → history shape (drop_oldest s) ≡ given_up (history shape s)
+  pub answer : (extent : ℕ) (h : History) → 2 ≤ retained h → expired_extents extent h ≡ dropped_extents extent h (oldest h)
+  pub last_answer : (extent : ℕ) (h : History) → retained h ≡ 1 → expired_extents extent h ≡ owned extent h Settled
+  pub last_state : (shape : Shape) (s : VersionState) (extent : ℕ) → retained (history shape s) ≡ 1 → owned extent (history shape (drop_oldest s)) Settled ≡ 0
+
+-- the chunks of the closed volume j in the rows with a start up to v
+abbrev pub front_of : History → Phase → ℕ → ℕ → List (List ℕ)
+front_of h phase j v = flat_map (row_chunks h phase j) (numbers (oldest h) v)
+
+-- In its own closed volume and the later ones a version finds the rows with a start up to it in front, and uses each
+-- chunk of them; of the open categories that begin up to it and are arranged for it or a later version it uses all.
+pub record AVersionUsesAFront : Type 0 where
+  pub front : (h : History) (phase : Phase) (v j : ℕ) → oldest h ≤ v → v ≤ j → closed_volume h phase j ≡ front_of h phase j v ++ flat_map (row_chunks h phase j) (numbers (v + 1) j)
+  pub used : (h : History) (phase : Phase) (v j : ℕ) (c : List ℕ) → oldest h ≤ v → v ≤ j → IsTrue (contains (front_of h phase j v) c) → IsTrue (contains (version h v) c)
+  pub open_used : (h : History) (phase : Phase) (v i : ℕ) (c : List ℕ) → i ≤ v → v ≤ arranged_to h phase i → IsTrue (contains (open_category h phase i) c) → IsTrue (contains (version h v) c)
+
+-- A backup needs extents for its fresh chunks and its recipe, which it takes, and for the reserve, which is free
+-- afterwards and of which arranging takes its part at each start. The first version has no reserve.
+pub record ABackupLeavesItsReserve : Type 0 where
+  pub needed : (extent : ℕ) (h : History) (w : List (List ℕ)) → 1 ≤ extent →
+      need extent h w ≡ up extent (record_bytes (fresh h w)) + up extent (recipe_bytes w) + reserve_left extent (grown h w) (Waiting (h.base + 1))
+  pub taken : (extent : ℕ) (h : History) (w : List (List ℕ)) → 1 ≤ extent → h.expired < length h.versions →
+      owned extent (grown h w) (Waiting (h.base + 1)) ≡ owned extent h Settled + up extent (record_bytes (fresh h w)) + up extent (recipe_bytes w)
+  pub reserve : (extent extents held : ℕ) (h : History) (w : List (List ℕ)) → 1 ≤ extent → h.expired < length h.versions → need extent h w ≤ extents - owned extent h Settled - held →
+      reserve_left extent (grown h w) (Waiting (h.base + 1)) ≤ extents - owned extent (grown h w) (Waiting (h.base + 1)) - held
+  pub arranging : (extent : ℕ) (h : History) (w : List (List ℕ)) (i : ℕ) → 1 ≤ extent → i ≤ newest h →
+      reserve_left extent (grown h w) (Waiting i) ≡
+      (up extent (record_bytes (closed_volume (grown h w) (Waiting (i + 1)) (newest h))) - up extent (record_bytes (closed_volume (grown h w) (Waiting i) (newest h))))
+      + (if lacks_some w (open_category h Settled i) then up extent (record_bytes (kept h w i)) else 0)
+      + reserve_left extent (grown h w) (Waiting (i + 1))
+  pub first : (extent base : ℕ) (w : List (List ℕ)) → 1 ≤ extent → let h : History = record { base = base; versions = []; expired = 0 } in need extent h w ≡ owned extent (grown h w) Settled
+
+-- What a refusal counts is more than what is free exactly where the need is, from chunks and from any two recipes.
+pub record RefusalIsExact : Type 0 where
+  pub chunks : (extent free : ℕ) (h : History) (w : List (List ℕ)) → 1 ≤ extent → (free < counted extent h w free) ↔ (free < need extent h w)
+  pub recipes : (extent free : ℕ) (old new : List RecipeEntry) → 1 ≤ extent → (free < counted_of extent old new free) ↔ (free < need_of extent old new)
+
+-- the entries have the marks and the lengths of their chunks
+pub record AreEntries (e : List ℕ → RecipeEntry) : Type 0 where
+  pub marks : (c : List ℕ) → (e c).mark.0 ≡ mark c
+  pub lengths : (c : List ℕ) → (e c).length ≡ length c
+
+-- Where marks tell the chunks of the newest version and the new one apart, their recipes give the need and the count.
+pub record RecipesGiveTheCounts : Type 0 where
+  pub need : (extent : ℕ) (h : History) (w : List (List ℕ)) (e : List ℕ → RecipeEntry) → AreEntries e → Distinct (version h (newest h) ++ w) →
+      need_of extent (recipe h (newest h)) (map e w) ≡ need extent h w
+  pub counted : (extent free : ℕ) (h : History) (w : List (List ℕ)) (e : List ℕ → RecipeEntry) → AreEntries e → Distinct (version h (newest h) ++ w) →
+      counted_of extent (recipe h (newest h)) (map e w) free ≡ counted extent h w free
+
+-- Where marks tell all chunks of a history apart, they tell those of each two versions in a row apart.
+abbrev pub DistinctMarksAreNear : Type 0
+DistinctMarksAreNear = (h : History) → Distinct (flat_map (λ v. v) h.versions) → Near h
+
+-- the state that a command leaves is legal, and every phase that was legal before it leads to one that is
+pub record Keeps (shape : Shape) (s : VersionState) (o : Outcome) : Type 0 where
+  pub state : IsState o.state
+  pub phase : (phase : Phase) → IsPhase (history shape s) phase → IsPhase (history shape o.state) (phase_after o.state phase o.answer)
+
+-- A command on a legal state leaves one, with a legal phase; so does a step of arranging.
+pub record StatesStayLegal : Type 0 where
+  pub command : (shape : Shape) (held : ℕ) (s : VersionState) (files : FileMap) (command : Command) → IsState s → IfSome (step shape held s files command) (Keeps shape s)
+  pub arranging : (h : History) (phase : Phase) → IsPhase h phase → IsPhase h (phase_after_step h phase)
