@@ -9,6 +9,7 @@ pub mod Marks
 pub mod Recipe
 pub mod Room
 pub mod Roomy
+pub mod Seen
 pub mod Shapes
 pub mod Sizes
 pub mod State
