@@ -1,8 +1,8 @@
-ghost use Rattle.std.specs.Prelude.{◌≡◌, ◌+◌, ◌<◌, ◌^◌, ◌∷◌, [], ◌++◌, IfOk, OnOk};
+ghost use Rattle.std.specs.Prelude.{◌≡◌, ◌∷◌, [], ◌++◌, not, filter, IfOk, OnOk};
 ghost use Rattle.std.specs.Str.{bytes_eq};
 ghost use Rattle.std.specs.List.{list_any};
-ghost use Rattle.bd_model.specs.Chunks.{numbers};
 ghost use Rattle.bd_model.specs.History.{contains, distinct};
+ghost use Rattle.bd_model.specs.Room.{lacks_some};
 ghost use Rattle.bd_model.specs.Seen.{as_chunks, push_new};
 
 use std::alloc::{AllocError as OutOfMemory, Global};
@@ -64,16 +64,49 @@ pub(super) fn append(
     found.append(&mut more)
 }
 
-/// The numbers from the first to the last.
-pub(super) fn numbers(alloc: Global, first: u64, last: u64) -> Result<Vec<u64>, OutOfMemory>
-    requires { last + 1 < 2 ^ 64 }
-    ensures { IfOk result (λ v. v.items ≡ numbers first last) }
+/// The chunks that are none of these.
+pub(super) fn missing(
+    alloc: Global,
+    these: &[Vec<u8>],
+    chunks: &[Vec<u8>],
+) -> Result<Vec<Vec<u8>>, OutOfMemory>
+    ensures { IfOk result (λ v. as_chunks v.items ≡ filter (λ c. not (contains (as_chunks these.now) c)) (as_chunks chunks.now)) }
 {
-    let mut found = Vec::new(alloc);
-    if first <= last {
-        for n in first..last + 1 {
-            found.push(n)?;
+    let mut found: Vec<Vec<u8>> = Vec::new(alloc);
+    for chunk in chunks {
+        if !contains(these, chunk) {
+            push_copy(alloc, &mut found, chunk)?;
         }
     }
     Ok(found)
+}
+
+/// The chunks that are among these.
+pub(super) fn shared(
+    alloc: Global,
+    these: &[Vec<u8>],
+    chunks: &[Vec<u8>],
+) -> Result<Vec<Vec<u8>>, OutOfMemory>
+    ensures { IfOk result (λ v. as_chunks v.items ≡ filter (contains (as_chunks these.now)) (as_chunks chunks.now)) }
+{
+    let mut found: Vec<Vec<u8>> = Vec::new(alloc);
+    for chunk in chunks {
+        if contains(these, chunk) {
+            push_copy(alloc, &mut found, chunk)?;
+        }
+    }
+    Ok(found)
+}
+
+/// Whether some of the others are none of these.
+pub(super) fn lacks_some(these: &[Vec<u8>], others: &[Vec<u8>]) -> bool
+    ensures { result ≡ lacks_some (as_chunks these.now) (as_chunks others.now) }
+{
+    is_any_missing(these, others)
+}
+
+fn is_any_missing(these: &[Vec<u8>], others: &[Vec<u8>]) -> bool
+    ensures { result ≡ list_any (λ c. not (contains (as_chunks these.now) c.items)) others.now }
+{
+    others.iter().any(|c| !contains(these, c.as_slice()))
 }
