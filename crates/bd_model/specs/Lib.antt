@@ -12,6 +12,7 @@ pub mod Recipe
 pub mod Records
 pub mod Room
 pub mod Roomy
+pub mod Seen
 pub mod Shapes
 pub mod Sizes
 pub mod State

@@ -1,0 +1,48 @@
+-- The lists of the plain program as the definitions see them.
+use Rattle.std.specs.Prelude.{ℕ, Bool, ◌&&◌, min, List, [], ◌∷◌, ◌++◌, map, filter, flat_map, nat_lt, Vec, if◌then◌else◌}
+use Rattle.bd_model.specs.History.{History, contains}
+use Rattle.bd_model.specs.Category.{begins, lasts, category}
+use Rattle.bd_model.specs.Layout.{is_closed}
+use Rattle.bd_model.specs.declared.layout.Phase.{Phase}
+use Rattle.bd_model.specs.declared.layout.CategoryRow.{CategoryRow}
+use Rattle.bd_model.specs.declared.layout.RecipeEntry.{RecipeEntry}
+use Rattle.bd_model.specs.declared.plain.history.PlainHistory.{PlainHistory}
+
+-- chunks as lists of bytes
+abbrev pub as_chunks : {Z : Type 0} → List (Vec ℕ Z) → List (List ℕ)
+as_chunks chunks = map (λ c. c.items) chunks
+
+-- versions as lists of chunks
+abbrev pub as_versions : {Y Z : Type 0} → List (Vec (Vec ℕ Z) Y) → List (List (List ℕ))
+as_versions versions = map (λ v. as_chunks v.items) versions
+
+abbrev pub history_of : PlainHistory → History
+history_of h = record { base = h.base; versions = as_versions h.versions.items; expired = h.expired }
+
+-- the chunks with one more, if it is not there
+abbrev pub push_new : List (List ℕ) → List ℕ → List (List ℕ)
+push_new chunks c = if contains chunks c then chunks else chunks ++ c ∷ []
+
+-- whether the chunk begins at version i and is in each version up to j
+abbrev pub lives : History → ℕ → ℕ → List ℕ → Bool
+lives h i j c = begins h i c && lasts h i j c
+
+-- the number, or the greatest of 64 bits where it is more
+abbrev pub capped : ℕ → ℕ
+capped n = min n 18446744073709551615
+
+-- the chunks of the closed volume j with these starts
+abbrev pub closed_parts : History → Phase → ℕ → List ℕ → List (List ℕ)
+closed_parts h phase j starts = flat_map (λ i. category h i j) (filter (is_closed h phase j) starts)
+
+-- the rows with one more, if it has a chunk
+abbrev pub pushed_row : List CategoryRow → CategoryRow → List CategoryRow
+pushed_row rows row = if nat_lt 0 row.chunks then rows ++ row ∷ [] else rows
+
+-- the same row, with its bytes in 64 bits
+abbrev pub capped_row : CategoryRow → CategoryRow
+capped_row row = record row { bytes = capped row.bytes }
+
+-- the same entry, with its length in 32 bits
+abbrev pub capped_entry : RecipeEntry → RecipeEntry
+capped_entry entry = record entry { length = min entry.length 4294967295 }
