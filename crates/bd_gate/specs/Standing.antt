@@ -1,0 +1,47 @@
+-- The newest half with its bytes, and what a stop within a commit leaves of two halves.
+use Rattle.std.specs.Prelude.{◌≡◌, ◌⊎◌, ℕ, ◌+◌, ◌-◌, ◌%◌, List, length, take, Option, Some, option_map, false}
+use Rattle.bd_disk.specs.Images.{bytes_at}
+use Rattle.bd_disk.specs.History.{History, contents}
+use Rattle.bd_disk.specs.Made.{IsSure}
+use Rattle.bd_model.specs.Sizes.{Sizes, half_bytes, half_place}
+use Rattle.bd_gate.specs.Halves.{newest_half, is_open, turn_at, InHalves}
+
+-- the bytes of a half behind its gate
+abbrev pub behind : Sizes → List ℕ → ℕ → List ℕ
+behind s image k = bytes_at (half_place s k + 1) (half_bytes s - 1) image
+
+-- a half by its number and its bytes behind the gate
+pub record Standing : Type 0 where
+  pub number : ℕ
+  pub bytes : List ℕ
+
+-- the newest half; whether the other one is open is no part of it
+abbrev pub standing : Sizes → List ℕ → Option Standing
+standing s image = option_map (λ k. record { number = k; bytes = behind s image k }) (newest_half s image)
+
+-- a stop leaves the same newest half
+abbrev pub SameStanding : Sizes → List ℕ → List ℕ → Type 0
+SameStanding s old image = standing s image ≡ standing s old
+
+-- this half is the newest, and its bytes behind the gate begin with the frame
+pub record HasFrame (s : Sizes) (number : ℕ) (frame image : List ℕ) : Type 0 where
+  pub newest : newest_half s image ≡ Some number
+  pub holds : take (length frame) (behind s image number) ≡ frame
+
+-- the newest half as it was, or this one with its frame
+abbrev pub IsEither : Sizes → ℕ → List ℕ → List ℕ → List ℕ → Type 0
+IsEither s number frame old image = SameStanding s old image ⊎ HasFrame s number frame image
+
+-- the other half is the newest, and both are the same in each image that a stop may leave
+pub record IsBeside (s : Sizes) (number : ℕ) (h : History) : Type 0 where
+  pub newest : newest_half s (contents h) ≡ Some (1 - number)
+  pub sure : IsSure (InHalves s) (contents h) h
+
+-- and this half is closed
+pub record IsClosedBeside (s : Sizes) (number : ℕ) (h : History) : Type 0 where
+  pub beside : IsBeside s number h
+  pub closed : is_open s (contents h) number ≡ false
+
+-- its turn is the next one after that of the newest
+abbrev pub IsNextTurn : Sizes → ℕ → List ℕ → Type 0
+IsNextTurn s number image = turn_at s image number ≡ (turn_at s image (1 - number) + 1) % 3
