@@ -1,6 +1,6 @@
 -- What holds of every history.
 use Rattle.std.specs.Prelude.{◌≡◌, ◌⊎◌, ◌↔◌, ℕ, ◌≤◌, Bool, IsTrue, List, ◌++◌, length, Option}
-use Rattle.bd_disk.specs.Images.{InRange, Agree, AgreeBut}
+use Rattle.bd_disk.specs.Images.{InRange, AgreeBut}
 use Rattle.bd_disk.specs.History.{Call, Put, Flush, Idle, History, After, clock, contents, contents_at, Now, Since}
 use Rattle.bd_disk.specs.Made.{GoesOn, IsSettled, Makes, WritesOnly, WritesNothing}
 use Rattle.bd_disk.specs.Trace.{trace, Adds, IsNotWrite, StaysWithin, listed, reads_between, ReadsOnly}

@@ -1,4 +1,3 @@
-// Laws of histories: each function does nothing, and its contract is the law.
 ghost use Rattle.bd_disk.specs.Laws.{ContentsAreAnImage, ContentsAtStay, IdleLeavesTheSame, ImagesChangeOnly, NothingWritten, ReadsCompose, ReadsOfRunStay, SettledLeavesContents, SinceComposes, SinceIsFromAMoment, SyncLeavesContents, TraceHasNoWrite, TraceOfCalls, TraceStaysWithin, WriteLeavesItsRange, WritesChangeOnly};
 
 /// The contents are one of the images that a stop may leave.
