@@ -1,7 +1,7 @@
 -- How the calls of a disk in memory end.
-use Rattle.std.proofs.Common.{◌≡◌, ◌⊎◌, inl, inr, ⊎_elim, ℕ, ◌+◌, ◌-◌, ◌^◌, ◌≤◌, ◌<◌, List, length, Bool, true, false, if◌then◌else◌, Some, None, Result, Ok, Err, OnErr, sym, ◌∙◌, ap, subst, arith}
-use Rattle.bd_disk.specs.Images.{InRange, bytes_at, overwritten}
-use Rattle.bd_disk.specs.History.{Call, Put, Flush, Idle, After, clock, contents, IsDirty}
+use Rattle.std.proofs.Common.{◌≡◌, inl, inr, ⊎_elim, ℕ, ◌+◌, ◌-◌, ◌^◌, ◌≤◌, ◌<◌, List, length, Bool, true, false, if◌then◌else◌, Some, None, Result, Ok, Err, OnErr, sym, ◌∙◌, ap, subst, arith}
+use Rattle.bd_disk.specs.Images.{InRange, bytes_at}
+use Rattle.bd_disk.specs.History.{Call, Put, Flush, Idle, clock, contents, IsDirty}
 use Rattle.bd_disk.specs.Calls.{Done, Fails}
 use Rattle.bd_disk.specs.Made.{Made, IsNoWrite}
 use Rattle.bd_disk.specs.declared.touch.Touch.TheVariants.{Sync}

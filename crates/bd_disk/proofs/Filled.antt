@@ -1,8 +1,8 @@
 -- The stable bytes, with one byte at each dirty place.
-use Rattle.std.proofs.Common.{◌≡◌, inl, inr, ⊎_elim, ℕ, zero, suc, ◌+◌, ◌-◌, ◌<◌, ◌≤◌, List, length, replicate, get_or, Option, None, sym, ◌∙◌, ap, subst, arith}
+use Rattle.std.proofs.Common.{◌≡◌, inl, inr, ⊎_elim, ℕ, zero, suc, ◌+◌, ◌-◌, ◌<◌, List, length, replicate, get_or, Option, None, ◌∙◌, ap, arith}
 use Rattle.std.proofs.lemmas.List.{get_or-replicate, length-replicate}
 use Rattle.bd_disk.specs.Images.{InRange, overwritten}
-use Rattle.bd_disk.specs.History.{History, After, Put, Flush, Idle, contents, stable, IsDirty, IsFilled, Now}
+use Rattle.bd_disk.specs.History.{History, After, Put, Flush, Idle, contents, IsFilled, Now}
 use Rattle.bd_disk.specs.Log.{skips}
 use Rattle.bd_disk.specs.declared.touch.Touch.{Touch}
 use Rattle.bd_disk.proofs.Agreeing.{in_range, length-overwritten, overwritten_elsewhere, overwritten_there}

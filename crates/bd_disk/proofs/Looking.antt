@@ -5,7 +5,6 @@ use Rattle.std.specs.List.{AllByRecursion}
 use Rattle.bd_disk.specs.Images.{InRange}
 use Rattle.bd_disk.specs.History.{Call, Put, Flush, Idle, History}
 use Rattle.bd_disk.specs.Calls.{Done, Fails, IsIdle}
-use Rattle.bd_disk.specs.Made.{Made}
 use Rattle.bd_disk.specs.Looks.{Looks, LooksOnlyAt}
 use Rattle.bd_disk.specs.Trace.{shown, upward, places_of, reads, ReadsOnly}
 use Rattle.bd_disk.specs.declared.touch.Touch.TheVariants.{Read, Write, Sync}

@@ -1,9 +1,9 @@
 -- What holds of every history.
 use Rattle.std.specs.Prelude.{◌≡◌, ◌⊎◌, ◌↔◌, ℕ, ◌≤◌, Bool, IsTrue, List, ◌++◌, length, Option}
-use Rattle.bd_disk.specs.Images.{InRange, Agree, AgreeBut}
+use Rattle.bd_disk.specs.Images.{InRange, AgreeBut}
 use Rattle.bd_disk.specs.History.{Call, Put, Flush, Idle, History, After, clock, contents, contents_at, Now, Since}
 use Rattle.bd_disk.specs.Made.{GoesOn, IsSettled, Makes, WritesOnly, WritesNothing}
-use Rattle.bd_disk.specs.Trace.{trace, listed, reads_between, ReadsOnly}
+use Rattle.bd_disk.specs.Trace.{trace, Adds, IsNotWrite, StaysWithin, listed, reads_between, ReadsOnly}
 use Rattle.bd_disk.specs.declared.touch.Touch.{Touch}
 
 -- the contents are one of the images that a stop may leave
@@ -41,6 +41,14 @@ WritesChangeOnly = (places : ℕ → Bool) (a b : History) → WritesOnly (λ pl
 -- and each image since it began is one from before, but for where it writes
 abbrev pub ImagesChangeOnly : Type 0
 ImagesChangeOnly = (places : ℕ → Bool) (a b : History) → WritesOnly (λ place. IsTrue (places place)) a b → (image : List ℕ) → Since b (clock a) image → (before : List ℕ) × Now a before × AgreeBut (λ place. IsTrue (places place)) before image
+
+-- the writes that the trace shows of a run lie where it writes
+abbrev pub TraceStaysWithin : Type 0
+TraceStaysWithin = (places : ℕ → Bool) (a b : History) → WritesOnly (λ place. IsTrue (places place)) a b → Adds (StaysWithin (λ place. IsTrue (places place))) a b
+
+-- the trace shows no write of a run without writes
+abbrev pub TraceHasNoWrite : Type 0
+TraceHasNoWrite = (a b : History) → WritesNothing a b → Adds IsNotWrite a b
 
 -- a run without writes keeps the contents and the images
 abbrev pub NothingWritten : Type 0

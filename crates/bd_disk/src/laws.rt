@@ -1,5 +1,4 @@
-// Laws of histories: each function does nothing, and its contract is the law.
-ghost use Rattle.bd_disk.specs.Laws.{ContentsAreAnImage, ContentsAtStay, IdleLeavesTheSame, ImagesChangeOnly, NothingWritten, ReadsCompose, ReadsOfRunStay, SettledLeavesContents, SinceComposes, SinceIsFromAMoment, SyncLeavesContents, TraceOfCalls, WriteLeavesItsRange, WritesChangeOnly};
+ghost use Rattle.bd_disk.specs.Laws.{ContentsAreAnImage, ContentsAtStay, IdleLeavesTheSame, ImagesChangeOnly, NothingWritten, ReadsCompose, ReadsOfRunStay, SettledLeavesContents, SinceComposes, SinceIsFromAMoment, SyncLeavesContents, TraceHasNoWrite, TraceOfCalls, TraceStaysWithin, WriteLeavesItsRange, WritesChangeOnly};
 
 /// The contents are one of the images that a stop may leave.
 pub fn contents_are_an_image()
@@ -44,6 +43,16 @@ pub fn writes_change_only()
 /// Each image since a run began is one from before it, but for where the run writes.
 pub fn images_change_only()
     ensures { ImagesChangeOnly }
+{}
+
+/// The writes that the trace shows of a run lie where the run writes.
+pub fn trace_stays_within()
+    ensures { TraceStaysWithin }
+{}
+
+/// The trace shows no write of a run without writes.
+pub fn trace_has_no_write()
+    ensures { TraceHasNoWrite }
 {}
 
 /// A run without writes keeps the contents, and a stop after it leaves no more than one before it.

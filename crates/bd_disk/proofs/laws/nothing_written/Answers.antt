@@ -1,5 +1,3 @@
-use Rattle.std.proofs.Common.{sym, subst}
-use Rattle.bd_disk.specs.History.{Now, clock}
 use Rattle.bd_disk.proofs.Frames.{unchanged, nothing_now}
 use Rattle.bd_disk.proofs.laws.nothing_written.Goals as goal
 

@@ -1,4 +1,4 @@
-use Rattle.std.proofs.Common.{◌<◌, ◌+◌, ◌-◌, ◌^◌, inl, refl, subst, arith, false, ◌≡◌, true}
+use Rattle.std.proofs.Common.{◌+◌, inl, refl, subst, arith, ◌≡◌, true}
 use Rattle.bd_disk.specs.Memory.{FailsAs}
 use Rattle.bd_disk.specs.Log.{call_of, seen}
 use Rattle.bd_disk.proofs.Logs.{listed, log_noted, seen_again, set_at_clock}
