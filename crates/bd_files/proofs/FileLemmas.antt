@@ -1,5 +1,5 @@
 -- What is under each name after bytes were put under one.
-use Rattle.std.proofs.Common.{◌≡◌, ℕ, Bool, true, false, cond, T, List, refl, ap, ◌∙◌, Some}
+use Rattle.std.proofs.Common.{◌≡◌, ℕ, Bool, true, false, cond, T, List, [], refl, sym, ap, ◌∙◌, Some, unwrap_or}
 use Rattle.std.specs.declared.cmp.Ordering.{Ordering}
 use Rattle.std.specs.declared.cmp.Ordering.TheVariants.{Less, Equal, Greater}
 use Rattle.std.specs.Ordering.{nat_cmp, is_eq, eq_by_cmp}
@@ -36,3 +36,7 @@ pub changes_only_what_was_put : (old new : FileMap) (name bytes : List ℕ) → 
 changes_only_what_was_put old new name bytes is = record {
   others = λ other apart. ap (λ files. map.get files other) is ∙ get-insert nat_list_cmp_total old name bytes other ∙ not_chosen _ _ _ (λ tie. apart (only_equal_names_tie other name tie));
 }
+
+-- only these bytes are under the name
+pub held_once : (files : FileMap) (name some other : List ℕ) → Holds files name some → Holds files name other → some ≡ other
+held_once files name some other holds again = ap (λ found. unwrap_or found []) (sym holds.there ∙ again.there)
