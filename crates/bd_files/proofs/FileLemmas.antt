@@ -1,5 +1,5 @@
 -- What is under each name after bytes were put under one.
-use Rattle.std.proofs.Common.{◌≡◌, ◌⊎◌, inl, inr, ℕ, Bool, true, false, cond, T, List, refl, sym, ap, subst, ◌∙◌, Some, None, Option}
+use Rattle.std.proofs.Common.{◌≡◌, ℕ, Bool, true, false, cond, T, List, [], refl, sym, ap, ◌∙◌, Some, unwrap_or}
 use Rattle.std.specs.declared.cmp.Ordering.{Ordering}
 use Rattle.std.specs.declared.cmp.Ordering.TheVariants.{Less, Equal, Greater}
 use Rattle.std.specs.Ordering.{nat_cmp, is_eq, eq_by_cmp}
@@ -8,7 +8,7 @@ use Rattle.std.specs.Cmp.{tied_itself}
 use Rattle.std.specs.FinMap as map
 use Rattle.std.specs.FinMap.{get-insert, IsAntisymmetric, nat_cmp-IsAntisymmetric, slice_cmp-IsAntisymmetric}
 use Rattle.bd_model.specs.FileMap.{FileMap}
-use Rattle.bd_files.specs.Files.{ChangesOnly, Holds, Lacks}
+use Rattle.bd_files.specs.Files.{ChangesOnly, Holds}
 
 equal : (r : Ordering) → T (is_eq r) → r ≡ Equal
 equal Less p = absurd p
@@ -37,10 +37,6 @@ changes_only_what_was_put old new name bytes is = record {
   others = λ other apart. ap (λ files. map.get files other) is ∙ get-insert nat_list_cmp_total old name bytes other ∙ not_chosen _ _ _ (λ tie. apart (only_equal_names_tie other name tie));
 }
 
--- a name has bytes or it hasn't
-pub holds_or_lacks : (files : FileMap) (name : List ℕ) → ((bytes : List ℕ) × Holds files name bytes) ⊎ Lacks files name
-holds_or_lacks files name = by (map.get files name) refl
-  where
-    by : (found : Option (List ℕ)) → map.get files name ≡ found → ((bytes : List ℕ) × Holds files name bytes) ⊎ Lacks files name
-    by None is = inr (record { none = is })
-    by (Some bytes) is = inl (bytes, record { there = is })
+-- only these bytes are under the name
+pub held_once : (files : FileMap) (name some other : List ℕ) → Holds files name some → Holds files name other → some ≡ other
+held_once files name some other holds again = ap (λ found. unwrap_or found []) (sym holds.there ∙ again.there)

@@ -3,18 +3,18 @@ use Rattle.std.proofs.Common.{◌≡◌, ℕ, zero, suc, ◌+◌, ◌≤◌, Boo
 use Rattle.std.specs.declared.cmp.Ordering.{Ordering}
 use Rattle.std.specs.declared.cmp.Ordering.TheVariants.{Less, Equal, Greater}
 use Rattle.std.specs.Ordering.{nat_cmp, is_eq, eq_by_cmp, match_ordering}
-use Rattle.std.specs.Option.{option_map, unwrap_or}
+use Rattle.std.specs.Option.{option_map}
 use Rattle.std.specs.Cmp.Lexicographic.{slice_cmp, nat_list_cmp_total}
 use Rattle.std.specs.Cmp.{alike_right}
 use Rattle.std.specs.FinMap as map
-use Rattle.std.specs.FinMap.{find, get-from_entries, get-insert, same_map, IsAntisymmetric, nat_cmp-IsAntisymmetric, slice_cmp-IsAntisymmetric}
+use Rattle.std.specs.FinMap.{find, get-from_entries, get-insert, same_map, nat_cmp-IsAntisymmetric, slice_cmp-IsAntisymmetric}
 use Rattle.std.specs.Map.{lookup, set_value}
 use Rattle.std.specs.BTreeMap.{insert_entry}
 use Rattle.bd_disk.specs.Images.{overwritten}
 use Rattle.bd_model.specs.FileMap.{FileMap}
 use Rattle.bd_files.specs.Files.{Holds}
 use Rattle.bd_files.specs.Table.{file_map}
-use Rattle.bd_files.proofs.FileLemmas.{only_equal_names_tie}
+use Rattle.bd_files.proofs.FileLemmas.{held_once, only_equal_names_tie}
 use borrow.Rule.Slice.PartMut.{put_mid}
 
 -- a write into a part of a slice
@@ -101,7 +101,8 @@ module _ {A : Type 0} where
   -- an entry that a look-up gives holds the file's bytes
   pub same_bytes : (entries : List (Vec ℕ A × Vec ℕ A)) (files : FileMap) (name old : List ℕ) (v : Vec ℕ A) → Some v ≡ lookup (is_named name) entries → file_map entries ≡ files → Holds files name old → v.items ≡ old
   same_bytes entries files name old v at_name view held =
-      ap (λ o. unwrap_or o []) (ap (option_map (λ v. v.items)) at_name ∙ sym (get-file_map entries name) ∙ ap (λ m. map.get m name) view ∙ held.there)
+      let there : map.get files name ≡ Some v.items = sym (ap (λ m. map.get m name) view) ∙ get-file_map entries name ∙ sym (ap (option_map (λ v. v.items)) at_name) in
+      held_once files name v.items old (record { there = there }) held
 
   -- a file that is there has an entry
   pub not_missing : (entries : List (Vec ℕ A × Vec ℕ A)) (files : FileMap) (name old : List ℕ) → None ≡ lookup (is_named name) entries → file_map entries ≡ files → Holds files name old → ⊥

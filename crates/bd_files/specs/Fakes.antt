@@ -1,10 +1,9 @@
 -- What contracts see of files and of a sink in memory.
-use Rattle.std.specs.Prelude.{◌≡◌, ◌⊎◌, ◌+◌, ℕ, List, [], Option, Some, None, Result, OnOk, OnErr}
+use Rattle.std.specs.Prelude.{◌≡◌, ◌⊎◌, ◌+◌, ℕ, List, [], Option, Some, None, Result, OnOk, OnErr, refl}
 use Rattle.std.specs.Coded.{Coded, code_by, coded_ℕ, coded_option, coded×}
 use Rattle.std.specs.FinMap as map
-use Rattle.std.specs.Prelude.{refl}
 use Rattle.bd_model.specs.FileMap.{FileMap}
-use Rattle.bd_files.specs.Calls.{next}
+use Rattle.bd_files.specs.Calls.{one_more}
 use Rattle.bd_files.specs.Table.{coded_files}
 
 -- how many calls of a kind were made, the one that is set to fail, and how many failed
@@ -23,10 +22,10 @@ FailsNext calls = calls.failing ≡ Some calls.made
 
 -- one call more, and one fault more where it failed
 pub record Counts {T E : Type 0} (old new : CallCount) (result : Result T E) : Type 0 where
-  pub made : new.made ≡ next old.made
+  pub made : new.made ≡ one_more old.made
   pub failing : new.failing ≡ old.failing
   pub ok : OnOk result (new.faults ≡ old.faults)
-  pub err : OnErr result (new.faults ≡ next old.faults)
+  pub err : OnErr result (new.faults ≡ one_more old.faults)
 
 -- how often no room was given: it goes on by one or stays, and stays where the call was set to fail or answered Ok
 pub record CountsRefused {T E : Type 0} (calls : CallCount) (old new : ℕ) (result : Result T E) : Type 0 where
@@ -34,6 +33,7 @@ pub record CountsRefused {T E : Type 0} (calls : CallCount) (old new : ℕ) (res
   pub set : FailsNext calls → new ≡ old
   pub ok : OnOk result (new ≡ old)
 
+-- what was written, at which moments, by which calls, and how often no room was given
 pub record SinkState : Type 0 where
   pub written : List ℕ
   pub moments : List ℕ
@@ -44,6 +44,7 @@ pub record SinkState : Type 0 where
 abbrev pub empty_sink : SinkState
 empty_sink = record { written = []; moments = []; puts = no_call; refused = 0 }
 
+-- what is under each name, by which calls, how often a name was missing, and how often no room was given
 pub record FilesState : Type 0 where
   pub files : FileMap
   pub fetches : CallCount
@@ -55,6 +56,7 @@ pub record FilesState : Type 0 where
 abbrev pub no_files : FilesState
 no_files = record { files = map.empty; fetches = no_call; targets = no_call; strays = 0; refused = 0 }
 
+-- both are told apart by their fields
 abbrev pub coded_calls : Coded CallCount
 coded_calls = code_by (ℕ × (Option ℕ × ℕ)) (coded× coded_ℕ (coded× (coded_option coded_ℕ) coded_ℕ)) (λ c. (c.made, (c.failing, c.faults))) (λ p. record { made = p.0; failing = p.1.0; faults = p.1.1 }) (λ c. refl)
 

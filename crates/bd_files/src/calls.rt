@@ -1,7 +1,7 @@
 // The calls of one kind, as a fake counts them.
 ghost use Rattle.std.specs.Prelude.{◌≡◌, ◌↔◌, ◌+◌, ◌-◌, ◌^◌, ◌≤◌, min, IsTrue};
 ghost use Rattle.bd_disk.specs.Calls.{Rose};
-ghost use Rattle.bd_files.specs.Calls.{next};
+ghost use Rattle.bd_files.specs.Calls.{one_more};
 
 use bd_disk::Failed;
 
@@ -26,7 +26,7 @@ impl Calls {
     // Counts a call, and says whether it is set to fail.
     pub(crate) fn count(&mut self) -> bool
         ensures set { IsTrue result ↔ (self.old.failing ≡ Some self.old.made) }
-        ensures counted { self.new ≡ record self.old { made = next self.old.made } }
+        ensures counted { self.new ≡ record self.old { made = one_more self.old.made } }
     {
         let fails = self.failing == Some(self.made);
         self.made = self.made.saturating_add(1);
@@ -35,7 +35,7 @@ impl Calls {
 
     // Counts a fault.
     pub(crate) fn fail(&mut self) -> Failed
-        ensures counted { self.new ≡ record self.old { faults = next self.old.faults } }
+        ensures counted { self.new ≡ record self.old { faults = one_more self.old.faults } }
         ensures cause { (self.old.faults ≤ self.new.faults) × Rose self.old.faults self.new.faults }
     {
         self.faults = self.faults.saturating_add(1);

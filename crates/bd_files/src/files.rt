@@ -9,6 +9,11 @@ use bd_disk::Failed;
 use bd_model::Name;
 
 /// Named files: sources that are fetched, and targets that are begun, filled and finished.
+///
+/// Whether files tell what they hold is fixed for their type, and each promise about what is under a name is made only
+/// where they tell. No call changes what is under another name, also where it answers `Failed`. A call that answers
+/// `Failed` has a cause: its count of faults has risen, or stands at its last value, and that count stays where Ok is
+/// answered.
 pub trait Files {
     /// That files of this type tell what they hold.
     ghost tells: { Type 0 };
@@ -16,15 +21,18 @@ pub trait Files {
     /// What is under each name, where they tell.
     ghost files: { Self → FileMap };
 
-    /// How often a fetch has failed.
+    /// How often a fetch has failed, up to 2^64 - 1.
     ghost source_faults: { Self → ℕ };
 
-    /// How often one of the three other calls has failed.
+    /// How often one of the three other calls has failed, up to 2^64 - 1.
     ghost target_faults: { Self → ℕ };
 
-    /// How often a name was fetched that isn't there, where they tell.
+    /// How often a name was fetched that isn't there, up to 2^64 - 1, where they tell.
     ghost strays: { Self → ℕ };
 
+    /// Gives bytes of a file from place `at` on, and how many: fewer than `into` has room for where it pleases, and 0 only
+    /// at the end of the file or for no room. A name that isn't there fails. What `into` holds behind these bytes, and
+    /// after `Failed`, is unknown.
     fn fetch(&mut self, name: &Name, at: u64, into: &mut [u8]) -> Result<usize, Failed>
         ensures cause { HasCause (source_faults self.old) (source_faults self.new) result }
         ensures targets { target_faults self.new ≡ target_faults self.old }
@@ -34,7 +42,7 @@ pub trait Files {
         ensures strays { tells → CountsStrays (files self.old) name.now (strays self.old) (strays self.new) }
         ensures same { tells → files self.new ≡ files self.old };
 
-    /// Puts `length` bytes of 0 under the name.
+    /// Puts `length` bytes of 0 under the name, in place of any that were there. What is under it after `Failed` is unknown.
     fn begin(&mut self, name: &Name, length: u64) -> Result<(), Failed>
         ensures cause { HasCause (target_faults self.old) (target_faults self.new) result }
         ensures sources { source_faults self.new ≡ source_faults self.old }
@@ -42,7 +50,7 @@ pub trait Files {
         ensures ok { OnOk result (tells → files self.new ≡ map.insert (files self.old) name.now (replicate length 0)) }
         ensures others { tells → ChangesOnly name.now (files self.old) (files self.new) };
 
-    /// Changes bytes of a file that is there.
+    /// Writes over bytes of a file that is there, from place `at` on. What is under the name after `Failed` is unknown.
     fn put(&mut self, name: &Name, at: u64, bytes: &[u8]) -> Result<(), Failed>
         requires there { tells → (old : List ℕ) × Holds (files self.old) name.now old × (at + length bytes.now ≤ length old) }
         ensures cause { HasCause (target_faults self.old) (target_faults self.new) result }
@@ -51,7 +59,7 @@ pub trait Files {
         ensures ok { OnOk result (tells → (old : List ℕ) → Holds (files self.old) name.now old → files self.new ≡ map.insert (files self.old) name.now (overwritten old at bytes.now)) }
         ensures others { tells → ChangesOnly name.now (files self.old) (files self.new) };
 
-    /// Makes sure of a file that was begun.
+    /// Makes sure of a file that was begun and filled.
     fn finish(&mut self, name: &Name) -> Result<(), Failed>
         ensures cause { HasCause (target_faults self.old) (target_faults self.new) result }
         ensures sources { source_faults self.new ≡ source_faults self.old }

@@ -1,18 +1,18 @@
-ghost use Rattle.std.specs.Prelude.{◌≡◌, ◌+◌, ◌-◌, ◌*◌, ◌≤◌, ◌↔◌, ◌⊎◌, ℕ, List, length, min, take, replicate, IfOk, OnOk, OnErr, IsErr, Some};
+ghost use Rattle.std.specs.Prelude.{◌≡◌, ◌+◌, ◌-◌, ◌*◌, ◌≤◌, ◌↔◌, ◌⊎◌, ℕ, List, length, min, take, drop, replicate, IfOk, OnOk, OnErr, IsErr, Some};
 ghost use Rattle.std.specs.Option.{option_map};
 ghost use Rattle.std.specs.FinMap as map;
 ghost use Rattle.bd_disk.specs.Calls.{HasCause, Rose};
 ghost use Rattle.bd_disk.specs.Images.{bytes_at, overwritten};
-ghost use Rattle.bd_files.specs.Calls.{next};
+ghost use Rattle.bd_files.specs.Calls.{one_more};
 ghost use Rattle.bd_files.specs.Fakes.{Counts, CountsRefused, FailsNext, no_files};
 ghost use Rattle.bd_files.specs.Files.{ChangesOnly, CountsStrays, Fetches, Holds, Lacks};
 
-use crate::Files;
 use crate::calls::Calls;
 use crate::table::Table;
+use crate::{Files, OutOfMemory};
 use bd_disk::Failed;
 use bd_model::Name;
-use std::alloc::{AllocError as OutOfMemory, Global};
+use std::alloc::Global;
 use std::marker::Model;
 
 /// Files in memory, which tell everything.
@@ -40,6 +40,7 @@ impl Model for MemFiles {
 fn copy_part(from: &[u8], at: u64, into: &mut [u8]) -> usize
     ensures count { result ≡ min (length into.old) (length from.now - at) }
     ensures bytes { take result into.new ≡ bytes_at at result from.now }
+    ensures rest { drop result into.new ≡ drop result into.old }
 {
     let start = at.min(from.len() as u64) as usize;
     let count = into.len().min(from.len() - start);
@@ -92,7 +93,8 @@ impl MemFiles {
         self.fetches.failing = Some(call);
     }
 
-    /// The call of this number that begins, changes or finishes a file will fail: these are counted together from 0. The last number set holds.
+    /// The call of this number that begins, changes or finishes a file will fail: these are counted together from 0. The
+    /// last number set holds.
     pub fn fail_target(&mut self, call: u64)
         ensures { self.new ≡ record self.old { targets = record self.old.targets { failing = Some call } } }
     {
@@ -123,8 +125,10 @@ impl Files for MemFiles {
         // It fails where it was set to, where no room can be counted as refused, or where the name is missing.
         ensures fails { IsErr result ↔ (FailsNext self.old.fetches ⊎ (Rose self.old.refused self.new.refused ⊎ Lacks self.old.files name.now)) }
         ensures whole { IfOk result (λ n. (bytes : List ℕ) → Holds self.old.files name.now bytes → n ≡ min (length into.old) (length bytes - at)) }
+        ensures rest { IfOk result (λ n. drop n into.new ≡ drop n into.old) }
+        ensures untouched { OnErr result (into.new ≡ into.old) }
         ensures counts { Counts self.old.fetches self.new.fetches result }
-        ensures one_stray { Lacks self.old.files name.now → self.new.strays ≡ next self.old.strays }
+        ensures one_stray { Lacks self.old.files name.now → self.new.strays ≡ one_more self.old.strays }
         ensures stays { self.new ≡ record self.old { fetches = self.new.fetches; strays = self.new.strays } }
     {
         let fails = self.fetches.count() || self.refused == u64::MAX;

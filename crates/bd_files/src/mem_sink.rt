@@ -2,7 +2,7 @@ ghost use Rattle.std.specs.Prelude.{◌≡◌, ◌↔◌, ◌⊎◌, [], ◌∷�
 ghost use Rattle.bd_disk.specs.Calls.{HasCause, Rose};
 ghost use Rattle.bd_disk.specs.History.{clock};
 ghost use Rattle.bd_files.specs.Fakes.{Counts, CountsRefused, FailsNext, empty_sink};
-ghost use Rattle.bd_files.specs.Sinks.{WritesPart};
+ghost use Rattle.bd_files.specs.Sinks.{NotesOne, WritesPart};
 
 use crate::Sink;
 use crate::calls::Calls;
@@ -102,6 +102,7 @@ impl Sink for MemSink {
         ensures cause { HasCause self.old.puts.faults self.new.puts.faults result }
         ensures ok { OnOk result (self.new.written ≡ self.old.written ++ bytes.now) }
         ensures moment { OnOk result (D.tells → self.new.moments ≡ self.old.moments ++ clock (D.history disk.now) ∷ []) }
+        ensures one { OnOk result (NotesOne self.old.moments self.new.moments) }
         ensures part { WritesPart bytes.now self.old.written self.new.written }
         ensures err { OnErr result (self.new.moments ≡ self.old.moments) }
 

@@ -20,7 +20,8 @@ struct Kept {
     file: File,
 }
 
-/// Files of the current folder. The last source and the last target are kept open. Contracts see how often a call has failed.
+/// Files of the current folder. The last source and the last target are kept open. Contracts see them as how often a
+/// call has failed.
 #[derive(Drop)]
 pub struct RealFiles<R: Folder<File = File> + AllocGlobal + Drop> {
     rt: R,

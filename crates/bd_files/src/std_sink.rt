@@ -6,7 +6,8 @@ use bd_disk::{Disk, Failed};
 use std::io::{Stdout, Write};
 use std::marker::Model;
 
-/// A sink over standard output. It keeps back nothing: what a put took was handed to the system. Contracts see how often a put has failed.
+/// A sink over standard output. It keeps back nothing: what a put took was handed to the system. Contracts see it as how
+/// often a put has failed.
 #[derive(Drop)]
 pub struct StdSink {
     out: Stdout,
@@ -22,6 +23,7 @@ impl Model for StdSink {
 }
 
 impl StdSink {
+    /// No put has failed.
     pub fn new(out: Stdout) -> StdSink
         ensures { result ≡ 0 }
     {

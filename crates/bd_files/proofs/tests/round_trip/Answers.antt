@@ -1,4 +1,4 @@
-use Rattle.std.proofs.Common.{subst, sym, replicate, lit≤, ◌≤◌, length}
+use Rattle.std.proofs.Common.{subst, sym, replicate, lit≤}
 use Rattle.bd_files.specs.Files.{Holds}
 use Rattle.bd_files.proofs.FileLemmas.{holds_what_was_put}
 use Rattle.bd_files.proofs.tests.round_trip.Goals as goal
