@@ -1,7 +1,7 @@
 -- Lists in which no number stands twice.
-use Rattle.std.proofs.Common.{◌≡◌, ◌≢◌, inl, inr, ℕ, List, [], ◌∷◌, ◌++◌, true, false, refl, sym, ◌∙◌, ap, subst, All, Contains, nat_eq}
-use Rattle.std.specs.List.{IsDistinct, AllByRecursion}
-use Rattle.std.proofs.lemmas.List.Elements.{All-append, All-contains, All-from_recursion, recursion_from_All, All-weaker, All-contains_itself, Contains-append_left, Contains-append_right, Contains-append_cases}
+use Rattle.std.proofs.Common.{◌≡◌, inl, inr, ℕ, List, [], ◌∷◌, ◌++◌, false, refl, sym, ◌∙◌, subst, Contains, nat_eq}
+use Rattle.std.specs.List.{IsDistinct}
+use Rattle.std.proofs.lemmas.List.Elements.{All-contains, All-from_recursion, recursion_from_All, All-weaker, All-contains_itself, Contains-append_left, Contains-append_right, Contains-append_cases}
 use Rattle.std.proofs.lemmas.Bool.{true≢false}
 use Rattle.std.proofs.lemmas.Bool.Decides.{eqb_tells}
 use Rattle.bd_space.proofs.Numbers.{Contains-nil, Contains-cons_cases, Contains-head, Contains-tail}
@@ -45,6 +45,6 @@ distinct_right (x ∷ xs) ys d = distinct_right xs ys (distinct_tail x (xs ++ ys
 pub distinct_apart : (xs ys : List ℕ) (n : ℕ) → IsDistinct nat_eq (xs ++ ys) → Contains xs n → Contains ys n → ⊥
 distinct_apart [] ys n d left right = Contains-nil n left
 distinct_apart (x ∷ xs) ys n d left right = elim (Contains-cons_cases x n xs left) [
-  inl same ↦ distinct_head x (xs ++ ys) d (Contains-append_right xs ys x (subst (Contains ys) (sym same) right))
+  | inl same ↦ distinct_head x (xs ++ ys) d (Contains-append_right xs ys x (subst (Contains ys) (sym same) right))
   | inr later ↦ distinct_apart xs ys n (distinct_tail x (xs ++ ys) d) later right
 ]

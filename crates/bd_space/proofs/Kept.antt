@@ -1,5 +1,5 @@
 -- What a space keeps, after some numbers were marked.
-use Rattle.std.proofs.Common.{◌≡◌, ◌≢◌, inl, inr, ℕ, ◌+◌, ◌-◌, ◌^◌, ◌<◌, ◌≤◌, List, [], ◌∷◌, ◌++◌, length, take, drop, refl, sym, ◌∙◌, ap, subst, arith, All, Contains, slice_get, Some, count_by, nat_eq, zero-add}
+use Rattle.std.proofs.Common.{◌≡◌, ◌≢◌, inl, inr, ℕ, ◌+◌, ◌-◌, ◌^◌, ◌<◌, ◌≤◌, List, ◌++◌, length, take, drop, refl, sym, ◌∙◌, ap, subst, arith, All, Contains, slice_get, Some, count_by, nat_eq, zero-add}
 use Rattle.std.specs.List.{IsDistinct}
 use Rattle.std.proofs.lemmas.List.{take-append-drop, length-take-le, take_rest, drop_at}
 use Rattle.std.proofs.lemmas.List.Elements.{All-weaker, All-contains, Contains-append_cases}
@@ -9,7 +9,7 @@ use Rattle.bd_space.specs.declared.space.Use.{Use}
 use Rattle.bd_space.specs.declared.space.Use.TheVariants.{Free, Taken}
 use Rattle.bd_space.specs.Marking.{marked_uses, IsKept}
 use Rattle.bd_space.specs.Allotment.{is_free, is_held, numbers_from}
-use Rattle.bd_space.proofs.Numbers.{numbers_of_found, numbers_from_le, numbers_from-below, length-numbers_from, Contains_decided}
+use Rattle.bd_space.proofs.Numbers.{numbers_from_le, numbers_from-below, length-numbers_from, Contains_decided}
 use Rattle.bd_space.proofs.Lowest.{free_found, All-lowest, IsDistinct-lowest}
 use Rattle.bd_space.proofs.Marked.{IsMarked, marked_uses_marked, count_by-marked_uses, length-marked_uses}
 
@@ -96,7 +96,7 @@ kept_freed us vs ns free held lowest least kept distinct were is low all =
       free_counted = omega (arith, kept.free_counted, moved.free);
       held_counted = kept.held_counted ∙ sym moved.held;
       below = λ n h now. elim (Contains_decided ns n) [
-        inl within ↦ absurd (let above : least ≤ n = All-contains (λ m. least ≤ m) ns n all within in omega arith)
+        | inl within ↦ absurd (let above : least ≤ n = All-contains (λ m. least ≤ m) ns n all within in omega arith)
         | inr without ↦ kept.below n (omega arith) (sym (moved.marks.others n without) ∙ now)
       ];
     }
@@ -134,17 +134,17 @@ kept_extended us vs count free held lowest place kept enough is rest =
       free_counted = omega (arith, taken.free_counted, length-taken us count free held lowest kept enough);
       held_counted = taken.held_counted;
       below = λ n h now.
-        let before = still_free (take count all) us vs n (moved_to_taken (take count all) us vs distinct were is).marks now in
-        let among : Contains (take count all ++ drop count all) n =
-        subst (λ xs. Contains xs n) (sym (take-append-drop count all)) (free_found us n before.1) in
-        elim (Contains-append_cases (take count all) (drop count all) n among) [
-          inl within ↦ before.0 within
-          | inr later ↦ absurd (
-            let above : place ≤ n =
-            All-contains (λ m. place ≤ m) (numbers_from is_free place (drop place us)) n (numbers_from_le is_free place (drop place us))
-            (subst (λ xs. Contains xs n) (sym rest) later) in
-            omega arith)
-        ];
+          let before = still_free (take count all) us vs n (moved_to_taken (take count all) us vs distinct were is).marks now in
+          let among : Contains (take count all ++ drop count all) n =
+          subst (λ xs. Contains xs n) (sym (take-append-drop count all)) (free_found us n before.1) in
+          elim (Contains-append_cases (take count all) (drop count all) n among) [
+            | inl within ↦ before.0 within
+            | inr later ↦ absurd (
+                let above : place ≤ n =
+                All-contains (λ m. place ≤ m) (numbers_from is_free place (drop place us)) n (numbers_from_le is_free place (drop place us))
+                (subst (λ xs. Contains xs n) (sym rest) later) in
+                omega arith)
+          ];
     }
 
 -- the uses after the lowest free numbers were taken

@@ -1,5 +1,5 @@
 -- The lowest free numbers: they were free, none stands twice, and each other free number is above them.
-use Rattle.std.proofs.Common.{◌≡◌, inl, inr, ℕ, zero, suc, ◌+◌, ◌<◌, ◌≤◌, List, [], ◌∷◌, ◌++◌, length, take, drop, get_or, refl, sym, ◌∙◌, ap, subst, arith, All, Contains, slice_get, Some, Bool, true, false, cond, nat_eq, zero-add, length-take, length-drop}
+use Rattle.std.proofs.Common.{◌≡◌, inl, inr, ℕ, zero, suc, ◌+◌, ◌<◌, ◌≤◌, List, [], ◌∷◌, length, take, drop, get_or, refl, sym, ◌∙◌, ap, subst, arith, All, Contains, slice_get, Some, Bool, true, false, cond, nat_eq, zero-add, length-take, length-drop}
 use Rattle.std.specs.List.{IsDistinct}
 use Rattle.std.specs.List.Sorted.{IsStrictlyIncreasing}
 use Rattle.std.proofs.lemmas.List.{take-append-drop, length-take-le, get_or_default, get_or-take, get_or-drop}
@@ -23,6 +23,7 @@ found_free us n c = free_one (found_in_numbers is_free 0 us n c)
     at place Free number found passes = let same : n ≡ place = omega arith in ap (slice_get us) same ∙ found
     at place Taken number found passes = cc
     at place Held number found passes = cc
+
     free_one : IsFound is_free 0 us n → slice_get us n ≡ Some Free
     free_one f = at f.place f.usage f.number f.found f.passes
 
@@ -88,12 +89,13 @@ pub lowest_below : (count : ℕ) (space : Allotment) (m n : ℕ) → Contains (t
     → (Contains (take count (free_numbers space)) n → ⊥) → m < n
 lowest_below count space m n low free high =
     elim (Contains-append_cases (take count all) (drop count all) n (subst (λ xs. Contains xs n) (sym (take-append-drop count all)) (Contains-free_numbers space n free))) [
-      inl within ↦ absurd (high within)
+      | inl within ↦ absurd (high within)
       | inr later ↦ between low later
     ]
   where
     all : List ℕ
     all = free_numbers space
+
     between : Contains (take count all) m → Contains (drop count all) n → m < n
     between (i, below, at_i) (j, above, at_j) =
         let within : i < count = omega (arith, length-take count all) in

@@ -1,16 +1,16 @@
 -- The uses after some numbers were marked.
-use Rattle.std.proofs.Common.{◌≡◌, ◌≢◌, ◌⊎◌, inl, inr, ℕ, zero, suc, ◌+◌, ◌*◌, ◌<◌, ◌≤◌, List, [], ◌∷◌, length, get_or, set, Bool, true, false, cond, refl, sym, ◌∙◌, ap, subst, arith, All, Contains, slice_get, slice_set, Some, None, count_by, nat_eq, add-zero}
-use Rattle.std.specs.List.{IsDistinct, AllByRecursion}
-use Rattle.std.proofs.lemmas.List.{length-set, get_or-set_same, get_or-set_other}
+use Rattle.std.proofs.Common.{◌≡◌, ◌≢◌, inl, inr, ℕ, zero, suc, ◌+◌, ◌<◌, List, [], ◌∷◌, length, get_or, set, Bool, true, false, cond, refl, sym, ◌∙◌, ap, subst, arith, All, Contains, slice_get, Some, count_by, nat_eq}
+use Rattle.std.specs.List.{IsDistinct}
+use Rattle.std.proofs.lemmas.List.{length-set}
 use Rattle.std.proofs.lemmas.List.Sums.{sum_by-set}
-use Rattle.std.proofs.lemmas.List.Elements.{All-head, All-tail, All-nil, All-cons, All-weaker, All-contains, All-from_recursion, recursion_from_All}
+use Rattle.std.proofs.lemmas.List.Elements.{All-head, All-tail, All-nil, All-cons, All-weaker, All-from_recursion}
 use Rattle.std.proofs.lemmas.Option.{slice_get_within, get_or_from_slice_get}
 use Rattle.std.proofs.lemmas.Bool.{cases_eq, true≢false}
 use Rattle.std.proofs.lemmas.Bool.Decides.{eqb_tells}
 use Rattle.bd_space.specs.declared.space.Use.{Use}
 use Rattle.bd_space.specs.Marking.{marked_uses}
 use Rattle.bd_space.specs.Allotment.{Allotment, Marks}
-use Rattle.bd_space.proofs.Numbers.{Contains-nil, Contains-cons_cases, Contains-head, Contains-tail}
+use Rattle.bd_space.proofs.Numbers.{Contains-tail}
 
 -- ---- one number
 
@@ -44,7 +44,7 @@ marked_kept us (n ∷ ns) u m h is = marked_kept (set us n u) ns u m (rw length-
   where
     still : slice_get (set us n u) m ≡ Some u
     still = elim (cases_eq m n) [
-      inl same ↦ subst (λ (k : ℕ). slice_get (set us k u) m ≡ Some u) same (slice_get-set_same us m u h)
+      | inl same ↦ subst (λ (k : ℕ). slice_get (set us k u) m ≡ Some u) same (slice_get-set_same us m u h)
       | inr other ↦ slice_get-set_other us n m u other ∙ is
     ]
 
@@ -78,7 +78,6 @@ pub Marks-from_marked : (ns : List ℕ) (u : Use) (old new : Allotment) → IsMa
 Marks-from_marked ns u old new m = record { size = m.size; marked = m.marked; others = m.others }
 
 -- ---- how many uses pass a test
-
 
 counted_one : (test : Use → Bool) (us : List Use) (n : ℕ) (u v : Use) → slice_get us n ≡ Some v
     → count_by test (set us n u) + cond (test v) 1 0 ≡ count_by test us + cond (test u) 1 0

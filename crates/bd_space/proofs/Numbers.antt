@@ -1,17 +1,16 @@
 -- The numbers whose use passes a test.
-use Rattle.std.proofs.Common.{◌≡◌, ◌≢◌, ◌⊎◌, inl, inr, ℕ, zero, suc, ◌+◌, ◌-◌, ◌<◌, ◌≤◌, List, [], ◌∷◌, ◌++◌, length, take, drop, get_or, Bool, true, false, cond, refl, sym, ◌∙◌, ap, subst, arith, All, Contains, slice_get, Some, None, count_by, nat_eq, length-drop, add-zero, add-one}
+use Rattle.std.proofs.Common.{◌≡◌, ◌≢◌, ◌⊎◌, inl, inr, ℕ, zero, suc, ◌+◌, ◌<◌, ◌≤◌, List, [], ◌∷◌, ◌++◌, length, take, drop, get_or, Bool, true, false, cond, refl, sym, ◌∙◌, ap, subst, arith, All, Contains, slice_get, Some, count_by, nat_eq, length-drop, add-zero}
 use Rattle.std.specs.List.{IsDistinct, AllByRecursion}
-use Rattle.std.specs.List.Sorted.{IsStrictlyIncreasing}
 use Rattle.std.proofs.lemmas.List.{append_assoc, drop_all, drop_more, take_more}
 use Rattle.std.proofs.lemmas.List.Sums.{sum_by-cons}
-use Rattle.std.proofs.lemmas.List.Elements.{All-nil, All-cons, All-head, All-tail, All-take, All-weaker, All-contains, All-from_recursion, recursion_from_All}
-use Rattle.std.proofs.lemmas.Map.Keys.{IsDistinct-head, IsDistinct-tail, IsDistinct-cons}
-use Rattle.std.proofs.lemmas.Bool.{cases_eq, false≢true}
+use Rattle.std.proofs.lemmas.List.Elements.{All-nil, All-cons, All-take, All-weaker, All-from_recursion, recursion_from_All}
+use Rattle.std.proofs.lemmas.Map.Keys.{IsDistinct-cons}
+use Rattle.std.proofs.lemmas.Bool.{cases_eq}
 use Rattle.std.proofs.lemmas.Bool.Decides.{eqb_tells}
 use Rattle.bd_space.specs.declared.space.Use.{Use}
 use Rattle.bd_space.specs.declared.space.Use.TheVariants.{Free, Taken, Held}
 use Rattle.bd_space.specs.Holding.{Holding}
-use Rattle.bd_space.specs.Allotment.{Allotment, is_free, numbers_from, free_numbers, IsFree}
+use Rattle.bd_space.specs.Allotment.{is_free, numbers_from}
 
 -- ---- elements of a list
 
@@ -31,9 +30,9 @@ Contains-tail x y xs (k, inside, at) = (suc k, omega arith, at)
 pub Contains_decided : (xs : List ℕ) (n : ℕ) → Contains xs n ⊎ (Contains xs n → ⊥)
 Contains_decided [] n = inr (Contains-nil n)
 Contains_decided (x ∷ xs) n = elim (cases_eq x n) [
-  inl same ↦ inl (0, omega arith, same)
+  | inl same ↦ inl (0, omega arith, same)
   | inr other ↦ elim (Contains_decided xs n) [
-    inl within ↦ inl (Contains-tail x n xs within)
+    | inl within ↦ inl (Contains-tail x n xs within)
     | inr without ↦ inr (λ c. elim (Contains-cons_cases x n xs c) [ inl same ↦ other same | inr within ↦ without within ])
   ]
 ]
@@ -82,10 +81,11 @@ found_in_numbers test k (u ∷ us) n c = at (test u) refl (found_in_numbers test
   where
     later : IsFound test (k + 1) us n → IsFound test k (u ∷ us) n
     later f = record { place = suc f.place; usage = f.usage; number = omega (arith, f.number); found = f.found; passes = f.passes }
+
     at : (b : Bool) → test u ≡ b → (Contains (numbers_from test (k + 1) us) n → IsFound test (k + 1) us n)
         → Contains (cond b (k ∷ numbers_from test (k + 1) us) (numbers_from test (k + 1) us)) n → IsFound test k (u ∷ us) n
     at true is rest c = elim (Contains-cons_cases k n (numbers_from test (k + 1) us) c) [
-      inl same ↦ record { place = 0; usage = u; number = omega arith; found = refl; passes = is }
+      | inl same ↦ record { place = 0; usage = u; number = omega arith; found = refl; passes = is }
       | inr within ↦ later (rest within)
     ]
     at false is rest c = later (rest c)
@@ -151,6 +151,7 @@ numbers_from-below k (suc low) (u ∷ us) none = past u (none 0 (omega arith)) (
   where
     later : numbers_from is_free (k + suc low) (drop low us) ≡ numbers_from is_free (k + 1 + low) (drop low us)
     later = ap (λ n. numbers_from is_free n (drop low us)) (omega arith)
+
     past : (v : Use) → (slice_get (v ∷ us) 0 ≢ Some Free) → numbers_from is_free (k + suc low) (drop low us) ≡ numbers_from is_free (k + 1) us
         → numbers_from is_free (k + suc low) (drop low us) ≡ numbers_from is_free k (v ∷ us)
     past Free not e = absurd (not refl)
@@ -178,7 +179,7 @@ collected_one all us at found count old new next so_far within here more pushed 
     record {
       rest = sym front.2;
       appended =
-        pushed ∙ ap (λ ns. ns ++ at ∷ []) so_far.appended ∙ append_assoc old.numbers (take found all) (at ∷ []) ∙ ap (λ ns. old.numbers ++ ns) (sym front.1);
+          pushed ∙ ap (λ ns. ns ++ at ∷ []) so_far.appended ∙ append_assoc old.numbers (take found all) (at ∷ []) ∙ ap (λ ns. old.numbers ++ ns) (sym front.1);
       no_more = omega (arith, so_far.no_more);
       room = omega (arith, so_far.room);
       spare = omega (arith, so_far.spare);

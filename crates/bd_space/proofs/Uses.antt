@@ -1,8 +1,8 @@
 -- The uses of a space: each number below its size has one, and what a number has after some were marked.
-use Rattle.std.proofs.Common.{◌≡◌, ◌≢◌, ◌⊎◌, inl, inr, ℕ, zero, suc, ◌+◌, ◌<◌, ◌≤◌, List, [], ◌∷◌, length, Bool, cond, true, false, refl, sym, ◌∙◌, ap, subst, arith, All, Contains, slice_get, Some, None, count_by}
+use Rattle.std.proofs.Common.{◌≡◌, ◌≢◌, ◌⊎◌, inl, inr, ℕ, ◌+◌, ◌<◌, List, [], ◌∷◌, length, cond, refl, sym, ◌∙◌, arith, Contains, slice_get, Some, count_by}
 use Rattle.std.proofs.lemmas.List.Sums.{sum_by-cons}
 use Rattle.std.proofs.lemmas.List.Elements.{All-contains}
-use Rattle.std.proofs.lemmas.Option.{slice_get-get_or, slice_get_within}
+use Rattle.std.proofs.lemmas.Option.{slice_get-get_or}
 use Rattle.bd_space.specs.declared.space.Use.{Use}
 use Rattle.bd_space.specs.declared.space.Use.TheVariants.{Free, Taken, Held}
 use Rattle.bd_space.specs.Allotment.{Allotment, IsFree, IsTaken, IsHeld, is_free, is_taken, is_held, free_count, taken_count, held_count, Marks}
@@ -45,7 +45,7 @@ one_use space n u v is was = cc
 pub Marks-use : (ns : List ℕ) (u v : Use) (old new : Allotment) (n : ℕ) → Marks ns u old new → slice_get new.uses n ≡ Some v
     → (Contains ns n × (u ≡ v)) ⊎ ((Contains ns n → ⊥) × (slice_get old.uses n ≡ Some v))
 Marks-use ns u v old new n m now = elim (Contains_decided ns n) [
-  inl within ↦ inl (within, (let mark : slice_get new.uses n ≡ Some u = All-contains (λ k. slice_get new.uses k ≡ Some u) ns n m.marked within in cc))
+  | inl within ↦ inl (within, (let mark : slice_get new.uses n ≡ Some u = All-contains (λ k. slice_get new.uses k ≡ Some u) ns n m.marked within in cc))
   | inr without ↦ inr (without, sym (m.others n without) ∙ now)
 ]
 
@@ -55,7 +55,7 @@ taken_after_taken ns old new n m now = elim (Marks-use ns Taken Taken old new n 
 
 pub taken_still : (ns : List ℕ) (old new : Allotment) (n : ℕ) → Marks ns Taken old new → IsTaken old n → IsTaken new n
 taken_still ns old new n m was = elim (Contains_decided ns n) [
-  inl within ↦ All-contains (IsTaken new) ns n m.marked within
+  | inl within ↦ All-contains (IsTaken new) ns n m.marked within
   | inr without ↦ m.others n without ∙ was
 ]
 

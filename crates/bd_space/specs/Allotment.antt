@@ -7,6 +7,10 @@ use Rattle.bd_space.specs.declared.space.Use.TheVariants.{Free, Taken, Held}
 pub record Allotment : Type 0 where
   pub uses : List Use
 
+-- how many numbers there are
+abbrev pub extent_count : Allotment → ℕ
+extent_count space = length space.uses
+
 abbrev pub IsFree : Allotment → ℕ → Type 0
 IsFree space n = slice_get space.uses n ≡ Some Free
 
@@ -50,6 +54,6 @@ held_count space = count_by is_held space.uses
 
 -- these numbers have this use now, and every other number has the use that it had
 pub record Marks (numbers : List ℕ) (usage : Use) (old new : Allotment) : Type 0 where
-  pub size : length new.uses ≡ length old.uses
+  pub size : extent_count new ≡ extent_count old
   pub marked : All (λ n. slice_get new.uses n ≡ Some usage) numbers
   pub others : (n : ℕ) → ¬ Contains numbers n → slice_get new.uses n ≡ slice_get old.uses n

@@ -51,7 +51,9 @@ impl Model for Space {
 impl Space {
     /// All numbers below `extents` are free.
     pub fn new(alloc: Global, extents: u32) -> Result<Space, OutOfMemory>
-        ensures { IfOk result (λ space. space.uses ≡ replicate extents Use.Free) }
+        ensures uses { IfOk result (λ space. space.uses ≡ replicate extents Use.Free) }
+        ensures free { IfOk result (λ space. free_count space ≡ extents) }
+        ensures held { IfOk result (λ space. held_count space ≡ 0) }
     {
         let uses = vec![in alloc; Use::Free; extents as usize]?;
         Ok(Space {

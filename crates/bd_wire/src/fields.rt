@@ -1,4 +1,4 @@
-ghost use Rattle.std.specs.Prelude.{◌≡◌, ℕ, ◌+◌, ◌^◌, ◌<◌, ◌≤◌, List, [], ◌∷◌, ◌++◌, length, slice_index, EachIndex};
+ghost use Rattle.std.specs.Prelude.{◌≡◌, ℕ, ◌+◌, ◌^◌, ◌<◌, ◌≤◌, List, [], ◌∷◌, ◌++◌, length, take, drop, slice_index, EachIndex};
 ghost use Rattle.std.specs.Int.{w32, w64, to_be_bytes, from_be_bytes};
 ghost use lib.Seq.{paste};
 
@@ -26,14 +26,19 @@ pub fn put_u64(into: &mut [u8], at: usize, value: u64)
     into[at..at + 8].copy_from_slice(&value.to_be_bytes());
 }
 
-/// A field has the width of its type, its bytes and its value give each other back, and bytes begin
-/// with one field at most.
+/// A field has the width of its type, its bytes and its value give each other back, it stands where it
+/// was put, and bytes begin with one field at most.
 pub fn fields_read_back()
     ensures width_u32 { (n : ℕ) → length (to_be_bytes w32 n) ≡ 4 }
     ensures width_u64 { (n : ℕ) → length (to_be_bytes w64 n) ≡ 8 }
 
     ensures value_u32 { (n : ℕ) → n < 2 ^ 32 → from_be_bytes w32 (to_be_bytes w32 n) ≡ n }
     ensures value_u64 { (n : ℕ) → n < 2 ^ 64 → from_be_bytes w64 (to_be_bytes w64 n) ≡ n }
+
+    ensures put_u32 { (into : List ℕ) (at n : ℕ) → at + 4 ≤ length into → n < 2 ^ 32
+        → from_be_bytes w32 (take 4 (drop at (paste into at (to_be_bytes w32 n) 4))) ≡ n }
+    ensures put_u64 { (into : List ℕ) (at n : ℕ) → at + 8 ≤ length into → n < 2 ^ 64
+        → from_be_bytes w64 (take 8 (drop at (paste into at (to_be_bytes w64 n) 8))) ≡ n }
 
     ensures bytes_u32 { (bytes : List ℕ) → length bytes ≡ 4 → EachIndex bytes (λ k. slice_index bytes k < 256)
         → to_be_bytes w32 (from_be_bytes w32 bytes) ≡ bytes }

@@ -1,4 +1,4 @@
-use Rattle.std.proofs.Common.{◌≡◌, ◌+◌, ◌≤◌, ◌++◌, take, drop}
+use Rattle.std.proofs.Common.{drop}
 use Rattle.bd_space.specs.Allotment.{is_free, numbers_from}
 use Rattle.bd_space.proofs.Numbers.{IsCollected}
 use Rattle.bd_space.proofs.space.collect_free.Given as goal

@@ -1,8 +1,8 @@
-use Rattle.std.proofs.Common.{◌≡◌, ℕ, ◌≤◌, List, length, take, arith, ap, ◌∙◌, subst, add-zero}
-use Rattle.std.proofs.lemmas.List.{with_items_is, length-take-le}
+use Rattle.std.proofs.Common.{◌≡◌, List, take, arith, ap, ◌∙◌, subst, add-zero}
+use Rattle.std.proofs.lemmas.List.{with_items_is}
 use Rattle.bd_space.specs.declared.space.Use.{Use}
 use Rattle.bd_space.specs.declared.space.Use.TheVariants.{Taken}
-use Rattle.bd_space.specs.Allotment.{Allotment, is_free, free_count, numbers_from, free_numbers}
+use Rattle.bd_space.specs.Allotment.{Allotment, is_free, numbers_from}
 use Rattle.bd_space.specs.Marking.{marked_uses}
 use Rattle.bd_space.proofs.Kept.{kept_extended, moved_by_extend, from_lowest}
 use Rattle.bd_space.proofs.Numbers.{length-numbers_from}

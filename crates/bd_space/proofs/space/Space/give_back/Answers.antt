@@ -1,7 +1,6 @@
-use Rattle.std.proofs.Common.{◌≡◌, ℕ, ◌≤◌, List, length, All, arith, ap, sym, ◌∙◌, subst, rules}
+use Rattle.std.proofs.Common.{◌≡◌, ℕ, ◌≤◌, List, All, arith, ap, sym, ◌∙◌, subst}
 use Rattle.std.proofs.lemmas.List.{with_items_is}
-use Rattle.bd_space.specs.declared.space.Use.{Use}
-use Rattle.bd_space.specs.declared.space.Use.TheVariants.{Free, Taken}
+use Rattle.bd_space.specs.declared.space.Use.TheVariants.{Free}
 use Rattle.bd_space.specs.Allotment.{Allotment, IsTaken}
 use Rattle.bd_space.specs.Marking.{marked_uses}
 use Rattle.bd_space.proofs.Kept.{few_freed, kept_freed, moved_to_free}
