@@ -1,24 +1,28 @@
 -- The definitions on small histories, computed.
-use Rattle.std.proofs.Common.{◌≡◌, ℕ, List, [], ◌∷◌, ◌++◌, refl, map, length}
+use Rattle.std.proofs.Common.{◌≡◌, ◌≤◌, ℕ, List, [], ◌∷◌, ◌++◌, refl, ap, map, length}
 use Rattle.bd_model.specs.History.{History}
 use Rattle.bd_model.specs.Category.{category}
 use Rattle.bd_model.specs.Layout.{closed_volume, open_category, rows, row_of}
 use Rattle.bd_model.specs.declared.layout.Phase.TheVariants.{Settled, Waiting}
 use Rattle.bd_model.specs.Room.{need, counted, owned, fresh, reserve_left}
-use Rattle.std.specs.Prelude.{Some, option_map, IsTrue}
+use Rattle.std.specs.Prelude.{Option, Some, None, option_map, IsTrue}
 use Rattle.std.specs.Int.{is_power_of_two}
 use lib.Count.{ones}
 use Rattle.std.proofs.Common.{lit≤}
 use Rattle.std.specs.FinMap as map
 use Rattle.bd_model.specs.declared.shape.Shape.{Shape}
-use Rattle.bd_model.specs.declared.command.Command.TheVariants.{Backup, Expire, List as Listing}
-use Rattle.bd_model.specs.declared.answer.Answer.TheVariants.{BackedUp, Expired, Listed}
+use Rattle.bd_model.specs.declared.command.Command.{Command}
+use Rattle.bd_model.specs.declared.command.Command.TheVariants.{Backup, Restore, Expire, Reorganise, Scrub, List as Listing}
+use Rattle.bd_model.specs.declared.answer.Answer.{Answer}
+use Rattle.bd_model.specs.Folds.{answers_of, outcomes, unheld}
+use Rattle.bd_model.specs.declared.answer.Answer.TheVariants.{BackedUp, Restored, Expired, Arranged, Scrubbed, Listed, FullNumbers, FullVersions, FullExtents, NoVersion, NothingRetained}
 use Rattle.bd_model.specs.declared.answer.VersionLine.{VersionLine}
-use Rattle.bd_model.specs.Shapes.{payload_room, half_bytes, disk_bytes}
+use Rattle.bd_model.specs.Shapes.{payload_room as shape_room, half_bytes as shape_half, disk_bytes as shape_disk}
+use Rattle.bd_model.specs.Sizes.{Sizes, sizes_of, payload_room, half_bytes, disk_bytes}
 use Rattle.bd_model.specs.Chunks.{chunks_from}
 use Rattle.bd_model.specs.FileMap.{FileMap}
 use Rattle.bd_model.specs.State.{Version, VersionState, empty, cut_of}
-use Rattle.bd_model.specs.Step.{backed_up, step, record_count, entry_count, expired_extents}
+use Rattle.bd_model.specs.Step.{Outcome, backed_up, step, record_count, entry_count, expired_extents}
 use Rattle.bd_model.proofs.PieceLemmas.{pieces_from, chunks_from-pieces}
 
 abbrev line : ℕ → ℕ → ℕ → ℕ → VersionLine
@@ -155,10 +159,10 @@ power_64 : IsTrue (is_power_of_two 64)
 unfolding ones
 power_64 = refl
 
-abbrev shape : Shape
-shape = record {
+abbrev with_extents : (extents : ℕ) → 1 ≤ extents → extents ≤ 65536 → Shape
+with_extents extents low high = record {
   extent = 64;
-  extents = 16;
+  extents = extents;
   retain = 4;
   min = 4;
   bits = 0;
@@ -167,8 +171,8 @@ shape = record {
     power_of_two = power_64;
     extent_low = lit≤ tt;
     extent_high = lit≤ tt;
-    extents_low = lit≤ tt;
-    extents_high = lit≤ tt;
+    extents_low = low;
+    extents_high = high;
     retain_low = lit≤ tt;
     retain_high = lit≤ tt;
     min_low = lit≤ tt;
@@ -179,31 +183,109 @@ shape = record {
   };
 }
 
-sizes : payload_room shape ∷ half_bytes shape ∷ disk_bytes shape ∷ [] ≡ 856 ∷ 66403 ∷ 133894 ∷ []
-sizes = refl
+abbrev shape : Shape
+shape = with_extents 16 (lit≤ tt) (lit≤ tt)
 
-pieces : (s : List ℕ) (start count : ℕ) → chunks_from (cut_of shape) s start count ≡ pieces_from 4 s start count
-pieces s start count = chunks_from-pieces (cut_of shape) s start count refl (lit≤ tt)
+-- room for nine extents, for ten, and for three
+abbrev nine : Shape
+nine = with_extents 9 (lit≤ tt) (lit≤ tt)
+
+abbrev ten : Shape
+ten = with_extents 10 (lit≤ tt) (lit≤ tt)
+
+abbrev few : Shape
+few = with_extents 3 (lit≤ tt) (lit≤ tt)
+
+abbrev sizes_list : Sizes → List ℕ
+sizes_list s = payload_room s ∷ half_bytes s ∷ disk_bytes s ∷ []
+
+-- the small shape, the defaults, that of a soak and the greatest
+small_sizes : sizes_list (sizes_of shape) ≡ 856 ∷ 66403 ∷ 133894 ∷ []
+small_sizes = refl
+
+default_sizes : sizes_list (record { extent = 1048576; extents = 4096; retain = 64; min = 2048; bits = 13; max = 65536 }) ≡ 158656 ∷ 224203 ∷ 4295415766 ∷ []
+default_sizes = refl
+
+soak_sizes : sizes_list (record { extent = 1048576; extents = 160; retain = 16; min = 2048; bits = 13; max = 65536 }) ≡ 7840 ∷ 73387 ∷ 167918998 ∷ []
+soak_sizes = refl
+
+greatest_sizes : sizes_list (record { extent = 16777216; extents = 65536; retain = 256; min = 65536; bits = 32; max = 65536 }) ≡ 2502208 ∷ 2567755 ∷ 1099516763350 ∷ []
+greatest_sizes = refl
+
+-- a shape and its plain sizes take the same room
+same_sizes : (s : Shape) → sizes_list (sizes_of s) ≡ shape_room s ∷ shape_half s ∷ shape_disk s ∷ []
+same_sizes s = refl
+
+pieces : (extents : ℕ) (low : 1 ≤ extents) (high : extents ≤ 65536) (s : List ℕ) (start count : ℕ) → chunks_from (cut_of (with_extents extents low high)) s start count ≡ pieces_from 4 s start count
+pieces extents low high s start count = chunks_from-pieces (cut_of (with_extents extents low high)) s start count refl (lit≤ tt)
 
 abbrev given_as : List ℕ → Version
 given_as stream = record { stream = stream }
 
-first_backup : backed_up shape 0 empty (a ++ b ++ c) ≡ (BackedUp 1 12 3 3 4, record { base = 0; versions = given_as (a ++ b ++ c) ∷ []; expired = 0 })
+abbrev state_of : List (List ℕ) → VersionState
+state_of streams = record { base = 0; versions = map given_as streams; expired = 0 }
+
+abbrev after_one : VersionState
+after_one = state_of ((a ++ b ++ c) ∷ [])
+
+abbrev after_three : VersionState
+after_three = state_of ((a ++ b ++ c) ∷ (a ++ c ++ d) ∷ (b ++ a ++ d) ∷ [])
+
+first_backup : backed_up shape 0 empty (a ++ b ++ c) ≡ (BackedUp 1 12 3 3 4, after_one)
 unfolding need owned reserve_left counted
 first_backup = simp pieces
 
-abbrev after_three : VersionState
-after_three = record { base = 0; versions = given_as (a ++ b ++ c) ∷ given_as (a ++ c ++ d) ∷ given_as (b ++ a ++ d) ∷ []; expired = 0 }
-
-expire_step : option_map (λ o. o.answer) (step shape 0 after_three map.empty Expire) ≡ Some (Expired 1 3)
+second_without_room : backed_up nine 0 after_one (a ++ c ++ d) ≡ (FullExtents 6 5 0, after_one)
 unfolding need owned reserve_left counted
-expire_step = simp pieces
+second_without_room = simp pieces
 
-list_step : option_map (λ o. o.answer) (step shape 0 after_three map.empty Listing)
-    ≡ Some (Listed (record { items = line 1 12 3 3 ∷ line 2 12 3 1 ∷ line 3 12 3 1 ∷ []; spare = 0 }))
-list_step = simp pieces
+-- the outcome of a command, `files` being as they are
+abbrev outcome : Answer → VersionState → FileMap → Option Outcome
+outcome answer s files = Some (record { answer = answer; state = s; files = files })
 
--- the first backup, from files that have the stream under the name
-backup_step : (files : FileMap) (name : List ℕ) → map.get files name ≡ Some (a ++ b ++ c) → option_map (λ o. o.answer) (step shape 0 empty files (Backup name)) ≡ Some (BackedUp 1 12 3 3 4)
-unfolding need owned reserve_left counted
-backup_step files name there = rw there (simp pieces)
+-- the answers to commands are that to the first, and those to the others in what it leaves
+answers-next : (shape : Shape) (s : VersionState) (files : FileMap) (command : Command) (commands : List Command) (o : Outcome) → step shape 0 s files command ≡ Some o →
+    answers_of shape s files (unheld (command ∷ commands)) ≡ o.answer ∷ answers_of shape o.state o.files (unheld commands)
+answers-next shape s files command commands o e =
+    ap (λ t. map (λ o. o.answer) (elim t as (λ _. List Outcome) [ None ↦ [] | Some o ↦ o ∷ outcomes shape o.state o.files (unheld commands) ])) e
+
+abbrev after_two : VersionState
+after_two = state_of ((a ++ b ++ c) ∷ (a ++ c ++ d) ∷ [])
+
+abbrev after_expiry : VersionState
+after_expiry = record after_three { expired = 1 }
+
+module _ (files : FileMap) (x y z : List ℕ) (in_x : map.get files x ≡ Some (a ++ b ++ c)) (in_y : map.get files y ≡ Some (a ++ c ++ d)) (in_z : map.get files z ≡ Some (b ++ a ++ d)) where
+  backup_one : step shape 0 empty files (Backup x) ≡ outcome (BackedUp 1 12 3 3 4) after_one files
+  unfolding need owned reserve_left counted
+  backup_one = rw in_x (simp pieces)
+
+  backup_two : step shape 0 after_one files (Backup y) ≡ outcome (BackedUp 2 12 3 1 6) after_two files
+  unfolding need owned reserve_left counted
+  backup_two = rw in_y (simp pieces)
+
+  arrange_two : step shape 0 after_two files Reorganise ≡ outcome (Arranged 8 8) after_two files
+  unfolding need owned reserve_left counted
+  arrange_two = simp pieces
+
+  backup_three : step shape 0 after_two files (Backup z) ≡ outcome (BackedUp 3 12 3 1 5) after_three files
+  unfolding need owned reserve_left counted
+  backup_three = rw in_z (simp pieces)
+
+  arrange_three : step shape 0 after_three files Reorganise ≡ outcome (Arranged 11 5) after_three files
+  unfolding need owned reserve_left counted
+  arrange_three = simp pieces
+
+  list_three : step shape 0 after_three files Listing ≡ outcome (Listed (record { items = line 1 12 3 3 ∷ line 2 12 3 1 ∷ line 3 12 3 1 ∷ []; spare = 0 })) after_three files
+  list_three = simp pieces
+
+  expire_first : step shape 0 after_three files Expire ≡ outcome (Expired 1 3) after_expiry files
+  unfolding need owned reserve_left counted
+  expire_first = simp pieces
+
+  arrange_rest : step shape 0 after_expiry files Reorganise ≡ outcome (Arranged 8 8) after_expiry files
+  unfolding need owned reserve_left counted
+  arrange_rest = simp pieces
+
+  restore_given_up : step shape 0 after_expiry files (Restore 1 x) ≡ outcome (NoVersion 1 2 3) after_expiry files
+  restore_given_up = refl
