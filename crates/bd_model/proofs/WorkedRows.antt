@@ -1,5 +1,5 @@
 -- The definitions on small histories, computed.
-use Rattle.std.proofs.Common.{◌≡◌, ◌≤◌, ℕ, List, [], ◌∷◌, ◌++◌, refl, ap, map, length}
+use Rattle.std.proofs.Common.{◌≡◌, ◌≤◌, ℕ, List, [], ◌∷◌, ◌++◌, refl, ◌∙◌, ap, map, length}
 use Rattle.bd_model.specs.History.{History}
 use Rattle.bd_model.specs.Category.{category}
 use Rattle.bd_model.specs.Layout.{closed_volume, open_category, rows, row_of}
@@ -21,7 +21,7 @@ use Rattle.bd_model.specs.Shapes.{payload_room as shape_room, half_bytes as shap
 use Rattle.bd_model.specs.Sizes.{Sizes, sizes_of, payload_room, half_bytes, disk_bytes}
 use Rattle.bd_model.specs.Chunks.{chunks_from}
 use Rattle.bd_model.specs.FileMap.{FileMap}
-use Rattle.bd_model.specs.State.{Version, VersionState, empty, cut_of}
+use Rattle.bd_model.specs.State.{Version, VersionState, empty, cut_of, last_number}
 use Rattle.bd_model.specs.Step.{Outcome, backed_up, step, record_count, entry_count, expired_extents}
 use Rattle.bd_model.proofs.PieceLemmas.{pieces_from, chunks_from-pieces}
 
@@ -243,14 +243,34 @@ second_without_room = simp pieces
 abbrev outcome : Answer → VersionState → FileMap → Option Outcome
 outcome answer s files = Some (record { answer = answer; state = s; files = files })
 
--- the answers to commands are that to the first, and those to the others in what it leaves
-answers-next : (shape : Shape) (s : VersionState) (files : FileMap) (command : Command) (commands : List Command) (o : Outcome) → step shape 0 s files command ≡ Some o →
-    answers_of shape s files (unheld (command ∷ commands)) ≡ o.answer ∷ answers_of shape o.state o.files (unheld commands)
-answers-next shape s files command commands o e =
-    ap (λ t. map (λ o. o.answer) (elim t as (λ _. List Outcome) [ None ↦ [] | Some o ↦ o ∷ outcomes shape o.state o.files (unheld commands) ])) e
+-- a command with its answer and the state that it leaves, none of which touches the files
+record Done : Type 0 where
+  command : Command
+  answer : Answer
+  state : VersionState
+
+abbrev did : Command → Answer → VersionState → Done
+did command answer state = record { command = command; answer = answer; state = state }
+
+abbrev Each : Shape → FileMap → VersionState → List Done → Type 0
+Each shape files s [] = Unit {0}
+Each shape files s (d ∷ ds) = (step shape 0 s files d.command ≡ outcome d.answer d.state files) × Each shape files d.state ds
+
+-- commands that go so one by one have these answers in a row
+in_a_row : (shape : Shape) (files : FileMap) (s : VersionState) (ds : List Done) → Each shape files s ds → answers_of shape s files (unheld (map (λ d. d.command) ds)) ≡ map (λ d. d.answer) ds
+in_a_row shape files s [] each = refl
+in_a_row shape files s (d ∷ ds) each =
+    ap (λ t. map (λ o. o.answer) (elim t as (λ _. List Outcome) [ None ↦ [] | Some o ↦ o ∷ outcomes shape o.state o.files (unheld (map (λ d. d.command) ds)) ])) each.0
+    ∙ ap (λ rest. d.answer ∷ rest) (in_a_row shape files d.state ds each.1)
 
 abbrev after_two : VersionState
 after_two = state_of ((a ++ b ++ c) ∷ (a ++ c ++ d) ∷ [])
+
+abbrev emptied_state : VersionState
+emptied_state = record { base = 1; versions = []; expired = 0 }
+
+abbrev refilled : VersionState
+refilled = record { base = 1; versions = given_as (a ++ b ++ c) ∷ []; expired = 0 }
 
 abbrev after_expiry : VersionState
 after_expiry = record after_three { expired = 1 }
@@ -289,3 +309,121 @@ module _ (files : FileMap) (x y z : List ℕ) (in_x : map.get files x ≡ Some (
 
   restore_given_up : step shape 0 after_expiry files (Restore 1 x) ≡ outcome (NoVersion 1 2 3) after_expiry files
   restore_given_up = refl
+
+  scrub_three : step shape 0 after_three files Scrub ≡ outcome (Scrubbed (record { records = 5; entries = 9; damaged = 0; findings = record { items = []; spare = 0 } })) after_three files
+  scrub_three = simp pieces
+
+  -- a session from an empty store
+  three_versions : answers_of shape empty files (unheld (Backup x ∷ Backup y ∷ Reorganise ∷ Backup z ∷ Reorganise ∷ Listing ∷ Expire ∷ Reorganise ∷ Restore 1 x ∷ []))
+      ≡ BackedUp 1 12 3 3 4 ∷ BackedUp 2 12 3 1 6 ∷ Arranged 8 8 ∷ BackedUp 3 12 3 1 5 ∷ Arranged 11 5
+      ∷ Listed (record { items = line 1 12 3 3 ∷ line 2 12 3 1 ∷ line 3 12 3 1 ∷ []; spare = 0 }) ∷ Expired 1 3 ∷ Arranged 8 8 ∷ NoVersion 1 2 3 ∷ []
+  three_versions =
+      in_a_row shape files empty
+      (did (Backup x) (BackedUp 1 12 3 3 4) after_one
+      ∷ did (Backup y) (BackedUp 2 12 3 1 6) after_two
+      ∷ did Reorganise (Arranged 8 8) after_two
+      ∷ did (Backup z) (BackedUp 3 12 3 1 5) after_three
+      ∷ did Reorganise (Arranged 11 5) after_three
+      ∷ did Listing (Listed (record { items = line 1 12 3 3 ∷ line 2 12 3 1 ∷ line 3 12 3 1 ∷ []; spare = 0 })) after_three
+      ∷ did Expire (Expired 1 3) after_expiry
+      ∷ did Reorganise (Arranged 8 8) after_expiry
+      ∷ did (Restore 1 x) (NoVersion 1 2 3) after_expiry
+      ∷ [])
+      (backup_one, (backup_two, (arrange_two, (backup_three, (arrange_three, (list_three, (expire_first, (arrange_rest, (restore_given_up, tt)))))))))
+
+  -- the same stream again, and one chunk three times
+  backup_again : step shape 0 after_one files (Backup x) ≡ outcome (BackedUp 2 12 3 0 2) (state_of ((a ++ b ++ c) ∷ (a ++ b ++ c) ∷ [])) files
+  unfolding need owned reserve_left counted
+  backup_again = rw in_x (simp pieces)
+
+  -- a store that was emptied goes on with the numbers
+  expire_only : step shape 0 after_one files Expire ≡ outcome (Expired 1 4) emptied_state files
+  unfolding need owned reserve_left counted
+  expire_only = simp pieces
+
+  backup_after_emptied : step shape 0 emptied_state files (Backup x) ≡ outcome (BackedUp 2 12 3 3 4) refilled files
+  unfolding need owned reserve_left counted
+  backup_after_emptied = rw in_x (simp pieces)
+
+  emptied_between : answers_of shape empty files (unheld (Backup x ∷ Expire ∷ Backup x ∷ [])) ≡ BackedUp 1 12 3 3 4 ∷ Expired 1 4 ∷ BackedUp 2 12 3 3 4 ∷ []
+  emptied_between =
+      in_a_row shape files empty
+      (did (Backup x) (BackedUp 1 12 3 3 4) after_one ∷ did Expire (Expired 1 4) emptied_state ∷ did (Backup x) (BackedUp 2 12 3 3 4) refilled ∷ [])
+      (backup_one, (expire_only, (backup_after_emptied, tt)))
+
+  -- too little room for the second version, and just enough
+  backup_in_nine : step nine 0 after_one files (Backup y) ≡ outcome (FullExtents 6 5 0) after_one files
+  unfolding need owned reserve_left counted
+  backup_in_nine = rw in_y (simp pieces)
+
+  backup_in_ten : step ten 0 after_one files (Backup y) ≡ outcome (BackedUp 2 12 3 1 6) after_two files
+  unfolding need owned reserve_left counted
+  backup_in_ten = rw in_y (simp pieces)
+
+  arrange_ten : step ten 0 after_two files Reorganise ≡ outcome (Arranged 8 2) after_two files
+  unfolding need owned reserve_left counted
+  arrange_ten = simp pieces
+
+  -- refused after the second chunk
+  backup_in_three : step few 0 empty files (Backup x) ≡ outcome (FullExtents 4 3 0) empty files
+  unfolding need owned reserve_left counted
+  backup_in_three = rw in_x (simp pieces)
+
+  -- no number is left
+  numbers_are_full : step shape 0 (record { base = last_number; versions = []; expired = 0 }) files (Backup x) ≡ outcome FullNumbers (record { base = last_number; versions = []; expired = 0 }) files
+  numbers_are_full = refl
+
+module _ (files : FileMap) (x y : List ℕ) where
+  -- nothing in common
+  backup_a : map.get files x ≡ Some a → step shape 0 empty files (Backup x) ≡ outcome (BackedUp 1 4 1 1 2) (state_of (a ∷ [])) files
+  unfolding need owned reserve_left counted
+  backup_a there = rw there (simp pieces)
+
+  backup_b : map.get files y ≡ Some b → step shape 0 (state_of (a ∷ [])) files (Backup y) ≡ outcome (BackedUp 2 4 1 1 3) (state_of (a ∷ b ∷ [])) files
+  unfolding need owned reserve_left counted
+  backup_b there = rw there (simp pieces)
+
+  arrange_apart : step shape 0 (state_of (a ∷ b ∷ [])) files Reorganise ≡ outcome (Arranged 4 12) (state_of (a ∷ b ∷ [])) files
+  unfolding need owned reserve_left counted
+  arrange_apart = simp pieces
+
+  arrange_same : step shape 0 (state_of ((a ++ b ++ c) ∷ (a ++ b ++ c) ∷ [])) files Reorganise ≡ outcome (Arranged 6 10) (state_of ((a ++ b ++ c) ∷ (a ++ b ++ c) ∷ [])) files
+  unfolding need owned reserve_left counted
+  arrange_same = simp pieces
+
+  backup_thrice : map.get files x ≡ Some (a ++ a ++ a) → step shape 0 empty files (Backup x) ≡ outcome (BackedUp 1 12 3 1 3) (state_of ((a ++ a ++ a) ∷ [])) files
+  unfolding need owned reserve_left counted
+  backup_thrice there = rw there (simp pieces)
+
+  -- nothing is retained
+  nothing_to_expire : answers_of shape empty files (unheld (Expire ∷ Restore 0 x ∷ Restore 9 x ∷ [])) ≡ NothingRetained None ∷ NothingRetained (Some 0) ∷ NothingRetained (Some 9) ∷ []
+  nothing_to_expire = refl
+
+  -- empty files: the fifth is one version too many
+  module _ (there : map.get files x ≡ Some []) where
+    backup_nothing : step shape 0 empty files (Backup x) ≡ outcome (BackedUp 1 0 0 0 0) (state_of ([] ∷ [])) files
+    unfolding need owned reserve_left counted
+    backup_nothing = rw there (simp pieces)
+
+    backup_nothing_2 : step shape 0 (state_of ([] ∷ [])) files (Backup x) ≡ outcome (BackedUp 2 0 0 0 0) (state_of ([] ∷ [] ∷ [])) files
+    unfolding need owned reserve_left counted
+    backup_nothing_2 = rw there (simp pieces)
+
+    backup_nothing_3 : step shape 0 (state_of ([] ∷ [] ∷ [])) files (Backup x) ≡ outcome (BackedUp 3 0 0 0 0) (state_of ([] ∷ [] ∷ [] ∷ [])) files
+    unfolding need owned reserve_left counted
+    backup_nothing_3 = rw there (simp pieces)
+
+    backup_nothing_4 : step shape 0 (state_of ([] ∷ [] ∷ [] ∷ [])) files (Backup x) ≡ outcome (BackedUp 4 0 0 0 0) (state_of ([] ∷ [] ∷ [] ∷ [] ∷ [])) files
+    unfolding need owned reserve_left counted
+    backup_nothing_4 = rw there (simp pieces)
+
+    five_versions : answers_of shape empty files (unheld (Backup x ∷ Backup x ∷ Backup x ∷ Backup x ∷ Backup x ∷ [])) ≡ BackedUp 1 0 0 0 0 ∷ BackedUp 2 0 0 0 0 ∷ BackedUp 3 0 0 0 0 ∷ BackedUp 4 0 0 0 0 ∷ FullVersions 4 ∷ []
+    five_versions =
+        in_a_row shape files empty
+        (did (Backup x) (BackedUp 1 0 0 0 0) (state_of ([] ∷ []))
+        ∷ did (Backup x) (BackedUp 2 0 0 0 0) (state_of ([] ∷ [] ∷ []))
+        ∷ did (Backup x) (BackedUp 3 0 0 0 0) (state_of ([] ∷ [] ∷ [] ∷ []))
+        ∷ did (Backup x) (BackedUp 4 0 0 0 0) (state_of ([] ∷ [] ∷ [] ∷ [] ∷ []))
+        ∷ did (Backup x) (FullVersions 4) (state_of ([] ∷ [] ∷ [] ∷ [] ∷ []))
+        ∷ [])
+        (backup_nothing, (backup_nothing_2, (backup_nothing_3, (backup_nothing_4, (refl, tt)))))
