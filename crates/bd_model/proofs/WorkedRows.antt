@@ -4,25 +4,28 @@ use Rattle.bd_model.specs.History.{History}
 use Rattle.bd_model.specs.Category.{category}
 use Rattle.bd_model.specs.Layout.{closed_volume, open_category, rows, row_of}
 use Rattle.bd_model.specs.declared.layout.Phase.TheVariants.{Settled, Waiting}
-use Rattle.bd_model.specs.Room.{need, counted, owned, fresh, reserve_left}
-use Rattle.std.specs.Prelude.{Option, Some, None, option_map, IsTrue}
+use Rattle.bd_model.specs.Room.{need, counted, running, owned, fresh, reserve_left}
+use Rattle.bd_model.specs.Recipe.{recipe, entry_of}
+use Rattle.std.specs.Prelude.{codes, Option, Some, None, option_map, IsTrue}
 use Rattle.std.specs.Int.{is_power_of_two}
 use lib.Count.{ones}
 use Rattle.std.proofs.Common.{lit≤}
+use Rattle.std.specs.Fmt.{digits}
 use Rattle.std.specs.FinMap as map
 use Rattle.bd_model.specs.declared.shape.Shape.{Shape}
 use Rattle.bd_model.specs.declared.command.Command.{Command}
 use Rattle.bd_model.specs.declared.command.Command.TheVariants.{Backup, Restore, Expire, Reorganise, Scrub, List as Listing}
 use Rattle.bd_model.specs.declared.answer.Answer.{Answer}
 use Rattle.bd_model.specs.Folds.{answers_of, outcomes, unheld}
-use Rattle.bd_model.specs.declared.answer.Answer.TheVariants.{BackedUp, Restored, Expired, Arranged, Scrubbed, Listed, FullNumbers, FullVersions, FullExtents, NoVersion, NothingRetained}
+use Rattle.bd_model.specs.declared.answer.Answer.TheVariants.{BackedUp, Restored, Expired, Arranged, Scrubbed, Listed, FullNumbers, FullVersions, FullExtents, NoVersion, NothingRetained, Formatted}
 use Rattle.bd_model.specs.declared.answer.VersionLine.{VersionLine}
 use Rattle.bd_model.specs.Shapes.{payload_room as shape_room, half_bytes as shape_half, disk_bytes as shape_disk}
 use Rattle.bd_model.specs.Sizes.{Sizes, sizes_of, payload_room, half_bytes, disk_bytes}
 use Rattle.bd_model.specs.Chunks.{chunks_from}
+use Rattle.bd_model.specs.Texts.{answer_text, texts}
 use Rattle.bd_model.specs.FileMap.{FileMap}
 use Rattle.bd_model.specs.State.{Version, VersionState, empty, cut_of, last_number}
-use Rattle.bd_model.specs.Step.{Outcome, backed_up, step, record_count, entry_count, expired_extents}
+use Rattle.bd_model.specs.Step.{Outcome, phase_after_step, backed_up, step, record_count, entry_count, expired_extents}
 use Rattle.bd_model.proofs.PieceLemmas.{pieces_from, chunks_from-pieces}
 
 abbrev line : ℕ → ℕ → ℕ → ℕ → VersionLine
@@ -121,6 +124,23 @@ third_rest = refl
 third_lines : record_count three ∷ entry_count three ∷ [] ≡ 5 ∷ 9 ∷ []
 third_lines = refl
 
+-- each entry of a recipe has the version at which its chunk's run began
+starts : map (λ v. map (λ e. e.start) (recipe three v)) (1 ∷ 2 ∷ 3 ∷ []) ≡ (1 ∷ 1 ∷ 1 ∷ []) ∷ (1 ∷ 1 ∷ 2 ∷ []) ∷ (3 ∷ 1 ∷ 2 ∷ []) ∷ []
+starts = refl
+
+third_open : map (open_category three Settled) (1 ∷ 2 ∷ 3 ∷ []) ≡ (a ∷ []) ∷ (d ∷ []) ∷ (b ∷ []) ∷ []
+third_open = refl
+
+third_rows : map (rows three Settled) (1 ∷ 2 ∷ []) ≡ (row_of 1 (b ∷ []) ∷ []) ∷ (row_of 1 (c ∷ []) ∷ []) ∷ []
+third_rows = refl
+
+-- while the third version waits, the second volume grows with the cursor
+third_waiting : map (λ cursor. closed_volume three (Waiting cursor) 2) (1 ∷ 2 ∷ 3 ∷ []) ≡ [] ∷ (c ∷ []) ∷ (c ∷ []) ∷ []
+third_waiting = refl
+
+next_starts : map (phase_after_step three) (Waiting 1 ∷ Waiting 2 ∷ Waiting 3 ∷ Settled ∷ []) ≡ Waiting 2 ∷ Waiting 3 ∷ Settled ∷ Settled ∷ []
+next_starts = refl
+
 -- after an expiry
 expiry : expired_extents 64 three ∷ owned 64 three_less_one Settled ∷ [] ≡ 3 ∷ 8 ∷ []
 unfolding need owned reserve_left counted
@@ -134,22 +154,41 @@ same_twice : need 64 one abc ∷ owned 64 (history_of 0 (abc ∷ abc ∷ [])) Se
 unfolding need owned reserve_left counted
 same_twice = refl
 
+same_twice_layout : map (open_category (history_of 0 (abc ∷ abc ∷ [])) Settled) (1 ∷ 2 ∷ []) ++ closed_volume (history_of 0 (abc ∷ abc ∷ [])) Settled 1 ∷ [] ≡ abc ∷ [] ∷ [] ∷ []
+same_twice_layout = refl
+
+same_twice_starts : map (λ e. e.start) (recipe (history_of 0 (abc ∷ abc ∷ [])) 2) ≡ 1 ∷ 1 ∷ 1 ∷ []
+same_twice_starts = refl
+
 -- nothing in common
 nothing_common : need 64 none (a ∷ []) ∷ need 64 (history_of 0 ((a ∷ []) ∷ [])) (b ∷ []) ∷ owned 64 (history_of 0 ((a ∷ []) ∷ (b ∷ []) ∷ [])) Settled ∷ [] ≡ 2 ∷ 3 ∷ 4 ∷ []
 unfolding need owned reserve_left counted
 nothing_common = refl
+
+nothing_common_layout : map (open_category (history_of 0 ((a ∷ []) ∷ (b ∷ []) ∷ [])) Settled) (1 ∷ 2 ∷ []) ++ closed_volume (history_of 0 ((a ∷ []) ∷ (b ∷ []) ∷ [])) Settled 1 ∷ [] ≡ [] ∷ (b ∷ []) ∷ (a ∷ []) ∷ []
+nothing_common_layout = refl
 
 -- one chunk three times
 three_times : need 64 none (a ∷ a ∷ a ∷ []) ∷ length (fresh none (a ∷ a ∷ a ∷ [])) ∷ [] ≡ 3 ∷ 1 ∷ []
 unfolding need owned reserve_left counted
 three_times = refl
 
+three_times_recipe : let e = entry_of (history_of 0 ((a ∷ a ∷ a ∷ []) ∷ [])) 1 a in recipe (history_of 0 ((a ∷ a ∷ a ∷ []) ∷ [])) 1 ≡ e ∷ e ∷ e ∷ []
+three_times_recipe = refl
+
 -- a store that was emptied
 emptied : expired_extents 64 one ∷ need 64 (history_of 1 []) abc ∷ owned 64 (history_of 1 (abc ∷ [])) Settled ∷ [] ≡ 4 ∷ 4 ∷ 4 ∷ []
 unfolding need owned reserve_left counted
 emptied = refl
 
--- refusals: room for nine extents, and for three
+emptied_starts : map (λ e. e.start) (recipe (history_of 1 (abc ∷ [])) 2) ≡ 2 ∷ 2 ∷ 2 ∷ []
+emptied_starts = refl
+
+-- what the first chunks alone need, one after the other
+running_parts : map (running 64 none abc) (1 ∷ 2 ∷ 3 ∷ []) ≡ 2 ∷ 4 ∷ 4 ∷ []
+running_parts = refl
+
+-- refusals: five extents free, and three
 refused : counted 64 one acd 5 ∷ counted 64 none abc 3 ∷ [] ≡ 6 ∷ 4 ∷ []
 unfolding need owned reserve_left counted
 refused = refl
@@ -183,8 +222,8 @@ with_extents extents low high = record {
   };
 }
 
-abbrev shape : Shape
-shape = with_extents 16 (lit≤ tt) (lit≤ tt)
+abbrev small : Shape
+small = with_extents 16 (lit≤ tt) (lit≤ tt)
 
 -- room for nine extents, for ten, and for three
 abbrev nine : Shape
@@ -200,7 +239,7 @@ abbrev sizes_list : Sizes → List ℕ
 sizes_list s = payload_room s ∷ half_bytes s ∷ disk_bytes s ∷ []
 
 -- the small shape, the defaults, that of a soak and the greatest
-small_sizes : sizes_list (sizes_of shape) ≡ 856 ∷ 66403 ∷ 133894 ∷ []
+small_sizes : sizes_list (sizes_of small) ≡ 856 ∷ 66403 ∷ 133894 ∷ []
 small_sizes = refl
 
 default_sizes : sizes_list (record { extent = 1048576; extents = 4096; retain = 64; min = 2048; bits = 13; max = 65536 }) ≡ 158656 ∷ 224203 ∷ 4295415766 ∷ []
@@ -231,7 +270,7 @@ after_one = state_of ((a ++ b ++ c) ∷ [])
 abbrev after_three : VersionState
 after_three = state_of ((a ++ b ++ c) ∷ (a ++ c ++ d) ∷ (b ++ a ++ d) ∷ [])
 
-first_backup : backed_up shape 0 empty (a ++ b ++ c) ≡ (BackedUp 1 12 3 3 4, after_one)
+first_backup : backed_up small 0 empty (a ++ b ++ c) ≡ (BackedUp 1 12 3 3 4, after_one)
 unfolding need owned reserve_left counted
 first_backup = simp pieces
 
@@ -253,15 +292,15 @@ abbrev did : Command → Answer → VersionState → Done
 did command answer state = record { command = command; answer = answer; state = state }
 
 abbrev Each : Shape → FileMap → VersionState → List Done → Type 0
-Each shape files s [] = Unit {0}
-Each shape files s (d ∷ ds) = (step shape 0 s files d.command ≡ outcome d.answer d.state files) × Each shape files d.state ds
+Each sizes files s [] = Unit {0}
+Each sizes files s (d ∷ ds) = (step sizes 0 s files d.command ≡ outcome d.answer d.state files) × Each sizes files d.state ds
 
 -- commands that go so one by one have these answers in a row
-in_a_row : (shape : Shape) (files : FileMap) (s : VersionState) (ds : List Done) → Each shape files s ds → answers_of shape s files (unheld (map (λ d. d.command) ds)) ≡ map (λ d. d.answer) ds
-in_a_row shape files s [] each = refl
-in_a_row shape files s (d ∷ ds) each =
-    ap (λ t. map (λ o. o.answer) (elim t as (λ _. List Outcome) [ None ↦ [] | Some o ↦ o ∷ outcomes shape o.state o.files (unheld (map (λ d. d.command) ds)) ])) each.0
-    ∙ ap (λ rest. d.answer ∷ rest) (in_a_row shape files d.state ds each.1)
+in_a_row : (sizes : Shape) (files : FileMap) (s : VersionState) (ds : List Done) → Each sizes files s ds → answers_of sizes s files (unheld (map (λ d. d.command) ds)) ≡ map (λ d. d.answer) ds
+in_a_row sizes files s [] each = refl
+in_a_row sizes files s (d ∷ ds) each =
+    ap (λ t. map (λ o. o.answer) (elim t as (λ _. List Outcome) [ None ↦ [] | Some o ↦ o ∷ outcomes sizes o.state o.files (unheld (map (λ d. d.command) ds)) ])) each.0
+    ∙ ap (λ rest. d.answer ∷ rest) (in_a_row sizes files d.state ds each.1)
 
 abbrev after_two : VersionState
 after_two = state_of ((a ++ b ++ c) ∷ (a ++ c ++ d) ∷ [])
@@ -276,49 +315,49 @@ abbrev after_expiry : VersionState
 after_expiry = record after_three { expired = 1 }
 
 module _ (files : FileMap) (x y z : List ℕ) (in_x : map.get files x ≡ Some (a ++ b ++ c)) (in_y : map.get files y ≡ Some (a ++ c ++ d)) (in_z : map.get files z ≡ Some (b ++ a ++ d)) where
-  backup_one : step shape 0 empty files (Backup x) ≡ outcome (BackedUp 1 12 3 3 4) after_one files
+  backup_one : step small 0 empty files (Backup x) ≡ outcome (BackedUp 1 12 3 3 4) after_one files
   unfolding need owned reserve_left counted
   backup_one = rw in_x (simp pieces)
 
-  backup_two : step shape 0 after_one files (Backup y) ≡ outcome (BackedUp 2 12 3 1 6) after_two files
+  backup_two : step small 0 after_one files (Backup y) ≡ outcome (BackedUp 2 12 3 1 6) after_two files
   unfolding need owned reserve_left counted
   backup_two = rw in_y (simp pieces)
 
-  arrange_two : step shape 0 after_two files Reorganise ≡ outcome (Arranged 8 8) after_two files
+  arrange_two : step small 0 after_two files Reorganise ≡ outcome (Arranged 8 8) after_two files
   unfolding need owned reserve_left counted
   arrange_two = simp pieces
 
-  backup_three : step shape 0 after_two files (Backup z) ≡ outcome (BackedUp 3 12 3 1 5) after_three files
+  backup_three : step small 0 after_two files (Backup z) ≡ outcome (BackedUp 3 12 3 1 5) after_three files
   unfolding need owned reserve_left counted
   backup_three = rw in_z (simp pieces)
 
-  arrange_three : step shape 0 after_three files Reorganise ≡ outcome (Arranged 11 5) after_three files
+  arrange_three : step small 0 after_three files Reorganise ≡ outcome (Arranged 11 5) after_three files
   unfolding need owned reserve_left counted
   arrange_three = simp pieces
 
-  list_three : step shape 0 after_three files Listing ≡ outcome (Listed (record { items = line 1 12 3 3 ∷ line 2 12 3 1 ∷ line 3 12 3 1 ∷ []; spare = 0 })) after_three files
+  list_three : step small 0 after_three files Listing ≡ outcome (Listed (record { items = line 1 12 3 3 ∷ line 2 12 3 1 ∷ line 3 12 3 1 ∷ []; spare = 0 })) after_three files
   list_three = simp pieces
 
-  expire_first : step shape 0 after_three files Expire ≡ outcome (Expired 1 3) after_expiry files
+  expire_first : step small 0 after_three files Expire ≡ outcome (Expired 1 3) after_expiry files
   unfolding need owned reserve_left counted
   expire_first = simp pieces
 
-  arrange_rest : step shape 0 after_expiry files Reorganise ≡ outcome (Arranged 8 8) after_expiry files
+  arrange_rest : step small 0 after_expiry files Reorganise ≡ outcome (Arranged 8 8) after_expiry files
   unfolding need owned reserve_left counted
   arrange_rest = simp pieces
 
-  restore_given_up : step shape 0 after_expiry files (Restore 1 x) ≡ outcome (NoVersion 1 2 3) after_expiry files
+  restore_given_up : step small 0 after_expiry files (Restore 1 x) ≡ outcome (NoVersion 1 2 3) after_expiry files
   restore_given_up = refl
 
-  scrub_three : step shape 0 after_three files Scrub ≡ outcome (Scrubbed (record { records = 5; entries = 9; damaged = 0; findings = record { items = []; spare = 0 } })) after_three files
+  scrub_three : step small 0 after_three files Scrub ≡ outcome (Scrubbed (record { records = 5; entries = 9; damaged = 0; findings = record { items = []; spare = 0 } })) after_three files
   scrub_three = simp pieces
 
   -- a session from an empty store
-  three_versions : answers_of shape empty files (unheld (Backup x ∷ Backup y ∷ Reorganise ∷ Backup z ∷ Reorganise ∷ Listing ∷ Expire ∷ Reorganise ∷ Restore 1 x ∷ []))
+  three_versions : answers_of small empty files (unheld (Backup x ∷ Backup y ∷ Reorganise ∷ Backup z ∷ Reorganise ∷ Listing ∷ Expire ∷ Reorganise ∷ Restore 1 x ∷ []))
       ≡ BackedUp 1 12 3 3 4 ∷ BackedUp 2 12 3 1 6 ∷ Arranged 8 8 ∷ BackedUp 3 12 3 1 5 ∷ Arranged 11 5
       ∷ Listed (record { items = line 1 12 3 3 ∷ line 2 12 3 1 ∷ line 3 12 3 1 ∷ []; spare = 0 }) ∷ Expired 1 3 ∷ Arranged 8 8 ∷ NoVersion 1 2 3 ∷ []
   three_versions =
-      in_a_row shape files empty
+      in_a_row small files empty
       (did (Backup x) (BackedUp 1 12 3 3 4) after_one
       ∷ did (Backup y) (BackedUp 2 12 3 1 6) after_two
       ∷ did Reorganise (Arranged 8 8) after_two
@@ -332,22 +371,22 @@ module _ (files : FileMap) (x y z : List ℕ) (in_x : map.get files x ≡ Some (
       (backup_one, (backup_two, (arrange_two, (backup_three, (arrange_three, (list_three, (expire_first, (arrange_rest, (restore_given_up, tt)))))))))
 
   -- the same stream again, and one chunk three times
-  backup_again : step shape 0 after_one files (Backup x) ≡ outcome (BackedUp 2 12 3 0 2) (state_of ((a ++ b ++ c) ∷ (a ++ b ++ c) ∷ [])) files
+  backup_again : step small 0 after_one files (Backup x) ≡ outcome (BackedUp 2 12 3 0 2) (state_of ((a ++ b ++ c) ∷ (a ++ b ++ c) ∷ [])) files
   unfolding need owned reserve_left counted
   backup_again = rw in_x (simp pieces)
 
   -- a store that was emptied goes on with the numbers
-  expire_only : step shape 0 after_one files Expire ≡ outcome (Expired 1 4) emptied_state files
+  expire_only : step small 0 after_one files Expire ≡ outcome (Expired 1 4) emptied_state files
   unfolding need owned reserve_left counted
   expire_only = simp pieces
 
-  backup_after_emptied : step shape 0 emptied_state files (Backup x) ≡ outcome (BackedUp 2 12 3 3 4) refilled files
+  backup_after_emptied : step small 0 emptied_state files (Backup x) ≡ outcome (BackedUp 2 12 3 3 4) refilled files
   unfolding need owned reserve_left counted
   backup_after_emptied = rw in_x (simp pieces)
 
-  emptied_between : answers_of shape empty files (unheld (Backup x ∷ Expire ∷ Backup x ∷ [])) ≡ BackedUp 1 12 3 3 4 ∷ Expired 1 4 ∷ BackedUp 2 12 3 3 4 ∷ []
+  emptied_between : answers_of small empty files (unheld (Backup x ∷ Expire ∷ Backup x ∷ [])) ≡ BackedUp 1 12 3 3 4 ∷ Expired 1 4 ∷ BackedUp 2 12 3 3 4 ∷ []
   emptied_between =
-      in_a_row shape files empty
+      in_a_row small files empty
       (did (Backup x) (BackedUp 1 12 3 3 4) after_one ∷ did Expire (Expired 1 4) emptied_state ∷ did (Backup x) (BackedUp 2 12 3 3 4) refilled ∷ [])
       (backup_one, (expire_only, (backup_after_emptied, tt)))
 
@@ -370,56 +409,56 @@ module _ (files : FileMap) (x y z : List ℕ) (in_x : map.get files x ≡ Some (
   backup_in_three = rw in_x (simp pieces)
 
   -- no number is left
-  numbers_are_full : step shape 0 (record { base = last_number; versions = []; expired = 0 }) files (Backup x) ≡ outcome FullNumbers (record { base = last_number; versions = []; expired = 0 }) files
+  numbers_are_full : step small 0 (record { base = last_number; versions = []; expired = 0 }) files (Backup x) ≡ outcome FullNumbers (record { base = last_number; versions = []; expired = 0 }) files
   numbers_are_full = refl
 
 module _ (files : FileMap) (x y : List ℕ) where
   -- nothing in common
-  backup_a : map.get files x ≡ Some a → step shape 0 empty files (Backup x) ≡ outcome (BackedUp 1 4 1 1 2) (state_of (a ∷ [])) files
+  backup_a : map.get files x ≡ Some a → step small 0 empty files (Backup x) ≡ outcome (BackedUp 1 4 1 1 2) (state_of (a ∷ [])) files
   unfolding need owned reserve_left counted
   backup_a there = rw there (simp pieces)
 
-  backup_b : map.get files y ≡ Some b → step shape 0 (state_of (a ∷ [])) files (Backup y) ≡ outcome (BackedUp 2 4 1 1 3) (state_of (a ∷ b ∷ [])) files
+  backup_b : map.get files y ≡ Some b → step small 0 (state_of (a ∷ [])) files (Backup y) ≡ outcome (BackedUp 2 4 1 1 3) (state_of (a ∷ b ∷ [])) files
   unfolding need owned reserve_left counted
   backup_b there = rw there (simp pieces)
 
-  arrange_apart : step shape 0 (state_of (a ∷ b ∷ [])) files Reorganise ≡ outcome (Arranged 4 12) (state_of (a ∷ b ∷ [])) files
+  arrange_apart : step small 0 (state_of (a ∷ b ∷ [])) files Reorganise ≡ outcome (Arranged 4 12) (state_of (a ∷ b ∷ [])) files
   unfolding need owned reserve_left counted
   arrange_apart = simp pieces
 
-  arrange_same : step shape 0 (state_of ((a ++ b ++ c) ∷ (a ++ b ++ c) ∷ [])) files Reorganise ≡ outcome (Arranged 6 10) (state_of ((a ++ b ++ c) ∷ (a ++ b ++ c) ∷ [])) files
+  arrange_same : step small 0 (state_of ((a ++ b ++ c) ∷ (a ++ b ++ c) ∷ [])) files Reorganise ≡ outcome (Arranged 6 10) (state_of ((a ++ b ++ c) ∷ (a ++ b ++ c) ∷ [])) files
   unfolding need owned reserve_left counted
   arrange_same = simp pieces
 
-  backup_thrice : map.get files x ≡ Some (a ++ a ++ a) → step shape 0 empty files (Backup x) ≡ outcome (BackedUp 1 12 3 1 3) (state_of ((a ++ a ++ a) ∷ [])) files
+  backup_thrice : map.get files x ≡ Some (a ++ a ++ a) → step small 0 empty files (Backup x) ≡ outcome (BackedUp 1 12 3 1 3) (state_of ((a ++ a ++ a) ∷ [])) files
   unfolding need owned reserve_left counted
   backup_thrice there = rw there (simp pieces)
 
   -- nothing is retained
-  nothing_to_expire : answers_of shape empty files (unheld (Expire ∷ Restore 0 x ∷ Restore 9 x ∷ [])) ≡ NothingRetained None ∷ NothingRetained (Some 0) ∷ NothingRetained (Some 9) ∷ []
+  nothing_to_expire : answers_of small empty files (unheld (Expire ∷ Restore 0 x ∷ Restore 9 x ∷ [])) ≡ NothingRetained None ∷ NothingRetained (Some 0) ∷ NothingRetained (Some 9) ∷ []
   nothing_to_expire = refl
 
   -- empty files: the fifth is one version too many
   module _ (there : map.get files x ≡ Some []) where
-    backup_nothing : step shape 0 empty files (Backup x) ≡ outcome (BackedUp 1 0 0 0 0) (state_of ([] ∷ [])) files
+    backup_nothing : step small 0 empty files (Backup x) ≡ outcome (BackedUp 1 0 0 0 0) (state_of ([] ∷ [])) files
     unfolding need owned reserve_left counted
     backup_nothing = rw there (simp pieces)
 
-    backup_nothing_2 : step shape 0 (state_of ([] ∷ [])) files (Backup x) ≡ outcome (BackedUp 2 0 0 0 0) (state_of ([] ∷ [] ∷ [])) files
+    backup_nothing_2 : step small 0 (state_of ([] ∷ [])) files (Backup x) ≡ outcome (BackedUp 2 0 0 0 0) (state_of ([] ∷ [] ∷ [])) files
     unfolding need owned reserve_left counted
     backup_nothing_2 = rw there (simp pieces)
 
-    backup_nothing_3 : step shape 0 (state_of ([] ∷ [] ∷ [])) files (Backup x) ≡ outcome (BackedUp 3 0 0 0 0) (state_of ([] ∷ [] ∷ [] ∷ [])) files
+    backup_nothing_3 : step small 0 (state_of ([] ∷ [] ∷ [])) files (Backup x) ≡ outcome (BackedUp 3 0 0 0 0) (state_of ([] ∷ [] ∷ [] ∷ [])) files
     unfolding need owned reserve_left counted
     backup_nothing_3 = rw there (simp pieces)
 
-    backup_nothing_4 : step shape 0 (state_of ([] ∷ [] ∷ [] ∷ [])) files (Backup x) ≡ outcome (BackedUp 4 0 0 0 0) (state_of ([] ∷ [] ∷ [] ∷ [] ∷ [])) files
+    backup_nothing_4 : step small 0 (state_of ([] ∷ [] ∷ [] ∷ [])) files (Backup x) ≡ outcome (BackedUp 4 0 0 0 0) (state_of ([] ∷ [] ∷ [] ∷ [] ∷ [])) files
     unfolding need owned reserve_left counted
     backup_nothing_4 = rw there (simp pieces)
 
-    five_versions : answers_of shape empty files (unheld (Backup x ∷ Backup x ∷ Backup x ∷ Backup x ∷ Backup x ∷ [])) ≡ BackedUp 1 0 0 0 0 ∷ BackedUp 2 0 0 0 0 ∷ BackedUp 3 0 0 0 0 ∷ BackedUp 4 0 0 0 0 ∷ FullVersions 4 ∷ []
+    five_versions : answers_of small empty files (unheld (Backup x ∷ Backup x ∷ Backup x ∷ Backup x ∷ Backup x ∷ [])) ≡ BackedUp 1 0 0 0 0 ∷ BackedUp 2 0 0 0 0 ∷ BackedUp 3 0 0 0 0 ∷ BackedUp 4 0 0 0 0 ∷ FullVersions 4 ∷ []
     five_versions =
-        in_a_row shape files empty
+        in_a_row small files empty
         (did (Backup x) (BackedUp 1 0 0 0 0) (state_of ([] ∷ []))
         ∷ did (Backup x) (BackedUp 2 0 0 0 0) (state_of ([] ∷ [] ∷ []))
         ∷ did (Backup x) (BackedUp 3 0 0 0 0) (state_of ([] ∷ [] ∷ [] ∷ []))
@@ -427,3 +466,25 @@ module _ (files : FileMap) (x y : List ℕ) where
         ∷ did (Backup x) (FullVersions 4) (state_of ([] ∷ [] ∷ [] ∷ [] ∷ []))
         ∷ [])
         (backup_nothing, (backup_nothing_2, (backup_nothing_3, (backup_nothing_4, (refl, tt)))))
+
+-- The lines of answers.
+lines_of_backups : map answer_text (BackedUp 1 12 3 3 4 ∷ BackedUp 2 12 3 1 6 ∷ BackedUp 1 0 0 0 0 ∷ [])
+    ≡ codes "version 1: 12 bytes, 3 chunks, 3 new, need 4\n" ∷ codes "version 2: 12 bytes, 3 chunks, 1 new, need 6\n" ∷ codes "version 1: 0 bytes, 0 chunks, 0 new, need 0\n" ∷ []
+unfolding digits
+lines_of_backups = refl
+
+lines_of_refusals : map answer_text (FullNumbers ∷ FullVersions 4 ∷ FullExtents 6 5 0 ∷ [])
+    ≡ codes "full: numbers\n" ∷ codes "full: 4 versions\n" ∷ codes "full: counted 6, free 5, held 0\n" ∷ []
+unfolding digits
+lines_of_refusals = refl
+
+lines_of_others : map answer_text (Restored 1 12 ∷ Expired 1 3 ∷ Arranged 11 5 ∷ NoVersion 1 2 3 ∷ NothingRetained None ∷ NothingRetained (Some 9) ∷ Formatted ∷ [])
+    ≡ codes "restored 1: 12 bytes\n" ∷ codes "expired 1: 3 extents\n" ∷ codes "arranged: 11 owned, 5 free\n" ∷ codes "no version 1: retained 2 to 3\n"
+    ∷ codes "no version: none retained\n" ∷ codes "no version 9: none retained\n" ∷ codes "formatted\n" ∷ []
+unfolding digits
+lines_of_others = refl
+
+lines_of_reports : texts (Listed (record { items = line 1 12 3 3 ∷ line 2 12 3 1 ∷ []; spare = 0 }) ∷ Scrubbed (record { records = 5; entries = 9; damaged = 0; findings = record { items = []; spare = 0 } }) ∷ [])
+    ≡ codes "1 12 3 3\n2 12 3 1\n2 versions\nscrub: 5 records, 9 entries, 0 damaged\n"
+unfolding digits
+lines_of_reports = refl
