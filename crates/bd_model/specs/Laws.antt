@@ -1,5 +1,5 @@
 -- What holds of the definitions, in the words of the subject. Each law stands on a function of its own.
-use Rattle.std.specs.Prelude.{◌≡◌, ◌≢◌, ◌↔◌, ◌⊎◌, ℕ, zero, suc, ◌+◌, ◌-◌, ◌*◌, ◌%◌, ◌^◌, ◌<◌, ◌≤◌, max, ◌&&◌, List, [], ◌∷◌, ◌++◌, length, map, filter, flat_map, take, fold, slice_index, slice_range, nat_lt, ◌==◌, if◌then◌else◌, IfSome, IsTrue}
+use Rattle.std.specs.Prelude.{◌≡◌, ◌≢◌, ◌↔◌, ◌⊎◌, ℕ, zero, suc, ◌+◌, ◌-◌, ◌*◌, ◌%◌, ◌^◌, ◌<◌, ◌≤◌, max, ◌&&◌, List, [], ◌∷◌, ◌++◌, length, map, filter, flat_map, sum_by, take, fold, slice_index, slice_range, nat_lt, ◌==◌, if◌then◌else◌, IfSome, IsTrue}
 use Rattle.std.specs.Str.{bytes_eq}
 use Rattle.std.specs.List.{concat}
 use Rattle.bd_model.specs.declared.shape.Shape.{Shape}
@@ -10,7 +10,7 @@ use Rattle.bd_model.specs.declared.layout.Phase.{Phase}
 use Rattle.bd_model.specs.declared.layout.Phase.TheVariants.{Settled, Waiting}
 use Rattle.bd_model.specs.Chunks.{Cut, numbers, gear, window_hash, chunk_len, is_decided, chunks_after, chunks}
 use Rattle.bd_model.specs.FileMap.{FileMap}
-use Rattle.bd_model.specs.History.{History, version, contains, newest, oldest, retained}
+use Rattle.bd_model.specs.History.{History, version, contains, distinct, newest, oldest, retained}
 use Rattle.bd_model.specs.Category.{category}
 use Rattle.bd_model.specs.Layout.{record_bytes, row_of, rows, row_chunks, closed_volume, open_category, arranged_to, is_arranged}
 use Rattle.bd_model.specs.Marks.{mark, Distinct, Near}
@@ -152,6 +152,18 @@ pub record AVersionUsesAFront : Type 0 where
   pub front : (h : History) (phase : Phase) (v j : ℕ) → oldest h ≤ v → v ≤ j → closed_volume h phase j ≡ front_of h phase j v ++ flat_map (row_chunks h phase j) (numbers (v + 1) j)
   pub used : (h : History) (phase : Phase) (v j : ℕ) (c : List ℕ) → oldest h ≤ v → v ≤ j → IsTrue (contains (front_of h phase j v) c) → IsTrue (contains (version h v) c)
   pub open_used : (h : History) (phase : Phase) (v i : ℕ) (c : List ℕ) → i ≤ v → v ≤ arranged_to h phase i → IsTrue (contains (open_category h phase i) c) → IsTrue (contains (version h v) c)
+
+-- what a restore of version v finds: the front of its own closed volume and of each later one, and of each open category
+-- that begins up to it what it uses
+abbrev pub walk : History → Phase → ℕ → List (List ℕ)
+walk h phase v =
+    flat_map (λ j. front_of h phase j v) (numbers v (newest h - 1))
+    ++ flat_map (λ i. filter (contains (version h v)) (open_category h phase i)) (numbers (h.base + 1) v)
+
+-- In every phase a restore finds each different chunk of its version once: whatever is summed over the chunks that it
+-- finds and over the version's different chunks is the same.
+abbrev pub ARestoreFindsEachChunkOnce : Type 0
+ARestoreFindsEachChunkOnce = (f : List ℕ → ℕ) (h : History) (phase : Phase) (v : ℕ) → oldest h ≤ v → v ≤ newest h → sum_by f (walk h phase v) ≡ sum_by f (distinct (version h v))
 
 -- A backup needs extents for its fresh chunks and its recipe, which it takes, and for the reserve, which is free
 -- afterwards and of which arranging takes its part at each start. The first version has no reserve.
