@@ -45,7 +45,7 @@ module _ (h : History) (c : List ℕ) where
       (sym (ap (list_all (λ u. contains (version h u) c)) (numbers-split i v j (omega arith) high) ∙ list_all-append (λ u. contains (version h u) c) (numbers i v) (numbers (v + 1) j)) ∙ all)
 
   -- what lies in a category begins with it, lasts through it and ends with it
-  in_living : (i j : ℕ) → contains (living h i j) c ≡ true → (begins h i c && lasts h i j c) ≡ true
+  pub in_living : (i j : ℕ) → contains (living h i j) c ≡ true → (begins h i c && lasts h i j c) ≡ true
   in_living i j has = right_and (contains (version h i) c) _ (sym (contains-filter_distinct (λ d. begins h i d && lasts h i j d) (version h i) c) ∙ has)
 
   in_category : (i j : ℕ) → contains (category h i j) c ≡ true → ((begins h i c && lasts h i j c) ≡ true) × (ends h j c ≡ true)

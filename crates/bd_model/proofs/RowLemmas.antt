@@ -41,7 +41,7 @@ row_of-append : (r : ℕ) (cs ds : List (List ℕ)) → row_of r (cs ++ ds) ≡ 
 row_of-append r cs ds = λ k. record { start = r; chunks = length-append cs ds k; bytes = sum_by-append (λ c. 36 + length c) cs ds k }
 
 -- the rows of these starts, where `f` gives the chunks of each
-abbrev rows_over : (ℕ → List (List ℕ)) → List ℕ → List CategoryRow
+abbrev pub rows_over : (ℕ → List (List ℕ)) → List ℕ → List CategoryRow
 rows_over f starts = filter (λ row. nat_lt 0 row.chunks) (map (λ r. row_of r (f r)) starts)
 
 abbrev row_or_none : ℕ → List (List ℕ) → List CategoryRow

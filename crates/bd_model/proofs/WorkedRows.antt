@@ -1,24 +1,31 @@
 -- The definitions on small histories, computed.
-use Rattle.std.proofs.Common.{◌≡◌, ℕ, List, [], ◌∷◌, ◌++◌, refl, map, length}
+use Rattle.std.proofs.Common.{◌≡◌, ◌≤◌, ℕ, List, [], ◌∷◌, ◌++◌, refl, ◌∙◌, ap, map, length}
 use Rattle.bd_model.specs.History.{History}
 use Rattle.bd_model.specs.Category.{category}
 use Rattle.bd_model.specs.Layout.{closed_volume, open_category, rows, row_of}
 use Rattle.bd_model.specs.declared.layout.Phase.TheVariants.{Settled, Waiting}
-use Rattle.bd_model.specs.Room.{need, counted, owned, fresh, reserve_left}
-use Rattle.std.specs.Prelude.{Some, option_map, IsTrue}
+use Rattle.bd_model.specs.Room.{need, counted, running, owned, fresh, reserve_left}
+use Rattle.bd_model.specs.Recipe.{recipe, entry_of}
+use Rattle.std.specs.Prelude.{codes, Option, Some, None, option_map, IsTrue}
 use Rattle.std.specs.Int.{is_power_of_two}
 use lib.Count.{ones}
 use Rattle.std.proofs.Common.{lit≤}
+use Rattle.std.specs.Fmt.{digits}
 use Rattle.std.specs.FinMap as map
 use Rattle.bd_model.specs.declared.shape.Shape.{Shape}
-use Rattle.bd_model.specs.declared.command.Command.TheVariants.{Backup, Expire, List as Listing}
-use Rattle.bd_model.specs.declared.answer.Answer.TheVariants.{BackedUp, Expired, Listed}
+use Rattle.bd_model.specs.declared.command.Command.{Command}
+use Rattle.bd_model.specs.declared.command.Command.TheVariants.{Backup, Restore, Expire, Reorganise, Scrub, List as Listing}
+use Rattle.bd_model.specs.declared.answer.Answer.{Answer}
+use Rattle.bd_model.specs.Folds.{answers_of, outcomes, unheld}
+use Rattle.bd_model.specs.declared.answer.Answer.TheVariants.{BackedUp, Restored, Expired, Arranged, Scrubbed, Listed, FullNumbers, FullVersions, FullExtents, NoVersion, NothingRetained, Formatted}
 use Rattle.bd_model.specs.declared.answer.VersionLine.{VersionLine}
-use Rattle.bd_model.specs.Shapes.{payload_room, half_bytes, disk_bytes}
+use Rattle.bd_model.specs.Shapes.{payload_room as shape_room, half_bytes as shape_half, disk_bytes as shape_disk}
+use Rattle.bd_model.specs.Sizes.{Sizes, sizes_of, payload_room, half_bytes, disk_bytes}
 use Rattle.bd_model.specs.Chunks.{chunks_from}
+use Rattle.bd_model.specs.Texts.{answer_text, texts}
 use Rattle.bd_model.specs.FileMap.{FileMap}
-use Rattle.bd_model.specs.State.{Version, VersionState, empty, cut_of}
-use Rattle.bd_model.specs.Step.{backed_up, step, record_count, entry_count, expired_extents}
+use Rattle.bd_model.specs.State.{Version, VersionState, empty, cut_of, last_number}
+use Rattle.bd_model.specs.Step.{Outcome, phase_after_step, backed_up, step, record_count, entry_count, expired_extents}
 use Rattle.bd_model.proofs.PieceLemmas.{pieces_from, chunks_from-pieces}
 
 abbrev line : ℕ → ℕ → ℕ → ℕ → VersionLine
@@ -117,6 +124,23 @@ third_rest = refl
 third_lines : record_count three ∷ entry_count three ∷ [] ≡ 5 ∷ 9 ∷ []
 third_lines = refl
 
+-- each entry of a recipe has the version at which its chunk's run began
+starts : map (λ v. map (λ e. e.start) (recipe three v)) (1 ∷ 2 ∷ 3 ∷ []) ≡ (1 ∷ 1 ∷ 1 ∷ []) ∷ (1 ∷ 1 ∷ 2 ∷ []) ∷ (3 ∷ 1 ∷ 2 ∷ []) ∷ []
+starts = refl
+
+third_open : map (open_category three Settled) (1 ∷ 2 ∷ 3 ∷ []) ≡ (a ∷ []) ∷ (d ∷ []) ∷ (b ∷ []) ∷ []
+third_open = refl
+
+third_rows : map (rows three Settled) (1 ∷ 2 ∷ []) ≡ (row_of 1 (b ∷ []) ∷ []) ∷ (row_of 1 (c ∷ []) ∷ []) ∷ []
+third_rows = refl
+
+-- while the third version waits, the second volume grows with the cursor
+third_waiting : map (λ cursor. closed_volume three (Waiting cursor) 2) (1 ∷ 2 ∷ 3 ∷ []) ≡ [] ∷ (c ∷ []) ∷ (c ∷ []) ∷ []
+third_waiting = refl
+
+next_starts : map (phase_after_step three) (Waiting 1 ∷ Waiting 2 ∷ Waiting 3 ∷ Settled ∷ []) ≡ Waiting 2 ∷ Waiting 3 ∷ Settled ∷ Settled ∷ []
+next_starts = refl
+
 -- after an expiry
 expiry : expired_extents 64 three ∷ owned 64 three_less_one Settled ∷ [] ≡ 3 ∷ 8 ∷ []
 unfolding need owned reserve_left counted
@@ -130,22 +154,41 @@ same_twice : need 64 one abc ∷ owned 64 (history_of 0 (abc ∷ abc ∷ [])) Se
 unfolding need owned reserve_left counted
 same_twice = refl
 
+same_twice_layout : map (open_category (history_of 0 (abc ∷ abc ∷ [])) Settled) (1 ∷ 2 ∷ []) ++ closed_volume (history_of 0 (abc ∷ abc ∷ [])) Settled 1 ∷ [] ≡ abc ∷ [] ∷ [] ∷ []
+same_twice_layout = refl
+
+same_twice_starts : map (λ e. e.start) (recipe (history_of 0 (abc ∷ abc ∷ [])) 2) ≡ 1 ∷ 1 ∷ 1 ∷ []
+same_twice_starts = refl
+
 -- nothing in common
 nothing_common : need 64 none (a ∷ []) ∷ need 64 (history_of 0 ((a ∷ []) ∷ [])) (b ∷ []) ∷ owned 64 (history_of 0 ((a ∷ []) ∷ (b ∷ []) ∷ [])) Settled ∷ [] ≡ 2 ∷ 3 ∷ 4 ∷ []
 unfolding need owned reserve_left counted
 nothing_common = refl
+
+nothing_common_layout : map (open_category (history_of 0 ((a ∷ []) ∷ (b ∷ []) ∷ [])) Settled) (1 ∷ 2 ∷ []) ++ closed_volume (history_of 0 ((a ∷ []) ∷ (b ∷ []) ∷ [])) Settled 1 ∷ [] ≡ [] ∷ (b ∷ []) ∷ (a ∷ []) ∷ []
+nothing_common_layout = refl
 
 -- one chunk three times
 three_times : need 64 none (a ∷ a ∷ a ∷ []) ∷ length (fresh none (a ∷ a ∷ a ∷ [])) ∷ [] ≡ 3 ∷ 1 ∷ []
 unfolding need owned reserve_left counted
 three_times = refl
 
+three_times_recipe : let e = entry_of (history_of 0 ((a ∷ a ∷ a ∷ []) ∷ [])) 1 a in recipe (history_of 0 ((a ∷ a ∷ a ∷ []) ∷ [])) 1 ≡ e ∷ e ∷ e ∷ []
+three_times_recipe = refl
+
 -- a store that was emptied
 emptied : expired_extents 64 one ∷ need 64 (history_of 1 []) abc ∷ owned 64 (history_of 1 (abc ∷ [])) Settled ∷ [] ≡ 4 ∷ 4 ∷ 4 ∷ []
 unfolding need owned reserve_left counted
 emptied = refl
 
--- refusals: room for nine extents, and for three
+emptied_starts : map (λ e. e.start) (recipe (history_of 1 (abc ∷ [])) 2) ≡ 2 ∷ 2 ∷ 2 ∷ []
+emptied_starts = refl
+
+-- what the first chunks alone need, one after the other
+running_parts : map (running 64 none abc) (1 ∷ 2 ∷ 3 ∷ []) ≡ 2 ∷ 4 ∷ 4 ∷ []
+running_parts = refl
+
+-- refusals: five extents free, and three
 refused : counted 64 one acd 5 ∷ counted 64 none abc 3 ∷ [] ≡ 6 ∷ 4 ∷ []
 unfolding need owned reserve_left counted
 refused = refl
@@ -155,10 +198,10 @@ power_64 : IsTrue (is_power_of_two 64)
 unfolding ones
 power_64 = refl
 
-abbrev shape : Shape
-shape = record {
+abbrev with_extents : (extents : ℕ) → 1 ≤ extents → extents ≤ 65536 → Shape
+with_extents extents low high = record {
   extent = 64;
-  extents = 16;
+  extents = extents;
   retain = 4;
   min = 4;
   bits = 0;
@@ -167,8 +210,8 @@ shape = record {
     power_of_two = power_64;
     extent_low = lit≤ tt;
     extent_high = lit≤ tt;
-    extents_low = lit≤ tt;
-    extents_high = lit≤ tt;
+    extents_low = low;
+    extents_high = high;
     retain_low = lit≤ tt;
     retain_high = lit≤ tt;
     min_low = lit≤ tt;
@@ -179,31 +222,269 @@ shape = record {
   };
 }
 
-sizes : payload_room shape ∷ half_bytes shape ∷ disk_bytes shape ∷ [] ≡ 856 ∷ 66403 ∷ 133894 ∷ []
-sizes = refl
+abbrev small : Shape
+small = with_extents 16 (lit≤ tt) (lit≤ tt)
 
-pieces : (s : List ℕ) (start count : ℕ) → chunks_from (cut_of shape) s start count ≡ pieces_from 4 s start count
-pieces s start count = chunks_from-pieces (cut_of shape) s start count refl (lit≤ tt)
+-- room for nine extents, for ten, and for three
+abbrev nine : Shape
+nine = with_extents 9 (lit≤ tt) (lit≤ tt)
+
+abbrev ten : Shape
+ten = with_extents 10 (lit≤ tt) (lit≤ tt)
+
+abbrev few : Shape
+few = with_extents 3 (lit≤ tt) (lit≤ tt)
+
+abbrev sizes_list : Sizes → List ℕ
+sizes_list s = payload_room s ∷ half_bytes s ∷ disk_bytes s ∷ []
+
+-- the small shape, the defaults, that of a soak and the greatest
+small_sizes : sizes_list (sizes_of small) ≡ 856 ∷ 66403 ∷ 133894 ∷ []
+small_sizes = refl
+
+default_sizes : sizes_list (record { extent = 1048576; extents = 4096; retain = 64; min = 2048; bits = 13; max = 65536 }) ≡ 158656 ∷ 224203 ∷ 4295415766 ∷ []
+default_sizes = refl
+
+soak_sizes : sizes_list (record { extent = 1048576; extents = 160; retain = 16; min = 2048; bits = 13; max = 65536 }) ≡ 7840 ∷ 73387 ∷ 167918998 ∷ []
+soak_sizes = refl
+
+greatest_sizes : sizes_list (record { extent = 16777216; extents = 65536; retain = 256; min = 65536; bits = 32; max = 65536 }) ≡ 2502208 ∷ 2567755 ∷ 1099516763350 ∷ []
+greatest_sizes = refl
+
+-- a shape and its plain sizes take the same room
+same_sizes : (s : Shape) → sizes_list (sizes_of s) ≡ shape_room s ∷ shape_half s ∷ shape_disk s ∷ []
+same_sizes s = refl
+
+pieces : (extents : ℕ) (low : 1 ≤ extents) (high : extents ≤ 65536) (s : List ℕ) (start count : ℕ) → chunks_from (cut_of (with_extents extents low high)) s start count ≡ pieces_from 4 s start count
+pieces extents low high s start count = chunks_from-pieces (cut_of (with_extents extents low high)) s start count refl (lit≤ tt)
 
 abbrev given_as : List ℕ → Version
 given_as stream = record { stream = stream }
 
-first_backup : backed_up shape 0 empty (a ++ b ++ c) ≡ (BackedUp 1 12 3 3 4, record { base = 0; versions = given_as (a ++ b ++ c) ∷ []; expired = 0 })
+abbrev state_of : List (List ℕ) → VersionState
+state_of streams = record { base = 0; versions = map given_as streams; expired = 0 }
+
+abbrev after_one : VersionState
+after_one = state_of ((a ++ b ++ c) ∷ [])
+
+abbrev after_three : VersionState
+after_three = state_of ((a ++ b ++ c) ∷ (a ++ c ++ d) ∷ (b ++ a ++ d) ∷ [])
+
+first_backup : backed_up small 0 empty (a ++ b ++ c) ≡ (BackedUp 1 12 3 3 4, after_one)
 unfolding need owned reserve_left counted
 first_backup = simp pieces
 
-abbrev after_three : VersionState
-after_three = record { base = 0; versions = given_as (a ++ b ++ c) ∷ given_as (a ++ c ++ d) ∷ given_as (b ++ a ++ d) ∷ []; expired = 0 }
-
-expire_step : option_map (λ o. o.answer) (step shape 0 after_three map.empty Expire) ≡ Some (Expired 1 3)
+second_without_room : backed_up nine 0 after_one (a ++ c ++ d) ≡ (FullExtents 6 5 0, after_one)
 unfolding need owned reserve_left counted
-expire_step = simp pieces
+second_without_room = simp pieces
 
-list_step : option_map (λ o. o.answer) (step shape 0 after_three map.empty Listing)
-    ≡ Some (Listed (record { items = line 1 12 3 3 ∷ line 2 12 3 1 ∷ line 3 12 3 1 ∷ []; spare = 0 }))
-list_step = simp pieces
+-- the outcome of a command, `files` being as they are
+abbrev outcome : Answer → VersionState → FileMap → Option Outcome
+outcome answer s files = Some (record { answer = answer; state = s; files = files })
 
--- the first backup, from files that have the stream under the name
-backup_step : (files : FileMap) (name : List ℕ) → map.get files name ≡ Some (a ++ b ++ c) → option_map (λ o. o.answer) (step shape 0 empty files (Backup name)) ≡ Some (BackedUp 1 12 3 3 4)
-unfolding need owned reserve_left counted
-backup_step files name there = rw there (simp pieces)
+-- a command with its answer and the state that it leaves, none of which touches the files
+record Done : Type 0 where
+  command : Command
+  answer : Answer
+  state : VersionState
+
+abbrev did : Command → Answer → VersionState → Done
+did command answer state = record { command = command; answer = answer; state = state }
+
+abbrev Each : Shape → FileMap → VersionState → List Done → Type 0
+Each sizes files s [] = Unit {0}
+Each sizes files s (d ∷ ds) = (step sizes 0 s files d.command ≡ outcome d.answer d.state files) × Each sizes files d.state ds
+
+-- commands that go so one by one have these answers in a row
+in_a_row : (sizes : Shape) (files : FileMap) (s : VersionState) (ds : List Done) → Each sizes files s ds → answers_of sizes s files (unheld (map (λ d. d.command) ds)) ≡ map (λ d. d.answer) ds
+in_a_row sizes files s [] each = refl
+in_a_row sizes files s (d ∷ ds) each =
+    ap (λ t. map (λ o. o.answer) (elim t as (λ _. List Outcome) [ None ↦ [] | Some o ↦ o ∷ outcomes sizes o.state o.files (unheld (map (λ d. d.command) ds)) ])) each.0
+    ∙ ap (λ rest. d.answer ∷ rest) (in_a_row sizes files d.state ds each.1)
+
+abbrev after_two : VersionState
+after_two = state_of ((a ++ b ++ c) ∷ (a ++ c ++ d) ∷ [])
+
+abbrev emptied_state : VersionState
+emptied_state = record { base = 1; versions = []; expired = 0 }
+
+abbrev refilled : VersionState
+refilled = record { base = 1; versions = given_as (a ++ b ++ c) ∷ []; expired = 0 }
+
+abbrev after_expiry : VersionState
+after_expiry = record after_three { expired = 1 }
+
+module _ (files : FileMap) (x y z : List ℕ) (in_x : map.get files x ≡ Some (a ++ b ++ c)) (in_y : map.get files y ≡ Some (a ++ c ++ d)) (in_z : map.get files z ≡ Some (b ++ a ++ d)) where
+  backup_one : step small 0 empty files (Backup x) ≡ outcome (BackedUp 1 12 3 3 4) after_one files
+  unfolding need owned reserve_left counted
+  backup_one = rw in_x (simp pieces)
+
+  backup_two : step small 0 after_one files (Backup y) ≡ outcome (BackedUp 2 12 3 1 6) after_two files
+  unfolding need owned reserve_left counted
+  backup_two = rw in_y (simp pieces)
+
+  arrange_two : step small 0 after_two files Reorganise ≡ outcome (Arranged 8 8) after_two files
+  unfolding need owned reserve_left counted
+  arrange_two = simp pieces
+
+  backup_three : step small 0 after_two files (Backup z) ≡ outcome (BackedUp 3 12 3 1 5) after_three files
+  unfolding need owned reserve_left counted
+  backup_three = rw in_z (simp pieces)
+
+  arrange_three : step small 0 after_three files Reorganise ≡ outcome (Arranged 11 5) after_three files
+  unfolding need owned reserve_left counted
+  arrange_three = simp pieces
+
+  list_three : step small 0 after_three files Listing ≡ outcome (Listed (record { items = line 1 12 3 3 ∷ line 2 12 3 1 ∷ line 3 12 3 1 ∷ []; spare = 0 })) after_three files
+  list_three = simp pieces
+
+  expire_first : step small 0 after_three files Expire ≡ outcome (Expired 1 3) after_expiry files
+  unfolding need owned reserve_left counted
+  expire_first = simp pieces
+
+  arrange_rest : step small 0 after_expiry files Reorganise ≡ outcome (Arranged 8 8) after_expiry files
+  unfolding need owned reserve_left counted
+  arrange_rest = simp pieces
+
+  restore_given_up : step small 0 after_expiry files (Restore 1 x) ≡ outcome (NoVersion 1 2 3) after_expiry files
+  restore_given_up = refl
+
+  scrub_three : step small 0 after_three files Scrub ≡ outcome (Scrubbed (record { records = 5; entries = 9; damaged = 0; findings = record { items = []; spare = 0 } })) after_three files
+  scrub_three = simp pieces
+
+  -- a session from an empty store
+  three_versions : answers_of small empty files (unheld (Backup x ∷ Backup y ∷ Reorganise ∷ Backup z ∷ Reorganise ∷ Listing ∷ Expire ∷ Reorganise ∷ Restore 1 x ∷ []))
+      ≡ BackedUp 1 12 3 3 4 ∷ BackedUp 2 12 3 1 6 ∷ Arranged 8 8 ∷ BackedUp 3 12 3 1 5 ∷ Arranged 11 5
+      ∷ Listed (record { items = line 1 12 3 3 ∷ line 2 12 3 1 ∷ line 3 12 3 1 ∷ []; spare = 0 }) ∷ Expired 1 3 ∷ Arranged 8 8 ∷ NoVersion 1 2 3 ∷ []
+  three_versions =
+      in_a_row small files empty
+      (did (Backup x) (BackedUp 1 12 3 3 4) after_one
+      ∷ did (Backup y) (BackedUp 2 12 3 1 6) after_two
+      ∷ did Reorganise (Arranged 8 8) after_two
+      ∷ did (Backup z) (BackedUp 3 12 3 1 5) after_three
+      ∷ did Reorganise (Arranged 11 5) after_three
+      ∷ did Listing (Listed (record { items = line 1 12 3 3 ∷ line 2 12 3 1 ∷ line 3 12 3 1 ∷ []; spare = 0 })) after_three
+      ∷ did Expire (Expired 1 3) after_expiry
+      ∷ did Reorganise (Arranged 8 8) after_expiry
+      ∷ did (Restore 1 x) (NoVersion 1 2 3) after_expiry
+      ∷ [])
+      (backup_one, (backup_two, (arrange_two, (backup_three, (arrange_three, (list_three, (expire_first, (arrange_rest, (restore_given_up, tt)))))))))
+
+  -- the same stream again, and one chunk three times
+  backup_again : step small 0 after_one files (Backup x) ≡ outcome (BackedUp 2 12 3 0 2) (state_of ((a ++ b ++ c) ∷ (a ++ b ++ c) ∷ [])) files
+  unfolding need owned reserve_left counted
+  backup_again = rw in_x (simp pieces)
+
+  -- a store that was emptied goes on with the numbers
+  expire_only : step small 0 after_one files Expire ≡ outcome (Expired 1 4) emptied_state files
+  unfolding need owned reserve_left counted
+  expire_only = simp pieces
+
+  backup_after_emptied : step small 0 emptied_state files (Backup x) ≡ outcome (BackedUp 2 12 3 3 4) refilled files
+  unfolding need owned reserve_left counted
+  backup_after_emptied = rw in_x (simp pieces)
+
+  emptied_between : answers_of small empty files (unheld (Backup x ∷ Expire ∷ Backup x ∷ [])) ≡ BackedUp 1 12 3 3 4 ∷ Expired 1 4 ∷ BackedUp 2 12 3 3 4 ∷ []
+  emptied_between =
+      in_a_row small files empty
+      (did (Backup x) (BackedUp 1 12 3 3 4) after_one ∷ did Expire (Expired 1 4) emptied_state ∷ did (Backup x) (BackedUp 2 12 3 3 4) refilled ∷ [])
+      (backup_one, (expire_only, (backup_after_emptied, tt)))
+
+  -- too little room for the second version, and just enough
+  backup_in_nine : step nine 0 after_one files (Backup y) ≡ outcome (FullExtents 6 5 0) after_one files
+  unfolding need owned reserve_left counted
+  backup_in_nine = rw in_y (simp pieces)
+
+  backup_in_ten : step ten 0 after_one files (Backup y) ≡ outcome (BackedUp 2 12 3 1 6) after_two files
+  unfolding need owned reserve_left counted
+  backup_in_ten = rw in_y (simp pieces)
+
+  arrange_ten : step ten 0 after_two files Reorganise ≡ outcome (Arranged 8 2) after_two files
+  unfolding need owned reserve_left counted
+  arrange_ten = simp pieces
+
+  -- refused after the second chunk
+  backup_in_three : step few 0 empty files (Backup x) ≡ outcome (FullExtents 4 3 0) empty files
+  unfolding need owned reserve_left counted
+  backup_in_three = rw in_x (simp pieces)
+
+  -- no number is left
+  numbers_are_full : step small 0 (record { base = last_number; versions = []; expired = 0 }) files (Backup x) ≡ outcome FullNumbers (record { base = last_number; versions = []; expired = 0 }) files
+  numbers_are_full = refl
+
+module _ (files : FileMap) (x y : List ℕ) where
+  -- nothing in common
+  backup_a : map.get files x ≡ Some a → step small 0 empty files (Backup x) ≡ outcome (BackedUp 1 4 1 1 2) (state_of (a ∷ [])) files
+  unfolding need owned reserve_left counted
+  backup_a there = rw there (simp pieces)
+
+  backup_b : map.get files y ≡ Some b → step small 0 (state_of (a ∷ [])) files (Backup y) ≡ outcome (BackedUp 2 4 1 1 3) (state_of (a ∷ b ∷ [])) files
+  unfolding need owned reserve_left counted
+  backup_b there = rw there (simp pieces)
+
+  arrange_apart : step small 0 (state_of (a ∷ b ∷ [])) files Reorganise ≡ outcome (Arranged 4 12) (state_of (a ∷ b ∷ [])) files
+  unfolding need owned reserve_left counted
+  arrange_apart = simp pieces
+
+  arrange_same : step small 0 (state_of ((a ++ b ++ c) ∷ (a ++ b ++ c) ∷ [])) files Reorganise ≡ outcome (Arranged 6 10) (state_of ((a ++ b ++ c) ∷ (a ++ b ++ c) ∷ [])) files
+  unfolding need owned reserve_left counted
+  arrange_same = simp pieces
+
+  backup_thrice : map.get files x ≡ Some (a ++ a ++ a) → step small 0 empty files (Backup x) ≡ outcome (BackedUp 1 12 3 1 3) (state_of ((a ++ a ++ a) ∷ [])) files
+  unfolding need owned reserve_left counted
+  backup_thrice there = rw there (simp pieces)
+
+  -- nothing is retained
+  nothing_to_expire : answers_of small empty files (unheld (Expire ∷ Restore 0 x ∷ Restore 9 x ∷ [])) ≡ NothingRetained None ∷ NothingRetained (Some 0) ∷ NothingRetained (Some 9) ∷ []
+  nothing_to_expire = refl
+
+  -- empty files: the fifth is one version too many
+  module _ (there : map.get files x ≡ Some []) where
+    backup_nothing : step small 0 empty files (Backup x) ≡ outcome (BackedUp 1 0 0 0 0) (state_of ([] ∷ [])) files
+    unfolding need owned reserve_left counted
+    backup_nothing = rw there (simp pieces)
+
+    backup_nothing_2 : step small 0 (state_of ([] ∷ [])) files (Backup x) ≡ outcome (BackedUp 2 0 0 0 0) (state_of ([] ∷ [] ∷ [])) files
+    unfolding need owned reserve_left counted
+    backup_nothing_2 = rw there (simp pieces)
+
+    backup_nothing_3 : step small 0 (state_of ([] ∷ [] ∷ [])) files (Backup x) ≡ outcome (BackedUp 3 0 0 0 0) (state_of ([] ∷ [] ∷ [] ∷ [])) files
+    unfolding need owned reserve_left counted
+    backup_nothing_3 = rw there (simp pieces)
+
+    backup_nothing_4 : step small 0 (state_of ([] ∷ [] ∷ [] ∷ [])) files (Backup x) ≡ outcome (BackedUp 4 0 0 0 0) (state_of ([] ∷ [] ∷ [] ∷ [] ∷ [])) files
+    unfolding need owned reserve_left counted
+    backup_nothing_4 = rw there (simp pieces)
+
+    five_versions : answers_of small empty files (unheld (Backup x ∷ Backup x ∷ Backup x ∷ Backup x ∷ Backup x ∷ [])) ≡ BackedUp 1 0 0 0 0 ∷ BackedUp 2 0 0 0 0 ∷ BackedUp 3 0 0 0 0 ∷ BackedUp 4 0 0 0 0 ∷ FullVersions 4 ∷ []
+    five_versions =
+        in_a_row small files empty
+        (did (Backup x) (BackedUp 1 0 0 0 0) (state_of ([] ∷ []))
+        ∷ did (Backup x) (BackedUp 2 0 0 0 0) (state_of ([] ∷ [] ∷ []))
+        ∷ did (Backup x) (BackedUp 3 0 0 0 0) (state_of ([] ∷ [] ∷ [] ∷ []))
+        ∷ did (Backup x) (BackedUp 4 0 0 0 0) (state_of ([] ∷ [] ∷ [] ∷ [] ∷ []))
+        ∷ did (Backup x) (FullVersions 4) (state_of ([] ∷ [] ∷ [] ∷ [] ∷ []))
+        ∷ [])
+        (backup_nothing, (backup_nothing_2, (backup_nothing_3, (backup_nothing_4, (refl, tt)))))
+
+-- The lines of answers.
+lines_of_backups : map answer_text (BackedUp 1 12 3 3 4 ∷ BackedUp 2 12 3 1 6 ∷ BackedUp 1 0 0 0 0 ∷ [])
+    ≡ codes "version 1: 12 bytes, 3 chunks, 3 new, need 4\n" ∷ codes "version 2: 12 bytes, 3 chunks, 1 new, need 6\n" ∷ codes "version 1: 0 bytes, 0 chunks, 0 new, need 0\n" ∷ []
+unfolding digits
+lines_of_backups = refl
+
+lines_of_refusals : map answer_text (FullNumbers ∷ FullVersions 4 ∷ FullExtents 6 5 0 ∷ [])
+    ≡ codes "full: numbers\n" ∷ codes "full: 4 versions\n" ∷ codes "full: counted 6, free 5, held 0\n" ∷ []
+unfolding digits
+lines_of_refusals = refl
+
+lines_of_others : map answer_text (Restored 1 12 ∷ Expired 1 3 ∷ Arranged 11 5 ∷ NoVersion 1 2 3 ∷ NothingRetained None ∷ NothingRetained (Some 9) ∷ Formatted ∷ [])
+    ≡ codes "restored 1: 12 bytes\n" ∷ codes "expired 1: 3 extents\n" ∷ codes "arranged: 11 owned, 5 free\n" ∷ codes "no version 1: retained 2 to 3\n"
+    ∷ codes "no version: none retained\n" ∷ codes "no version 9: none retained\n" ∷ codes "formatted\n" ∷ []
+unfolding digits
+lines_of_others = refl
+
+lines_of_reports : texts (Listed (record { items = line 1 12 3 3 ∷ line 2 12 3 1 ∷ []; spare = 0 }) ∷ Scrubbed (record { records = 5; entries = 9; damaged = 0; findings = record { items = []; spare = 0 } }) ∷ [])
+    ≡ codes "1 12 3 3\n2 12 3 1\n2 versions\nscrub: 5 records, 9 entries, 0 damaged\n"
+unfolding digits
+lines_of_reports = refl

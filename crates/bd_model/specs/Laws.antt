@@ -1,5 +1,5 @@
 -- What holds of the definitions, in the words of the subject. Each law stands on a function of its own.
-use Rattle.std.specs.Prelude.{◌≡◌, ◌≢◌, ◌↔◌, ◌⊎◌, ℕ, zero, suc, ◌+◌, ◌-◌, ◌*◌, ◌%◌, ◌^◌, ◌<◌, ◌≤◌, max, ◌&&◌, List, [], ◌∷◌, ◌++◌, length, map, filter, flat_map, take, fold, slice_index, slice_range, nat_lt, ◌==◌, if◌then◌else◌, IfSome, IsTrue}
+use Rattle.std.specs.Prelude.{◌≡◌, ◌≢◌, ◌↔◌, ◌⊎◌, ℕ, zero, suc, ◌+◌, ◌-◌, ◌*◌, ◌%◌, ◌^◌, ◌<◌, ◌≤◌, max, ◌&&◌, List, [], ◌∷◌, ◌++◌, length, map, filter, flat_map, sum_by, take, fold, slice_index, slice_range, nat_lt, ◌==◌, if◌then◌else◌, Some, None, IfSome, IsTrue}
 use Rattle.std.specs.Str.{bytes_eq}
 use Rattle.std.specs.List.{concat}
 use Rattle.bd_model.specs.declared.shape.Shape.{Shape}
@@ -10,14 +10,15 @@ use Rattle.bd_model.specs.declared.layout.Phase.{Phase}
 use Rattle.bd_model.specs.declared.layout.Phase.TheVariants.{Settled, Waiting}
 use Rattle.bd_model.specs.Chunks.{Cut, numbers, gear, window_hash, chunk_len, is_decided, chunks_after, chunks}
 use Rattle.bd_model.specs.FileMap.{FileMap}
-use Rattle.bd_model.specs.History.{History, version, contains, newest, oldest, retained}
+use Rattle.bd_model.specs.Folds.{HeldCommand, chunks_read, given}
+use Rattle.bd_model.specs.History.{History, version, contains, distinct, newest, oldest, retained}
 use Rattle.bd_model.specs.Category.{category}
 use Rattle.bd_model.specs.Layout.{record_bytes, row_of, rows, row_chunks, closed_volume, open_category, arranged_to, is_arranged}
 use Rattle.bd_model.specs.Marks.{mark, Distinct, Near}
 use Rattle.bd_model.specs.Recipe.{recipe, start_of}
 use Rattle.bd_model.specs.Room.{up, owned, recipe_bytes, fresh, kept, archived, lacks_some, need, counted, reserve_left, need_of, counted_of}
 use Rattle.bd_model.specs.State.{VersionState, IsState, IsPhase, history}
-use Rattle.bd_model.specs.Step.{Outcome, step, drop_oldest, dropped_extents, expired_extents, phase_after, phase_after_step}
+use Rattle.bd_model.specs.Step.{Outcome, step, drop_oldest, dropped_extents, expired_extents, phase_after, next_start, phase_after_step}
 
 -- the least chunk has a byte, and is no longer than the longest
 abbrev pub IsCut : Cut → Type 0
@@ -107,19 +108,28 @@ rows_with r chunks (row ∷ rows) = row ∷ rows_with r chunks rows
 -- one step of arranging the version of the chunks w, that of start i
 pub record ArrangesOne (h : History) (w : List (List ℕ)) (i : ℕ) : Type 0 where
   pub volume : closed_volume (grown h w) (Waiting (i + 1)) (newest h) ≡ closed_volume (grown h w) (Waiting i) (newest h) ++ archived h w i
-  pub rows : h.expired < length h.versions → rows (grown h w) (Waiting (i + 1)) (newest h) ≡ rows_with (max i (oldest h)) (archived h w i) (rows (grown h w) (Waiting i) (newest h))
+  pub rows_grow : rows (grown h w) (Waiting (i + 1)) (newest h) ≡ rows_with (max i (oldest h)) (archived h w i) (rows (grown h w) (Waiting i) (newest h))
   pub before : open_category (grown h w) (Waiting i) i ≡ open_category h Settled i
   pub category : open_category (grown h w) (Waiting (i + 1)) i ≡ kept h w i
   pub other_categories : (k : ℕ) → k ≢ i → open_category (grown h w) (Waiting (i + 1)) k ≡ open_category (grown h w) (Waiting i) k
   pub other_volumes : (j : ℕ) → j ≢ newest h → closed_volume (grown h w) (Waiting (i + 1)) j ≡ closed_volume (grown h w) (Waiting i) j
+  pub other_rows : (j : ℕ) → j ≢ newest h → rows (grown h w) (Waiting (i + 1)) j ≡ rows (grown h w) (Waiting i) j
+
+-- the layout is the same in the two phases
+pub record SameLayout (h : History) (one other : Phase) : Type 0 where
+  pub volumes : (j : ℕ) → closed_volume h one j ≡ closed_volume h other j
+  pub categories : (i : ℕ) → i ≤ newest h → open_category h one i ≡ open_category h other i
+  pub rows : (j : ℕ) → rows h one j ≡ rows h other j
 
 -- A step of arranging appends what is archived of one open category to the newest closed volume, in the row of its
--- recorded start, and leaves what is kept; nothing else changes. Where all starts are done the store is settled.
+-- recorded start, and leaves what is kept; nothing else changes. Starts before the next one change nothing, and where
+-- there is no next one the layout is the settled one.
 pub record OneStepOfArranging : Type 0 where
-  pub each : (h : History) (w : List (List ℕ)) (i : ℕ) → h.base + 1 ≤ i → i ≤ newest h → ArrangesOne h w i
-  pub done_volumes : (h : History) (w : List (List ℕ)) (j : ℕ) → j ≤ newest h → closed_volume (grown h w) (Waiting (newest h + 1)) j ≡ closed_volume (grown h w) Settled j
-  pub done_rows : (h : History) (w : List (List ℕ)) (j : ℕ) → j ≤ newest h → rows (grown h w) (Waiting (newest h + 1)) j ≡ rows (grown h w) Settled j
-  pub done_categories : (h : History) (w : List (List ℕ)) (i : ℕ) → i ≤ newest h + 1 → open_category (grown h w) (Waiting (newest h + 1)) i ≡ open_category (grown h w) Settled i
+  pub each : (h : History) (w : List (List ℕ)) (i : ℕ) → h.base + 1 ≤ i → i ≤ newest h → h.expired < length h.versions → ArrangesOne h w i
+  pub skipped : (h : History) (w : List (List ℕ)) (cursor i : ℕ) → h.base + 1 ≤ cursor → h.expired < length h.versions → next_start (grown h w) cursor ≡ Some i →
+      (cursor ≤ i) × (i ≤ newest h) × SameLayout (grown h w) (Waiting cursor) (Waiting i)
+  pub done : (h : History) (w : List (List ℕ)) (cursor : ℕ) → h.base + 1 ≤ cursor → cursor ≤ newest h + 1 → h.expired < length h.versions → next_start (grown h w) cursor ≡ None →
+      SameLayout (grown h w) (Waiting cursor) Settled
 
 -- giving up the oldest version takes its recipe and its closed volume; each other part is the same, and the rows of the
 -- first two recorded starts become one
@@ -152,6 +162,18 @@ pub record AVersionUsesAFront : Type 0 where
   pub front : (h : History) (phase : Phase) (v j : ℕ) → oldest h ≤ v → v ≤ j → closed_volume h phase j ≡ front_of h phase j v ++ flat_map (row_chunks h phase j) (numbers (v + 1) j)
   pub used : (h : History) (phase : Phase) (v j : ℕ) (c : List ℕ) → oldest h ≤ v → v ≤ j → IsTrue (contains (front_of h phase j v) c) → IsTrue (contains (version h v) c)
   pub open_used : (h : History) (phase : Phase) (v i : ℕ) (c : List ℕ) → i ≤ v → v ≤ arranged_to h phase i → IsTrue (contains (open_category h phase i) c) → IsTrue (contains (version h v) c)
+
+-- what a restore of version v finds: the front of its own closed volume and of each later one, and of each open category
+-- that begins up to it what it uses
+abbrev pub walk : History → Phase → ℕ → List (List ℕ)
+walk h phase v =
+    flat_map (λ j. front_of h phase j v) (numbers v (newest h - 1))
+    ++ flat_map (λ i. filter (contains (version h v)) (open_category h phase i)) (numbers (h.base + 1) v)
+
+-- In every phase a restore finds each different chunk of its version once: whatever is summed over the chunks that it
+-- finds and over the version's different chunks is the same.
+abbrev pub ARestoreFindsEachChunkOnce : Type 0
+ARestoreFindsEachChunkOnce = (f : List ℕ → ℕ) (h : History) (phase : Phase) (v : ℕ) → oldest h ≤ v → v ≤ newest h → sum_by f (walk h phase v) ≡ sum_by f (distinct (version h v))
 
 -- A backup needs extents for its fresh chunks and its recipe, which it takes, and for the reserve, which is free
 -- afterwards and of which arranging takes its part at each start. The first version has no reserve.
@@ -189,6 +211,15 @@ pub record RecipesGiveTheCounts : Type 0 where
 -- Where marks tell all chunks of a history apart, they tell those of each two versions in a row apart.
 abbrev pub DistinctMarksAreNear : Type 0
 DistinctMarksAreNear = (h : History) → Distinct (flat_map (λ v. v) h.versions) → Near h
+
+-- Where marks tell apart the chunks of what a state keeps and commands read, they do so for the state's versions, for its
+-- newest version with what the first command reads, and for the other commands in what the first leaves.
+pub record GivenChunksStayApart : Type 0 where
+  pub versions : (shape : Shape) (s : VersionState) (files : FileMap) (commands : List HeldCommand) → Distinct (given shape s files commands) → Distinct (flat_map (λ v. v) (history shape s).versions)
+  pub first : (shape : Shape) (s : VersionState) (files : FileMap) (c : HeldCommand) (commands : List HeldCommand) → Distinct (given shape s files (c ∷ commands)) →
+      Distinct (version (history shape s) (newest (history shape s)) ++ chunks_read shape s files c.command)
+  pub others : (shape : Shape) (s : VersionState) (files : FileMap) (c : HeldCommand) (commands : List HeldCommand) (o : Outcome) → step shape c.held s files c.command ≡ Some o →
+      Distinct (given shape s files (c ∷ commands)) → Distinct (given shape o.state o.files commands)
 
 -- the state that a command leaves is legal, and every phase that was legal before it leads to one that is
 pub record Keeps (shape : Shape) (s : VersionState) (o : Outcome) : Type 0 where

@@ -1,6 +1,6 @@
 //! What holds of the definitions. Each law is the contract of a function with nothing to do.
 
-ghost use Rattle.bd_model.specs.Laws.{ABackupLeavesItsReserve, ANewVersionSplitsTheCategories, AVersionUsesAFront, ChunksJoinedAreTheStream, ClosedVolumesGrow, DecidedChunksStay, DistinctMarksAreNear, EachChunkLiesInOneCategory, ExpiryTakesOnlyTheOldest, OneStepOfArranging, RecipesGiveTheCounts, RefusalIsExact, StatesStayLegal, TheHashRolls};
+ghost use Rattle.bd_model.specs.Laws.{ABackupLeavesItsReserve, ANewVersionSplitsTheCategories, ARestoreFindsEachChunkOnce, AVersionUsesAFront, ChunksJoinedAreTheStream, ClosedVolumesGrow, DecidedChunksStay, DistinctMarksAreNear, EachChunkLiesInOneCategory, ExpiryTakesOnlyTheOldest, GivenChunksStayApart, OneStepOfArranging, RecipesGiveTheCounts, RefusalIsExact, StatesStayLegal, TheHashRolls};
 
 /// The chunks of a stream, joined together, are the stream.
 pub fn chunks_joined_are_the_stream()
@@ -59,6 +59,12 @@ pub fn a_version_uses_a_front()
 {
 }
 
+/// In every phase a restore finds each different chunk of its version once.
+pub fn a_restore_finds_each_chunk_once()
+    ensures { ARestoreFindsEachChunkOnce }
+{
+}
+
 /// A backup needs extents for its fresh chunks, its recipe and its reserve, and the reserve is free afterwards.
 pub fn a_backup_leaves_its_reserve()
     ensures { ABackupLeavesItsReserve }
@@ -80,6 +86,12 @@ pub fn recipes_give_the_counts()
 /// Where marks tell all chunks apart, they tell those of neighbouring versions apart.
 pub fn distinct_marks_are_near()
     ensures { DistinctMarksAreNear }
+{
+}
+
+/// Where marks tell all chunks apart that a store keeps and commands read, they do so at each of the commands.
+pub fn given_chunks_stay_apart()
+    ensures { GivenChunksStayApart }
 {
 }
 
