@@ -1,8 +1,10 @@
 -- The lists of the plain program as the definitions see them.
-use Rattle.std.specs.Prelude.{ℕ, Bool, ◌&&◌, min, List, [], ◌∷◌, ◌++◌, map, filter, flat_map, nat_lt, Vec, if◌then◌else◌}
+use Rattle.std.specs.Prelude.{ℕ, ◌+◌, Bool, ◌&&◌, min, List, [], ◌∷◌, ◌++◌, map, filter, flat_map, nat_lt, Vec, if◌then◌else◌}
 use Rattle.bd_model.specs.History.{History, contains}
 use Rattle.bd_model.specs.Category.{begins, lasts, category}
-use Rattle.bd_model.specs.Layout.{is_closed}
+use Rattle.bd_model.specs.Layout.{is_closed, open_category, record_bytes}
+use Rattle.bd_model.specs.Room.{up, recipe_bytes, fresh, kept, lacks_some}
+use Rattle.bd_model.specs.declared.layout.Phase.TheVariants.{Settled}
 use Rattle.bd_model.specs.declared.layout.Phase.{Phase}
 use Rattle.bd_model.specs.declared.layout.CategoryRow.{CategoryRow}
 use Rattle.bd_model.specs.declared.layout.RecipeEntry.{RecipeEntry}
@@ -46,3 +48,12 @@ capped_row row = record row { bytes = capped row.bytes }
 -- the same entry, with its length in 32 bits
 abbrev pub capped_entry : RecipeEntry → RecipeEntry
 capped_entry entry = record entry { length = min entry.length 4294967295 }
+
+-- what these chunks alone need for the fresh category and the recipe
+abbrev pub running_extents : ℕ → History → List (List ℕ) → ℕ
+running_extents extent h chunks = up extent (record_bytes (fresh h chunks)) + up extent (recipe_bytes chunks)
+
+-- what a backup of these chunks keeps of the open category i, if it archives some of it
+abbrev pub kept_extents : ℕ → History → List (List ℕ) → ℕ → ℕ
+kept_extents extent h chunks i =
+    if lacks_some chunks (open_category h Settled i) then up extent (record_bytes (kept h chunks i)) else 0

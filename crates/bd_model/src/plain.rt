@@ -4,7 +4,10 @@ mod cut;
 mod history;
 mod layout;
 mod lists;
+mod room;
 
 pub use cut::chunks;
 pub use history::PlainHistory;
+pub use layout::record_bytes;
 pub use lists::{contains, distinct};
+pub use room::{recipe_extents, record_extents};
