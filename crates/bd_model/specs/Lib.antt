@@ -10,6 +10,7 @@ pub mod Recipe
 pub mod Room
 pub mod Roomy
 pub mod Seen
+pub mod SeenState
 pub mod Shapes
 pub mod Sizes
 pub mod State

@@ -1,6 +1,7 @@
 -- The lists of the plain program as the definitions see them.
 use Rattle.std.specs.Prelude.{ℕ, ◌+◌, Bool, ◌&&◌, min, List, [], ◌∷◌, ◌++◌, map, filter, flat_map, nat_lt, Vec, if◌then◌else◌}
 use Rattle.bd_model.specs.History.{History, contains}
+use Rattle.bd_model.specs.State.{VersionState}
 use Rattle.bd_model.specs.Category.{begins, lasts, category}
 use Rattle.bd_model.specs.Layout.{is_closed, open_category, record_bytes}
 use Rattle.bd_model.specs.Room.{up, recipe_bytes, fresh, kept, lacks_some}
@@ -57,3 +58,7 @@ running_extents extent h chunks = up extent (record_bytes (fresh h chunks)) + up
 abbrev pub kept_extents : ℕ → History → List (List ℕ) → ℕ → ℕ
 kept_extents extent h chunks i =
     if lacks_some chunks (open_category h Settled i) then up extent (record_bytes (kept h chunks i)) else 0
+
+-- the state with these streams
+abbrev pub state_from : ℕ → List (List ℕ) → ℕ → VersionState
+state_from base streams expired = record { base = base; versions = map (λ s. record { stream = s }) streams; expired = expired }

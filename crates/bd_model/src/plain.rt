@@ -4,10 +4,14 @@ mod cut;
 mod history;
 mod layout;
 mod lists;
+mod recipe;
 mod room;
+mod state;
 
 pub use cut::chunks;
 pub use history::PlainHistory;
 pub use layout::record_bytes;
 pub use lists::{contains, distinct};
+pub use recipe::mark;
 pub use room::{recipe_extents, record_extents};
+pub use state::PlainState;

@@ -27,11 +27,18 @@ impl PlainHistory {
         if versions.len() > u32::MAX as usize - base as usize {
             return None;
         }
-        Some(PlainHistory {
+        Some(PlainHistory::numbered(base, versions, expired))
+    }
+
+    pub(super) fn numbered(base: u32, versions: Vec<Vec<Vec<u8>>>, expired: u32) -> PlainHistory
+        requires { base + vec_len versions ≤ 4294967295 }
+        ensures { history_of result ≡ record { base = base; versions = as_versions versions.items; expired = expired } }
+    {
+        PlainHistory {
             base,
             versions,
             expired,
-        })
+        }
     }
 
     /// The least number that a version of these can have.
