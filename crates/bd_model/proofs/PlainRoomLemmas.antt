@@ -83,3 +83,7 @@ sum_three a b c first second third two three is_a is_b is_c is_two is_three = om
 -- what the first n chunks need
 pub running-take : {Z : Type 0} (extent : ℕ) (h : History) (chunks : List (Vec ℕ Z)) (n : ℕ) → running_extents extent h (as_chunks (take n chunks)) ≡ running extent h (as_chunks chunks) n
 running-take extent h chunks n = ap (running_extents extent h) (sym (take-map (λ c. c.items) n chunks))
+
+-- a number of 64 bits stays
+pub capped_small : (n m : ℕ) → n ≤ 18446744073709551615 → n ≡ m → n ≡ capped m
+capped_small n m small is = omega arith

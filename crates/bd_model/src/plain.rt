@@ -1,5 +1,6 @@
 //! The definitions as a plain, slow program over lists in memory, for tests to compare with.
 
+mod count;
 mod cut;
 mod history;
 mod layout;

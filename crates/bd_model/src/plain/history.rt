@@ -58,7 +58,8 @@ impl PlainHistory {
 
     /// The number of the oldest version that isn't given up.
     pub fn oldest(&self) -> u64
-        ensures { result ≡ oldest (history_of self.now) }
+        ensures value { result ≡ oldest (history_of self.now) }
+        ensures bounded { result ≤ 8589934591 }
     {
         u64::from(self.base) + u64::from(self.expired) + 1
     }
@@ -85,7 +86,7 @@ impl PlainHistory {
     }
 
     /// Whether the version before i lacks the chunk.
-    fn begins(&self, i: u64, chunk: &[u8]) -> bool
+    pub(super) fn begins(&self, i: u64, chunk: &[u8]) -> bool
         ensures { result ≡ begins (history_of self.now) i chunk.now }
     {
         !contains(self.version(i.saturating_sub(1)), chunk)

@@ -18,7 +18,7 @@ returns c =
     let last = c.saturating_sub.ensures ∙ ap (λ n. n - 1) c.newest-newest.ensures.value in
     sum_three (sum_by recipes (numbers (oldest h) (newest h))) (sum_by volumes (numbers (oldest h) (newest h - 1))) (sum_by active (numbers (h.base + 1) (newest h)))
     c.recipes_owned-recipes.result c.in_ok-volumes.volumes c.in_ok-open.open c.saturating_add.result c.saturating_add-2.result
-    (c.recipes_owned-recipes.ensures ∙ (λ k. capped (sum_by recipes (numbers (c.oldest-oldest.ensures k) (c.newest-newest.ensures.value k)))))
-    (c.in_ok-volumes.ensures ∙ (λ k. capped (sum_by volumes (numbers (c.oldest-oldest.ensures k) (last k)))))
+    (c.recipes_owned-recipes.ensures ∙ (λ k. capped (sum_by recipes (numbers (c.oldest-oldest.ensures.value k) (c.newest-newest.ensures.value k)))))
+    (c.in_ok-volumes.ensures ∙ (λ k. capped (sum_by volumes (numbers (c.oldest-oldest.ensures.value k) (last k)))))
     (c.in_ok-open.ensures ∙ (λ k. capped (sum_by active (numbers (c.first.ensures.value k) (c.newest-newest.ensures.value k)))))
     c.saturating_add.ensures c.saturating_add-2.ensures
