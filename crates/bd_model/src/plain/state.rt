@@ -90,4 +90,54 @@ impl PlainState {
         }
         Ok(copies)
     }
+
+    /// A copy with its own memory.
+    pub fn copy(&self, alloc: Global) -> Result<PlainState, OutOfMemory>
+        ensures { IfOk result (λ s. state_of s ≡ state_of self.now) }
+    {
+        let streams = self.copy_of_streams(alloc)?;
+        Ok(PlainState {
+            base: self.base,
+            streams,
+            expired: self.expired,
+        })
+    }
+
+    /// A copy with one version more.
+    pub(super) fn with_version(
+        &self,
+        alloc: Global,
+        stream: &[u8],
+    ) -> Result<PlainState, OutOfMemory>
+        requires { self.now.base + vec_len self.now.streams < 4294967295 }
+        ensures { IfOk result (λ s. state_of s ≡ with_version (state_of self.now) stream.now) }
+    {
+        let mut streams = self.copy_of_streams(alloc)?;
+        push_copy(alloc, &mut streams, stream)?;
+        Ok(PlainState {
+            base: self.base,
+            streams,
+            expired: self.expired,
+        })
+    }
+
+    /// A copy whose oldest version is given up.
+    pub(super) fn drop_oldest(&self, alloc: Global) -> Result<PlainState, OutOfMemory>
+        requires { self.now.expired < vec_len self.now.streams }
+        ensures { IfOk result (λ s. state_of s ≡ drop_oldest (state_of self.now)) }
+    {
+        if self.expired as usize + 1 == self.streams.len() {
+            return Ok(PlainState {
+                base: self.base + self.streams.len() as u32,
+                streams: Vec::new(alloc),
+                expired: 0,
+            });
+        }
+        let streams = self.copy_of_streams(alloc)?;
+        Ok(PlainState {
+            base: self.base,
+            streams,
+            expired: self.expired + 1,
+        })
+    }
 }
