@@ -11,6 +11,7 @@ pub mod Room
 pub mod Roomy
 pub mod Seen
 pub mod SeenState
+pub mod SeenStep
 pub mod Shapes
 pub mod Sizes
 pub mod State

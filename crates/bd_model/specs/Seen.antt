@@ -7,6 +7,8 @@ use Rattle.bd_model.specs.Layout.{is_closed, open_category, record_bytes}
 use Rattle.bd_model.specs.Room.{up, recipe_bytes, fresh, kept, lacks_some}
 use Rattle.bd_model.specs.declared.layout.Phase.TheVariants.{Settled}
 use Rattle.bd_model.specs.declared.layout.Phase.{Phase}
+use Rattle.bd_model.specs.declared.answer.Answer.{Answer}
+use Rattle.bd_model.specs.declared.answer.Answer.TheVariants.{BackedUp, Expired, Arranged, Scrubbed, FullExtents}
 use Rattle.bd_model.specs.declared.layout.CategoryRow.{CategoryRow}
 use Rattle.bd_model.specs.declared.layout.RecipeEntry.{RecipeEntry}
 use Rattle.bd_model.specs.declared.plain.history.PlainHistory.{PlainHistory}
@@ -62,3 +64,12 @@ kept_extents extent h chunks i =
 -- the state with these streams
 abbrev pub state_from : ℕ → List (List ℕ) → ℕ → VersionState
 state_from base streams expired = record { base = base; versions = map (λ s. record { stream = s }) streams; expired = expired }
+
+-- the same answer, with its sums in 64 bits
+abbrev pub capped_answer : Answer → Answer
+capped_answer (BackedUp v bytes chunks fresh need) = BackedUp v bytes chunks fresh (capped need)
+capped_answer (Expired v extents) = Expired v (capped extents)
+capped_answer (Arranged owned free) = Arranged (capped owned) free
+capped_answer (FullExtents counted free held) = FullExtents (capped counted) free held
+capped_answer (Scrubbed report) = Scrubbed (record report { records = capped report.records; entries = capped report.entries })
+capped_answer answer = answer

@@ -1,4 +1,4 @@
-ghost use Rattle.std.specs.Prelude.{◌≡◌, ◌↔◌, ◌+◌, ◌<◌, ◌≤◌, ◌-◌, [], ◌∷◌, IfOk, IfSome, IsSome, slice_index_or, vec_len};
+ghost use Rattle.std.specs.Prelude.{◌≡◌, ◌↔◌, ◌+◌, ◌<◌, ◌≤◌, ◌-◌, [], ◌∷◌, IfOk, IfSome, IsSome, slice_index_or, length, vec_len};
 
 use crate::plain::cut::chunks;
 use crate::plain::history::PlainHistory;
@@ -48,6 +48,14 @@ impl PlainState {
             streams,
             expired,
         })
+    }
+
+    /// The number of the version that was backed up last.
+    pub fn newest(&self) -> u64
+        ensures value { result ≡ (state_of self.now).base + length (state_of self.now).versions }
+        ensures numbered { result ≡ self.now.base + vec_len self.now.streams }
+    {
+        u64::from(self.base) + self.streams.len() as u64
     }
 
     /// The bytes of the version of this number; none where there is no such version.
