@@ -1,5 +1,5 @@
 -- The start of a run, one version back.
-use Rattle.std.proofs.Common.{◌≡◌, ℕ, zero, suc, ◌-◌, ◌<◌, ◌≤◌, Bool, true, false, List, refl, sym, ◌∙◌, ap, arith}
+use Rattle.std.proofs.Common.{◌≡◌, ℕ, zero, suc, ◌-◌, ◌<◌, ◌≤◌, true, false, List, refl, sym, ◌∙◌, ap, arith}
 use Rattle.bd_model.specs.History.{History, contains, version}
 use Rattle.bd_model.specs.Recipe.{start_of}
 

@@ -1,5 +1,5 @@
 -- The plain program's sums, one summand on.
-use Rattle.std.proofs.Common.{◌≡◌, ℕ, ◌+◌, ◌-◌, ◌*◌, ◌^◌, ◌<◌, ◌≤◌, Bool, true, false, cond, min, List, [], ◌∷◌, ◌++◌, refl, sym, ◌∙◌, ap, arith, sum_by, find, map, Option, Some, None, option_map, unwrap_or, nat_lt, lt-ltb, le-ltb, ⊎_elim, length, take}
+use Rattle.std.proofs.Common.{◌≡◌, ℕ, ◌+◌, ◌-◌, ◌^◌, ◌<◌, ◌≤◌, Bool, true, false, cond, min, List, [], ◌∷◌, refl, sym, ◌∙◌, ap, arith, sum_by, find, map, Some, None, option_map, unwrap_or, nat_lt, lt-ltb, le-ltb, ⊎_elim, length, take}
 use Rattle.std.specs.List.{range_with_len, flat_map}
 use Rattle.std.proofs.lemmas.Bool.{cases_lt}
 use Rattle.std.proofs.lemmas.Nat.{le-div}
@@ -7,7 +7,7 @@ use Rattle.std.proofs.lemmas.List.Sums.{sum_by_push}
 use Rattle.bd_model.specs.Chunks.{numbers}
 use Rattle.bd_model.specs.History.{History, newest}
 use Rattle.bd_model.specs.Layout.{open_category, record_bytes}
-use Rattle.bd_model.specs.Room.{up, kept, lacks_some, recipe_bytes, fresh, archived, need, counted, running}
+use Rattle.bd_model.specs.Room.{up, kept, lacks_some, archived, need, counted, running}
 use Rattle.std.specs.Prelude.{Vec}
 use Rattle.std.proofs.lemmas.List.{take-map}
 use Rattle.bd_model.specs.Seen.{as_chunks, capped, kept_extents, running_extents}

@@ -1,5 +1,4 @@
 -- The plain program's state as the definitions see it.
-use Rattle.std.specs.Prelude.{ℕ, List, map}
 use Rattle.bd_model.specs.State.{VersionState}
 use Rattle.bd_model.specs.Seen.{as_chunks, state_from}
 use Rattle.bd_model.specs.declared.plain.state.PlainState.{PlainState}

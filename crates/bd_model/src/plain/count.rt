@@ -13,7 +13,6 @@ use crate::plain::history::PlainHistory;
 use crate::plain::lists::{distinct, push_copy};
 use crate::plain::room::{recipe_extents, record_extents};
 use crate::shape::Shape;
-
 use std::alloc::{AllocError as OutOfMemory, Global};
 
 /// How many chunks these are.
@@ -25,26 +24,18 @@ pub(super) fn count(chunks: &[Vec<u8>]) -> u64
 
 impl PlainHistory {
     /// The extents that no owner has and no reader holds, of a settled store.
-    pub fn free_extents(
-        &self,
-        alloc: Global,
-        shape: &Shape,
-        held: u64,
-    ) -> Result<u32, OutOfMemory>
+    pub fn free_extents(&self, alloc: Global, shape: &Shape, held: u64) -> Result<u32, OutOfMemory>
         ensures { IfOk result (λ n. n ≡ shape.now.extents - owned shape.now.extent (history_of self.now) Settled - held) }
     {
         let owned = self.owned(alloc, shape, Phase::Settled)?;
-        let free = u64::from(shape.extents()).saturating_sub(owned).saturating_sub(held);
+        let free = u64::from(shape.extents())
+            .saturating_sub(owned)
+            .saturating_sub(held);
         Ok(free as u32)
     }
 
     /// The extents that dropping version v frees; from 2^64 - 1 on, that number.
-    pub fn dropped_extents(
-        &self,
-        alloc: Global,
-        shape: &Shape,
-        v: u64,
-    ) -> Result<u64, OutOfMemory>
+    pub fn dropped_extents(&self, alloc: Global, shape: &Shape, v: u64) -> Result<u64, OutOfMemory>
         requires { v + 1 < 2 ^ 64 }
         ensures { IfOk result (λ n. n ≡ capped (dropped_extents shape.now.extent (history_of self.now) v)) }
     {

@@ -1,7 +1,6 @@
 ghost use Rattle.std.specs.Prelude.{◌≡◌, ◌↔◌, ◌+◌, ◌<◌, ◌≤◌, ◌^◌, IfOk, IsSome, IfSome, vec_len};
 
 use crate::plain::lists::{contains, distinct, push_copy};
-
 use std::alloc::{AllocError as OutOfMemory, Global};
 
 /// The versions backed up since a store was last empty, each as the list of its chunks, oldest first. The first has the

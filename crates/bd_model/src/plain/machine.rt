@@ -16,7 +16,6 @@ use crate::plain::cut::chunks;
 use crate::plain::history::PlainHistory;
 use crate::plain::state::PlainState;
 use crate::shape::Shape;
-
 use std::alloc::{AllocError as OutOfMemory, Global};
 
 /// What a command answers and leaves.
@@ -28,11 +27,7 @@ pub struct PlainOutcome {
     pub target: Option<Vec<u8>>,
 }
 
-fn unchanged(
-    alloc: Global,
-    state: &PlainState,
-    answer: Answer,
-) -> Result<PlainOutcome, OutOfMemory>
+fn unchanged(alloc: Global, state: &PlainState, answer: Answer) -> Result<PlainOutcome, OutOfMemory>
     ensures { IfOk result (λ o. Leaves o answer (state_of state.now)) }
 {
     let state = state.copy(alloc)?;
@@ -63,7 +58,15 @@ fn backed_up(
     let counted = history.counted(alloc, shape, &parts, free)?;
     if u64::from(free) < counted {
         let free = u64::from(free);
-        return unchanged(alloc, state, Answer::FullExtents { counted, free, held });
+        return unchanged(
+            alloc,
+            state,
+            Answer::FullExtents {
+                counted,
+                free,
+                held,
+            },
+        );
     }
     let fresh = history.fresh(alloc, &parts)?;
     let need = history.need(alloc, shape, &parts)?;
@@ -120,7 +123,15 @@ fn restore(
     if asked < history.oldest() || history.newest() < asked {
         let oldest = history.oldest() as u32;
         let newest = history.newest() as u32;
-        return unchanged(alloc, state, Answer::NoVersion { asked: v, oldest, newest });
+        return unchanged(
+            alloc,
+            state,
+            Answer::NoVersion {
+                asked: v,
+                oldest,
+                newest,
+            },
+        );
     }
     let stream = state.stream(asked);
     let target = Vec::from_slice(alloc, stream)?;

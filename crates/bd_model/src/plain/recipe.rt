@@ -7,7 +7,6 @@ use crate::layout::RecipeEntry;
 use crate::mark::Mark;
 use crate::plain::history::PlainHistory;
 use crate::plain::lists::contains;
-
 use sha2::{Digest, Sha256};
 use std::alloc::{AllocError as OutOfMemory, Global};
 

@@ -11,7 +11,6 @@ use crate::plain::history::PlainHistory;
 use crate::plain::layout::record_bytes;
 use crate::plain::lists::{append, distinct, lacks_some, missing, shared};
 use crate::shape::Shape;
-
 use std::alloc::{AllocError as OutOfMemory, Global};
 
 /// The extents of this many bytes; from 2^64 - 1 on, that number.
@@ -99,11 +98,7 @@ impl PlainHistory {
     }
 
     /// The different chunks of the list that the newest version lacks.
-    pub fn fresh(
-        &self,
-        alloc: Global,
-        chunks: &[Vec<u8>],
-    ) -> Result<Vec<Vec<u8>>, OutOfMemory>
+    pub fn fresh(&self, alloc: Global, chunks: &[Vec<u8>]) -> Result<Vec<Vec<u8>>, OutOfMemory>
         ensures { IfOk result (λ v. as_chunks v.items ≡ fresh (history_of self.now) (as_chunks chunks.now)) }
     {
         let different = distinct(alloc, chunks)?;
@@ -111,12 +106,7 @@ impl PlainHistory {
     }
 
     /// The chunks of the open category i that a new version of these chunks uses.
-    fn kept(
-        &self,
-        alloc: Global,
-        chunks: &[Vec<u8>],
-        i: u64,
-    ) -> Result<Vec<Vec<u8>>, OutOfMemory>
+    fn kept(&self, alloc: Global, chunks: &[Vec<u8>], i: u64) -> Result<Vec<Vec<u8>>, OutOfMemory>
         requires { i + 1 < 2 ^ 64 }
         ensures { IfOk result (λ v. as_chunks v.items ≡ kept (history_of self.now) (as_chunks chunks.now) i) }
     {
@@ -208,12 +198,7 @@ impl PlainHistory {
     }
 
     /// The extents that a backup of a stream of these chunks needs; from 2^64 - 1 on, that number.
-    pub fn need(
-        &self,
-        alloc: Global,
-        shape: &Shape,
-        chunks: &[Vec<u8>],
-    ) -> Result<u64, OutOfMemory>
+    pub fn need(&self, alloc: Global, shape: &Shape, chunks: &[Vec<u8>]) -> Result<u64, OutOfMemory>
         ensures { IfOk result (λ n. n ≡ capped (need shape.now.extent (history_of self.now) (as_chunks chunks.now))) }
     {
         let running = self.running(alloc, shape, chunks)?;
@@ -221,9 +206,11 @@ impl PlainHistory {
         let newest = self.newest();
         let archived = self.all_archived(alloc, chunks, first, newest)?;
         let kept = self.all_split(alloc, shape, chunks, first, newest)?;
-        Ok(running
-            .saturating_add(record_extents(shape, &archived))
-            .saturating_add(kept))
+        Ok(
+            running
+                .saturating_add(record_extents(shape, &archived))
+                .saturating_add(kept),
+        )
     }
 
     /// The number that a refusal names where so many extents are free; from 2^64 - 1 on, that number.

@@ -4,7 +4,6 @@ use crate::plain::cut::chunks;
 use crate::plain::history::PlainHistory;
 use crate::plain::lists::push_copy;
 use crate::shape::Shape;
-
 use std::alloc::{AllocError as OutOfMemory, Global};
 
 /// The streams backed up since a store was last empty, oldest first. The first has the number `base + 1`, and the first

@@ -1,4 +1,4 @@
-use Rattle.std.proofs.Common.{ℕ, List, ◌∙◌, ap, flat_map, arith}
+use Rattle.std.proofs.Common.{◌∙◌, ap, flat_map, arith}
 use Rattle.std.specs.List.{range_with_len}
 use Rattle.bd_model.specs.Room.{archived}
 use Rattle.bd_model.specs.Seen.{as_chunks, history_of}

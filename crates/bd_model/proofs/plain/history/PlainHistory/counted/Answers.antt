@@ -1,9 +1,7 @@
-use Rattle.std.proofs.Common.{◌≡◌, ◌<◌, ◌≤◌, ◌+◌, ◌-◌, ℕ, Bool, true, false, None, Some, sym, ◌∙◌, ap, arith, length, nat_lt, find, IfOk}
-use Rattle.std.specs.List.{range_with_len}
+use Rattle.std.proofs.Common.{◌≡◌, ◌<◌, true, sym, ◌∙◌, ap, arith, length, nat_lt}
 use Rattle.std.proofs.lemmas.List.{length-map}
-use Rattle.bd_model.specs.Chunks.{numbers}
-use Rattle.bd_model.specs.Room.{running, counted, need}
-use Rattle.bd_model.specs.Seen.{as_chunks, history_of, capped, running_extents}
+use Rattle.bd_model.specs.Room.{running}
+use Rattle.bd_model.specs.Seen.{as_chunks, history_of, capped}
 use Rattle.bd_model.proofs.PlainCutLemmas.{find_more, find_here, find_none}
 use Rattle.bd_model.proofs.PlainRoomLemmas.{running-take, too_much, enough, counted-here, counted-all}
 use Rattle.bd_model.proofs.plain.history.PlainHistory.counted.Goals as goal

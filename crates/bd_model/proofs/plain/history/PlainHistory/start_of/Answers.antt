@@ -1,6 +1,5 @@
 use Rattle.std.proofs.Common.{◌≡◌, ◌-◌, true, false, sym, ◌∙◌, ap, arith}
 use Rattle.bd_model.specs.History.{contains, version}
-use Rattle.bd_model.specs.Recipe.{start_of}
 use Rattle.bd_model.specs.Seen.{history_of}
 use Rattle.bd_model.proofs.PlainRecipeLemmas.{start_of-back, start_of-here, start_of-none}
 use Rattle.bd_model.proofs.plain.history.PlainHistory.start_of.Goals as goal

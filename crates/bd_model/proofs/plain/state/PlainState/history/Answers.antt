@@ -1,7 +1,6 @@
-use Rattle.std.proofs.Common.{ℕ, List, sym, ◌∙◌, ap, map}
+use Rattle.std.proofs.Common.{sym, ◌∙◌, ap, map}
 use Rattle.std.proofs.lemmas.List.{take_all}
 use Rattle.bd_model.specs.Chunks.{chunks}
-use Rattle.bd_model.specs.History.{History}
 use Rattle.bd_model.specs.State.{cut_of}
 use Rattle.bd_model.specs.Seen.{as_chunks}
 use Rattle.bd_model.proofs.PlainStateLemmas.{streams-from}
