@@ -87,3 +87,10 @@ rows_range f a r found row le before here =
     ]
     ∙ ap (map capped_row) (sym (filter_of_map_range_with_len_more some f a (r - a) r place))
     ∙ ap (λ n. map capped_row (filter some (map f (range_with_len a n)))) (sym count)
+
+pub map_range : {X : Type 0} (f : ℕ → X) (a i : ℕ) (found : List X) (x : X) → a ≤ i → found ≡ map f (range_with_len a (i - a)) → x ≡ f i →
+    found ++ x ∷ [] ≡ map f (range_with_len a (i + 1 - a))
+map_range f a i found x le before here =
+    (λ k. before k ++ here k ∷ [])
+    ∙ sym (map-append f (range_with_len a (i - a)) (i ∷ []))
+    ∙ ap (map f) (range_more a i le)

@@ -13,6 +13,8 @@ pub mod Records
 pub mod Room
 pub mod Roomy
 pub mod Seen
+pub mod SeenState
+pub mod SeenStep
 pub mod Shapes
 pub mod Sizes
 pub mod State

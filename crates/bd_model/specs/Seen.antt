@@ -1,9 +1,14 @@
 -- The lists of the plain program as the definitions see them.
-use Rattle.std.specs.Prelude.{ℕ, Bool, ◌&&◌, min, List, [], ◌∷◌, ◌++◌, map, filter, flat_map, nat_lt, Vec, if◌then◌else◌}
+use Rattle.std.specs.Prelude.{ℕ, ◌+◌, Bool, ◌&&◌, min, List, [], ◌∷◌, ◌++◌, map, filter, flat_map, nat_lt, Vec, if◌then◌else◌}
 use Rattle.bd_model.specs.History.{History, contains}
+use Rattle.bd_model.specs.State.{VersionState}
 use Rattle.bd_model.specs.Category.{begins, lasts, category}
-use Rattle.bd_model.specs.Layout.{is_closed}
+use Rattle.bd_model.specs.Layout.{is_closed, open_category, record_bytes}
+use Rattle.bd_model.specs.Room.{up, recipe_bytes, fresh, kept, lacks_some}
+use Rattle.bd_model.specs.declared.layout.Phase.TheVariants.{Settled}
 use Rattle.bd_model.specs.declared.layout.Phase.{Phase}
+use Rattle.bd_model.specs.declared.answer.Answer.{Answer}
+use Rattle.bd_model.specs.declared.answer.Answer.TheVariants.{BackedUp, Expired, Arranged, Scrubbed, FullExtents}
 use Rattle.bd_model.specs.declared.layout.CategoryRow.{CategoryRow}
 use Rattle.bd_model.specs.declared.layout.RecipeEntry.{RecipeEntry}
 use Rattle.bd_model.specs.declared.plain.history.PlainHistory.{PlainHistory}
@@ -46,3 +51,25 @@ capped_row row = record row { bytes = capped row.bytes }
 -- the same entry, with its length in 32 bits
 abbrev pub capped_entry : RecipeEntry → RecipeEntry
 capped_entry entry = record entry { length = min entry.length 4294967295 }
+
+-- what these chunks alone need for the fresh category and the recipe
+abbrev pub running_extents : ℕ → History → List (List ℕ) → ℕ
+running_extents extent h chunks = up extent (record_bytes (fresh h chunks)) + up extent (recipe_bytes chunks)
+
+-- what a backup of these chunks keeps of the open category i, if it archives some of it
+abbrev pub kept_extents : ℕ → History → List (List ℕ) → ℕ → ℕ
+kept_extents extent h chunks i =
+    if lacks_some chunks (open_category h Settled i) then up extent (record_bytes (kept h chunks i)) else 0
+
+-- the state with these streams
+abbrev pub state_from : ℕ → List (List ℕ) → ℕ → VersionState
+state_from base streams expired = record { base = base; versions = map (λ s. record { stream = s }) streams; expired = expired }
+
+-- the same answer, with its sums in 64 bits
+abbrev pub capped_answer : Answer → Answer
+capped_answer (BackedUp v bytes chunks fresh need) = BackedUp v bytes chunks fresh (capped need)
+capped_answer (Expired v extents) = Expired v (capped extents)
+capped_answer (Arranged owned free) = Arranged (capped owned) free
+capped_answer (FullExtents counted free held) = FullExtents (capped counted) free held
+capped_answer (Scrubbed report) = Scrubbed (record report { records = capped report.records; entries = capped report.entries })
+capped_answer answer = answer

@@ -5,7 +5,6 @@ ghost use Rattle.bd_model.specs.Seen.{as_chunks};
 
 use crate::plain::lists::push_copy;
 use crate::shape::Shape;
-
 use sha2::{Digest, Sha256};
 use std::alloc::{AllocError as OutOfMemory, Global};
 
@@ -72,11 +71,7 @@ fn chunk_len(shape: &Shape, stream: &[u8], start: usize) -> usize
 }
 
 /// The chunks of a stream.
-pub fn chunks(
-    alloc: Global,
-    shape: &Shape,
-    stream: &[u8],
-) -> Result<Vec<Vec<u8>>, OutOfMemory>
+pub fn chunks(alloc: Global, shape: &Shape, stream: &[u8]) -> Result<Vec<Vec<u8>>, OutOfMemory>
     ensures { IfOk result (λ v. as_chunks v.items ≡ chunks (cut_of shape.now) stream.now) }
 {
     let mut found: Vec<Vec<u8>> = Vec::new(alloc);

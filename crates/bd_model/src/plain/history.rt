@@ -1,7 +1,6 @@
 ghost use Rattle.std.specs.Prelude.{◌≡◌, ◌↔◌, ◌+◌, ◌<◌, ◌≤◌, ◌^◌, IfOk, IsSome, IfSome, vec_len};
 
 use crate::plain::lists::{contains, distinct, push_copy};
-
 use std::alloc::{AllocError as OutOfMemory, Global};
 
 /// The versions backed up since a store was last empty, each as the list of its chunks, oldest first. The first has the
@@ -27,11 +26,18 @@ impl PlainHistory {
         if versions.len() > u32::MAX as usize - base as usize {
             return None;
         }
-        Some(PlainHistory {
+        Some(PlainHistory::numbered(base, versions, expired))
+    }
+
+    pub(super) fn numbered(base: u32, versions: Vec<Vec<Vec<u8>>>, expired: u32) -> PlainHistory
+        requires { base + vec_len versions ≤ 4294967295 }
+        ensures { history_of result ≡ record { base = base; versions = as_versions versions.items; expired = expired } }
+    {
+        PlainHistory {
             base,
             versions,
             expired,
-        })
+        }
     }
 
     /// The least number that a version of these can have.
@@ -51,7 +57,8 @@ impl PlainHistory {
 
     /// The number of the oldest version that isn't given up.
     pub fn oldest(&self) -> u64
-        ensures { result ≡ oldest (history_of self.now) }
+        ensures value { result ≡ oldest (history_of self.now) }
+        ensures bounded { result ≤ 8589934591 }
     {
         u64::from(self.base) + u64::from(self.expired) + 1
     }
@@ -78,7 +85,7 @@ impl PlainHistory {
     }
 
     /// Whether the version before i lacks the chunk.
-    fn begins(&self, i: u64, chunk: &[u8]) -> bool
+    pub(super) fn begins(&self, i: u64, chunk: &[u8]) -> bool
         ensures { result ≡ begins (history_of self.now) i chunk.now }
     {
         !contains(self.version(i.saturating_sub(1)), chunk)

@@ -7,7 +7,6 @@ ghost use Rattle.bd_model.specs.Seen.{as_chunks, history_of, closed_parts, cappe
 use crate::layout::{CategoryRow, Phase};
 use crate::plain::history::PlainHistory;
 use crate::plain::lists::append;
-
 use std::alloc::{AllocError as OutOfMemory, Global};
 
 fn is_arranged(phase: Phase, i: u64) -> bool
@@ -152,12 +151,7 @@ impl PlainHistory {
     }
 
     /// The rows of the closed volume j; none is empty.
-    pub fn rows(
-        &self,
-        alloc: Global,
-        phase: Phase,
-        j: u32,
-    ) -> Result<Vec<CategoryRow>, OutOfMemory>
+    pub fn rows(&self, alloc: Global, phase: Phase, j: u32) -> Result<Vec<CategoryRow>, OutOfMemory>
         ensures { IfOk result (λ v. v.items ≡ map capped_row (rows (history_of self.now) phase j)) }
     {
         let oldest = self.oldest();

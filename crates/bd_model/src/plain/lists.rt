@@ -55,10 +55,7 @@ pub fn distinct(alloc: Global, chunks: &[Vec<u8>]) -> Result<Vec<Vec<u8>>, OutOf
 }
 
 /// Moves the chunks of the second list behind those of the first.
-pub(super) fn append(
-    found: &mut Vec<Vec<u8>>,
-    mut more: Vec<Vec<u8>>,
-) -> Result<(), OutOfMemory>
+pub(super) fn append(found: &mut Vec<Vec<u8>>, mut more: Vec<Vec<u8>>) -> Result<(), OutOfMemory>
     ensures { OnOk result (as_chunks found.new.items ≡ as_chunks found.old.items ++ as_chunks more.items) }
 {
     found.append(&mut more)

@@ -1,6 +1,5 @@
-use Rattle.std.proofs.Common.{◌≡◌, ◌+◌, ◌-◌, ◌≤◌, Bool, ℕ, true, false, sym, ◌∙◌, ap, arith, min, length, unwrap_or, find, None}
-use Rattle.std.specs.List.{range_with_len}
-use Rattle.bd_model.specs.Chunks.{is_candidate, longest, numbers}
+use Rattle.std.proofs.Common.{◌≡◌, ◌+◌, ◌-◌, Bool, ℕ, true, false, sym, ◌∙◌, ap, arith, unwrap_or}
+use Rattle.bd_model.specs.Chunks.{is_candidate, longest}
 use Rattle.bd_model.specs.State.{cut_of}
 use Rattle.bd_model.proofs.PlainCutLemmas.{find_more, find_here}
 use Rattle.bd_model.proofs.plain.cut.chunk_len.Goals as goal

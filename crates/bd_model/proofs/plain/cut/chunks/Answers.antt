@@ -1,4 +1,4 @@
-use Rattle.std.proofs.Common.{◌≡◌, ◌+◌, [], ◌∷◌, ◌++◌, ◌∙◌, sym, slice_range, arith}
+use Rattle.std.proofs.Common.{◌+◌, [], ◌∷◌, ◌++◌, ◌∙◌, slice_range, arith}
 use Rattle.bd_model.specs.Chunks.{chunks_after}
 use Rattle.bd_model.specs.State.{cut_of}
 use Rattle.bd_model.specs.Seen.{as_chunks}

@@ -1,4 +1,4 @@
-use Rattle.std.proofs.Common.{◌≡◌, ◌++◌, ◌-◌, ◌≤◌, length}
+use Rattle.std.proofs.Common.{◌≡◌, ◌++◌, ◌-◌, length}
 use Rattle.bd_model.specs.Chunks.{chunks, chunks_after}
 use Rattle.bd_model.specs.State.{cut_of}
 use Rattle.bd_model.specs.Seen.{as_chunks}

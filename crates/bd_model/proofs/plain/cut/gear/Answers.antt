@@ -1,4 +1,4 @@
-use Rattle.std.proofs.Common.{arith, take, sym, ◌∙◌, ap, w64, List, ℕ, ◌≤◌, length}
+use Rattle.std.proofs.Common.{arith, take, sym, ◌∙◌, ap, w64, ◌≤◌, length}
 use Rattle.std.specs.Int.{from_be_bytes}
 use Rattle.bd_model.specs.Chunks.{gear}
 use Rattle.bd_model.proofs.PlainCutLemmas.{take_eight}

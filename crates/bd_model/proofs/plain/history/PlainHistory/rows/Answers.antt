@@ -21,4 +21,4 @@ returns c =
     let kept : ℕ → ℕ → ℕ → List CategoryRow = λ last a n. map capped_row (filter (λ x. nat_lt 0 x.chunks) (map (λ r. row_of r (row_chunks (history_of c.args.self.now) c.args.phase last r)) (range_with_len a n))) in
     c.loop-r.invariant.filled
     ∙ ap (kept c.from-last.result c.oldest-oldest.result) (range_done c.oldest-oldest.result c.loop-r.r c.from-last.result (omega arith) c.loop-r.invariant.within)
-    ∙ (λ k. kept (c.from-last.ensures k) (c.oldest-oldest.ensures k) (c.from-last.ensures k + 1 - c.oldest-oldest.ensures k))
+    ∙ (λ k. kept (c.from-last.ensures k) (c.oldest-oldest.ensures.value k) (c.from-last.ensures k + 1 - c.oldest-oldest.ensures.value k))
