@@ -8,7 +8,8 @@ pub record Outside : Type 0 where
   pub clock : ℕ
   pub faults : ℕ
 
--- The clock rises, and the count of faults rises where Failed is answered and nowhere else. At the clock's last value Failed is answered.
+-- The clock rises, and the count of faults rises where Failed is answered and nowhere else. At the clock's last value
+-- Failed is answered.
 pub record Counts {T E : Type 0} (old new : Outside) (result : Result T E) : Type 0 where
   pub bytes : new.bytes ≡ old.bytes
   pub clock : new.clock ≡ one_more old.clock

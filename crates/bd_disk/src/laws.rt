@@ -1,4 +1,4 @@
-ghost use Rattle.bd_disk.specs.Laws.{ContentsAreAnImage, ContentsAtStay, IdleLeavesTheSame, ImagesChangeOnly, NothingWritten, ReadsCompose, ReadsOfRunStay, SettledLeavesContents, SinceComposes, SinceIsFromAMoment, SyncLeavesContents, TraceHasNoWrite, TraceOfCalls, TraceStaysWithin, WriteLeavesItsRange, WritesChangeOnly};
+ghost use Rattle.bd_disk.specs.Laws.{ClockRisesByOne, ContentsAreAnImage, ContentsAtStay, IdleLeavesTheSame, ImagesChangeOnly, NothingWritten, ReadsCompose, ReadsOfRunStay, SettledLeavesContents, SinceComposes, SinceIsFromAMoment, SyncLeavesContents, TraceHasNoWrite, TraceOfCalls, TraceStaysWithin, WriteLeavesItsRange, WritesChangeOnly};
 
 /// The contents are one of the images that a stop may leave.
 pub fn contents_are_an_image()
@@ -63,6 +63,11 @@ pub fn nothing_written()
 /// The contents at a clock stay what they were then.
 pub fn contents_at_stay()
     ensures { ContentsAtStay }
+{}
+
+/// The clock rises by one at each call.
+pub fn clock_rises_by_one()
+    ensures { ClockRisesByOne }
 {}
 
 /// The trace of a run of exactly these calls.
