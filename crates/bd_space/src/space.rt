@@ -71,7 +71,11 @@ impl Space {
         ensures enough { count ≤ owner.old.spare → result ≢ Err SpaceFault.OutOfMemory }
 
         ensures appended { OnOk result (owner.new.numbers ≡ owner.old.numbers ++ take count (free_numbers self.old)) }
+        ensures grown { OnOk result (length owner.new.numbers ≡ length owner.old.numbers + count) }
         ensures spare { OnOk result (owner.old.spare ≤ owner.new.spare + count) }
+
+        ensures were_free { OnOk result (All (IsFree self.old) (take count (free_numbers self.old))) }
+        ensures distinct { OnOk result (IsDistinct nat_eq (take count (free_numbers self.old))) }
         ensures taken { OnOk result (Marks (take count (free_numbers self.old)) Use.Taken self.old self.new) }
         ensures free { OnOk result (free_count self.new + count ≡ free_count self.old) }
         ensures held { OnOk result (held_count self.new ≡ held_count self.old) }
@@ -141,6 +145,7 @@ fn take_lowest(uses: &mut [Use], lowest: usize, count: u32, owner: &mut Owned) -
     requires below { numbers_from is_free lowest (drop lowest uses.old) ≡ numbers_from is_free 0 uses.old }
     requires found { count ≤ length (numbers_from is_free 0 uses.old) }
     ensures appended { owner.new.numbers ≡ owner.old.numbers ++ take count (numbers_from is_free 0 uses.old) }
+    ensures grown { length owner.new.numbers ≡ length owner.old.numbers + count }
     ensures spare { owner.old.spare ≤ owner.new.spare + count }
     ensures marked { uses.new ≡ marked_uses uses.old (take count (numbers_from is_free 0 uses.old)) Use.Taken }
     ensures rest { numbers_from is_free result (drop result uses.old) ≡ drop count (numbers_from is_free 0 uses.old) }
