@@ -64,8 +64,9 @@ impl Space {
         })
     }
 
-    /// Appends the `count` lowest free numbers to the owner's list, and they are taken. It asks for
-    /// memory only where the owner lacks room.
+    /// Appends the `count` lowest free numbers to the owner's list, and they are taken. `NoRoom` comes
+    /// exactly where more are wanted than are free. Memory is asked for only where the owner lacks
+    /// room. A refusal changes nothing.
     pub fn extend(&mut self, owner: &mut Owned, count: u32) -> Result<(), SpaceFault>
         ensures answers { MatchResult result (λ _. count ≤ free_count self.old) (IsRefusal count (free_count self.old)) }
         ensures enough { count ≤ owner.old.spare → result ≢ Err SpaceFault.OutOfMemory }
@@ -97,7 +98,7 @@ impl Space {
         Ok(())
     }
 
-    /// The owner's numbers are taken.
+    /// The owner's numbers, which are all free, are taken. Takes no memory.
     pub fn claim(&mut self, owner: &Owned)
         requires free { All (IsFree self.old) owner.now.numbers }
         requires distinct { IsDistinct nat_eq owner.now.numbers }
@@ -109,7 +110,7 @@ impl Space {
         self.free -= owner.len() as u32;
     }
 
-    /// The owner's numbers are free. Takes no memory.
+    /// The owner's numbers, which are all taken, are free. Takes no memory.
     pub fn give_back(&mut self, owner: Owned)
         requires taken { All (IsTaken self.old) owner.numbers }
         requires distinct { IsDistinct nat_eq owner.numbers }
