@@ -1,5 +1,5 @@
 -- The taken numbers of a space against the lists of its owners.
-use Rattle.std.proofs.Common.{◌≡◌, ◌≢◌, inl, inr, ℕ, zero, suc, ◌+◌, ◌<◌, List, [], ◌∷◌, ◌++◌, length, true, refl, sym, ◌∙◌, ap, subst, arith, replicate, All, Contains, slice_get, Some, None, count_by, nat_eq}
+use Rattle.std.proofs.Common.{◌≡◌, ◌≢◌, inl, inr, ℕ, zero, suc, ◌+◌, List, [], ◌∷◌, ◌++◌, length, true, refl, sym, ◌∙◌, ap, subst, arith, replicate, All, Contains, slice_get, Some, count_by, nat_eq}
 use Rattle.std.specs.List.{IsDistinct}
 use Rattle.std.specs.Prelude.{IsPermutation}
 use Rattle.std.proofs.lemmas.List.Elements.{All-nil, All-append, All-contains, All-contains_itself, All-weaker, Contains-append_left, Contains-append_right, Contains-append_cases}
@@ -8,7 +8,7 @@ use Rattle.std.proofs.lemmas.Map.Keys.{IsDistinct-IsPermutation}
 use Rattle.std.proofs.lemmas.Bool.Decides.{eqb_tells}
 use Rattle.bd_space.specs.declared.space.Use.{Use}
 use Rattle.bd_space.specs.declared.space.Use.TheVariants.{Free, Taken, Held}
-use Rattle.bd_space.specs.Allotment.{Allotment, IsFree, IsTaken, is_taken, taken_count, numbers_from, Marks, TakenExactly}
+use Rattle.bd_space.specs.Allotment.{Allotment, IsFree, IsTaken, is_taken, taken_count, Marks, TakenExactly}
 use Rattle.bd_space.specs.Marking.{marked_uses}
 use Rattle.bd_space.proofs.Numbers.{IsFound, found_in_numbers, length-numbers_from, Contains-head, Contains_decided}
 use Rattle.bd_space.proofs.Marked.{IsMarked, marked_uses_marked, count_by-marked_uses}
@@ -40,21 +40,21 @@ pub TakenExactly-append : (old new : Allotment) (numbers added : List ℕ) → T
     → Marks added Taken old new → TakenExactly new (numbers ++ added)
 TakenExactly-append old new numbers added exact free once marks = record {
   taken =
-    All-append (IsTaken new) numbers added
-    (All-weaker (IsTaken old) (IsTaken new) (λ n h. taken_still added old new n marks h) numbers exact.taken) marks.marked;
+      All-append (IsTaken new) numbers added
+      (All-weaker (IsTaken old) (IsTaken new) (λ n h. taken_still added old new n marks h) numbers exact.taken) marks.marked;
   others = λ n taken. elim (taken_after_taken added old new n marks taken) [
-    inl now ↦ Contains-append_right numbers added n now
+    | inl now ↦ Contains-append_right numbers added n now
     | inr before ↦ Contains-append_left numbers added n (exact.others n before)
   ];
   once = IsDistinct-append numbers added exact.once once
-    (λ n left right. free≢taken (sym (All-contains (IsFree old) added n free right) ∙ All-contains (IsTaken old) numbers n exact.taken left));
+      (λ n left right. free≢taken (sym (All-contains (IsFree old) added n free right) ∙ All-contains (IsTaken old) numbers n exact.taken left));
 }
 
 pub TakenExactly-left : (old new : Allotment) (kept given : List ℕ) → TakenExactly old (kept ++ given) → Marks given Free old new → TakenExactly new kept
 TakenExactly-left old new kept given exact marks = record {
   taken = All-weaker (Contains kept) (IsTaken new) still kept (All-contains_itself kept);
   others = λ n taken. elim (Contains-append_cases kept given n (exact.others n (taken_after_freed given old new n marks taken).1)) [
-    inl left ↦ left
+    | inl left ↦ left
     | inr right ↦ absurd ((taken_after_freed given old new n marks taken).0 right)
   ];
   once = distinct_left kept given exact.once;
@@ -67,7 +67,7 @@ TakenExactly-left old new kept given exact marks = record {
 
 flips : (x y : ℕ) → nat_eq x y ≡ nat_eq y x
 flips x y = elim (eqb_tells x y) [
-  inl same ↦ subst (λ z. nat_eq x z ≡ nat_eq z x) same.1 refl
+  | inl same ↦ subst (λ z. nat_eq x z ≡ nat_eq z x) same.1 refl
   | inr differ ↦ elim (eqb_tells y x) [ inl same ↦ absurd (differ.1 (sym same.1)) | inr other ↦ differ.0 ∙ sym other.0 ]
 ]
 
@@ -91,6 +91,7 @@ none_counted us none = sym (length-numbers_from is_taken 0 us) ∙ at _ (found_i
         by_use place Free found passes = cc
         by_use place Taken found passes = none place found
         by_use place Held found passes = cc
+
         taken : IsFound is_taken 0 us n → ⊥
         taken f = by_use f.place f.usage f.found f.passes
 
@@ -105,6 +106,6 @@ taken_count-exact space numbers exact =
   where
     gone : (vs : List Use) → IsMarked numbers Free space.uses vs → (n : ℕ) → slice_get vs n ≢ Some Taken
     gone vs marks n is = elim (Contains_decided numbers n) [
-      inl within ↦ free≢taken (sym (All-contains (λ m. slice_get vs m ≡ Some Free) numbers n marks.marked within) ∙ is)
+      | inl within ↦ free≢taken (sym (All-contains (λ m. slice_get vs m ≡ Some Free) numbers n marks.marked within) ∙ is)
       | inr without ↦ without (exact.others n (sym (marks.others n without) ∙ is))
     ]
