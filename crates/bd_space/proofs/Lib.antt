@@ -4,3 +4,4 @@ pub mod Marked
 pub mod Lowest
 pub mod Distinct
 pub mod Uses
+pub mod Exact

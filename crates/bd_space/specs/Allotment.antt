@@ -1,5 +1,6 @@
 -- What contracts see of a space: the use of each extent number.
-use Rattle.std.specs.Prelude.{◌≡◌, ◌+◌, ℕ, List, [], ◌∷◌, length, All, Contains, slice_get, count_by, Bool, true, false, if◌then◌else◌, Some}
+use Rattle.std.specs.Prelude.{◌≡◌, ◌+◌, ℕ, List, [], ◌∷◌, length, All, Contains, slice_get, count_by, nat_eq, Bool, true, false, if◌then◌else◌, Some}
+use Rattle.std.specs.List.{IsDistinct}
 use Rattle.bd_space.specs.declared.space.Use.{Use}
 use Rattle.bd_space.specs.declared.space.Use.TheVariants.{Free, Taken, Held}
 
@@ -57,3 +58,9 @@ pub record Marks (numbers : List ℕ) (usage : Use) (old new : Allotment) : Type
   pub size : extent_count new ≡ extent_count old
   pub marked : All (λ n. slice_get new.uses n ≡ Some usage) numbers
   pub others : (n : ℕ) → ¬ Contains numbers n → slice_get new.uses n ≡ slice_get old.uses n
+
+-- the taken numbers are exactly these, each standing once
+pub record TakenExactly (space : Allotment) (numbers : List ℕ) : Type 0 where
+  pub taken : All (IsTaken space) numbers
+  pub others : (n : ℕ) → IsTaken space n → Contains numbers n
+  pub once : IsDistinct nat_eq numbers

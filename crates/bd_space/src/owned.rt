@@ -4,7 +4,8 @@ ghost use Rattle.bd_space.specs.Holding.{Holding};
 use std::alloc::{AllocError as OutOfMemory, Global};
 use std::marker::Model;
 
-/// A list of extent numbers, in the order in which they came. It takes memory only in `of` and `reserve`.
+/// A list of extent numbers, in the order in which they came. It takes memory only in `of`, in `reserve`
+/// and where `Space::extend` finds too little room.
 #[derive(Drop)]
 pub struct Owned {
     numbers: Vec<u32>,

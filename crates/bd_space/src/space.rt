@@ -64,14 +64,19 @@ impl Space {
         })
     }
 
-    /// Appends the `count` lowest free numbers to the owner's list, and they are taken. It asks for
-    /// memory only where the owner lacks room.
+    /// Appends the `count` lowest free numbers to the owner's list, and they are taken. `NoRoom` comes
+    /// exactly where more are wanted than are free. Memory is asked for only where the owner lacks
+    /// room. A refusal changes nothing.
     pub fn extend(&mut self, owner: &mut Owned, count: u32) -> Result<(), SpaceFault>
         ensures answers { MatchResult result (λ _. count ≤ free_count self.old) (IsRefusal count (free_count self.old)) }
         ensures enough { count ≤ owner.old.spare → result ≢ Err SpaceFault.OutOfMemory }
 
         ensures appended { OnOk result (owner.new.numbers ≡ owner.old.numbers ++ take count (free_numbers self.old)) }
+        ensures grown { OnOk result (length owner.new.numbers ≡ length owner.old.numbers + count) }
         ensures spare { OnOk result (owner.old.spare ≤ owner.new.spare + count) }
+
+        ensures were_free { OnOk result (All (IsFree self.old) (take count (free_numbers self.old))) }
+        ensures distinct { OnOk result (IsDistinct nat_eq (take count (free_numbers self.old))) }
         ensures taken { OnOk result (Marks (take count (free_numbers self.old)) Use.Taken self.old self.new) }
         ensures free { OnOk result (free_count self.new + count ≡ free_count self.old) }
         ensures held { OnOk result (held_count self.new ≡ held_count self.old) }
@@ -93,7 +98,7 @@ impl Space {
         Ok(())
     }
 
-    /// The owner's numbers are taken.
+    /// The owner's numbers, which are all free, are taken. Takes no memory.
     pub fn claim(&mut self, owner: &Owned)
         requires free { All (IsFree self.old) owner.now.numbers }
         requires distinct { IsDistinct nat_eq owner.now.numbers }
@@ -105,7 +110,7 @@ impl Space {
         self.free -= owner.len() as u32;
     }
 
-    /// The owner's numbers are free. Takes no memory.
+    /// The owner's numbers, which are all taken, are free. Takes no memory.
     pub fn give_back(&mut self, owner: Owned)
         requires taken { All (IsTaken self.old) owner.numbers }
         requires distinct { IsDistinct nat_eq owner.numbers }
@@ -141,6 +146,7 @@ fn take_lowest(uses: &mut [Use], lowest: usize, count: u32, owner: &mut Owned) -
     requires below { numbers_from is_free lowest (drop lowest uses.old) ≡ numbers_from is_free 0 uses.old }
     requires found { count ≤ length (numbers_from is_free 0 uses.old) }
     ensures appended { owner.new.numbers ≡ owner.old.numbers ++ take count (numbers_from is_free 0 uses.old) }
+    ensures grown { length owner.new.numbers ≡ length owner.old.numbers + count }
     ensures spare { owner.old.spare ≤ owner.new.spare + count }
     ensures marked { uses.new ≡ marked_uses uses.old (take count (numbers_from is_free 0 uses.old)) Use.Taken }
     ensures rest { numbers_from is_free result (drop result uses.old) ≡ drop count (numbers_from is_free 0 uses.old) }

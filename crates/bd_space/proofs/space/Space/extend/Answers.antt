@@ -4,6 +4,7 @@ use Rattle.bd_space.specs.declared.space.Use.{Use}
 use Rattle.bd_space.specs.declared.space.Use.TheVariants.{Taken}
 use Rattle.bd_space.specs.Allotment.{Allotment, is_free, numbers_from}
 use Rattle.bd_space.specs.Marking.{marked_uses}
+use Rattle.bd_space.proofs.Lowest.{All-lowest_free, IsDistinct-lowest_free}
 use Rattle.bd_space.proofs.Kept.{kept_extended, moved_by_extend, from_lowest}
 use Rattle.bd_space.proofs.Numbers.{length-numbers_from}
 use Rattle.bd_space.proofs.Marked.{Marks-from_marked}
@@ -48,3 +49,9 @@ returns-clause-held c =
     c.self.inside.free c.self.inside.held c.self.inside.lowest c.self.invariant (omega arith) (ap (λ (a : Allotment). a.uses) c.self.view_is)
     c.deref_mut.ensures.value (with_items_is c.self.inside.uses c.take_lowest-self-inside.new.uses (omega arith)) c.take_lowest-self-inside.ensures.marked in
     moved.held
+
+pub returns-clause-were_free : goal.returns-clause-were_free
+returns-clause-were_free c = All-lowest_free c.args.count c.args.self.now
+
+pub returns-clause-distinct : goal.returns-clause-distinct
+returns-clause-distinct c = IsDistinct-lowest_free c.args.count c.args.self.now
