@@ -12,7 +12,7 @@ use Rattle.bd_model.specs.Layout.{closed_volume, open_category, is_arranged, is_
 use Rattle.bd_model.specs.Room.{archived}
 use Rattle.bd_model.specs.Step.{next_start}
 use Rattle.bd_model.specs.Laws.{rows_with, grown, ArrangesOne, SameLayout, OneStepOfArranging}
-use Rattle.bd_model.proofs.ListLemmas.{filter-same, filter-numbers}
+use Rattle.bd_model.proofs.ListLemmas.{filter-numbers}
 use Rattle.bd_model.proofs.HistoryLemmas.{newest-grown}
 use Rattle.bd_model.proofs.LayoutLemmas.{closed_volume-step, open_category-waiting, open_category-arranged, open_category-fresh}
 use Rattle.bd_model.proofs.RowLemmas.{rows-step, rows_over, rows_over-same, recorded_as-numbers, one_more}
@@ -78,15 +78,15 @@ module _ (h : History) (w : List (List ℕ)) where
   all_done : SameLayout next (Waiting (newest h + 1)) Settled
   all_done = record {
     volumes = λ j. by_newest j
-    (closed_volume next (Waiting (newest h + 1)) j ≡ closed_volume next Settled j)
-    (λ e. subst (λ n. closed_volume next (Waiting (newest h + 1)) n ≡ closed_volume next Settled n) (sym e)
-    (ap (flat_map (λ i. category next i (newest h))) (filter-numbers _ _ (h.base + 1) (newest h) (λ i low high. all_arranged i high))))
-    (other_volumes (Waiting (newest h + 1)) Settled j);
+        (closed_volume next (Waiting (newest h + 1)) j ≡ closed_volume next Settled j)
+        (λ e. subst (λ n. closed_volume next (Waiting (newest h + 1)) n ≡ closed_volume next Settled n) (sym e)
+        (ap (flat_map (λ i. category next i (newest h))) (filter-numbers _ _ (h.base + 1) (newest h) (λ i low high. all_arranged i high))))
+        (other_volumes (Waiting (newest h + 1)) Settled j);
     rows = λ j. by_newest j
-    (rows next (Waiting (newest h + 1)) j ≡ rows next Settled j)
-    (λ e. subst (λ n. rows next (Waiting (newest h + 1)) n ≡ rows next Settled n) (sym e)
-    (rows_over-same (row_chunks next (Waiting (newest h + 1)) (newest h)) (row_chunks next Settled (newest h)) (oldest h) (newest h + 1 - oldest h) (λ r low high. row r (omega arith))))
-    (other_rows (Waiting (newest h + 1)) Settled j);
+        (rows next (Waiting (newest h + 1)) j ≡ rows next Settled j)
+        (λ e. subst (λ n. rows next (Waiting (newest h + 1)) n ≡ rows next Settled n) (sym e)
+        (rows_over-same (row_chunks next (Waiting (newest h + 1)) (newest h)) (row_chunks next Settled (newest h)) (oldest h) (newest h + 1 - oldest h) (λ r low high. row r (omega arith))))
+        (other_rows (Waiting (newest h + 1)) Settled j);
     categories = λ i le.
         ⊎_elim
         (λ less. ap (λ t. living next i (cond t (newest next) (max i (newest next - 1)))) (lt-ltb i (newest h + 1) less))
@@ -113,10 +113,10 @@ module _ (h : History) (w : List (List ℕ)) where
       let none : archived h w cursor ≡ [] = ap (filter (λ c. not (contains w c))) empty in
       record {
         volumes = λ j. by_newest j
-        (closed_volume next (Waiting cursor) j ≡ closed_volume next (Waiting (cursor + 1)) j)
-        (λ e. subst (λ n. closed_volume next (Waiting cursor) n ≡ closed_volume next (Waiting (cursor + 1)) n) (sym e)
-        (sym (step.volume ∙ ap (λ cs. closed_volume next (Waiting cursor) (newest h) ++ cs) none ∙ append-nil (closed_volume next (Waiting cursor) (newest h)))))
-        (other_volumes (Waiting cursor) (Waiting (cursor + 1)) j);
+            (closed_volume next (Waiting cursor) j ≡ closed_volume next (Waiting (cursor + 1)) j)
+            (λ e. subst (λ n. closed_volume next (Waiting cursor) n ≡ closed_volume next (Waiting (cursor + 1)) n) (sym e)
+            (sym (step.volume ∙ ap (λ cs. closed_volume next (Waiting cursor) (newest h) ++ cs) none ∙ append-nil (closed_volume next (Waiting cursor) (newest h)))))
+            (other_volumes (Waiting cursor) (Waiting (cursor + 1)) j);
         categories = λ i le.
             elim (nat_eq i cursor) as (λ t. nat_eq i cursor ≡ t → open_category next (Waiting cursor) i ≡ open_category next (Waiting (cursor + 1)) i) [
               | true ↦ λ e.
@@ -125,10 +125,10 @@ module _ (h : History) (w : List (List ℕ)) where
               | false ↦ λ e. sym (step.other_categories i (eqb-false i cursor e))
             ] refl;
         rows = λ j. by_newest j
-        (rows next (Waiting cursor) j ≡ rows next (Waiting (cursor + 1)) j)
-        (λ e. subst (λ n. rows next (Waiting cursor) n ≡ rows next (Waiting (cursor + 1)) n) (sym e)
-        (sym (step.rows_grow ∙ ap (λ cs. rows_with (max cursor (oldest h)) cs (rows next (Waiting cursor) (newest h))) none)))
-        (other_rows (Waiting cursor) (Waiting (cursor + 1)) j);
+            (rows next (Waiting cursor) j ≡ rows next (Waiting (cursor + 1)) j)
+            (λ e. subst (λ n. rows next (Waiting cursor) n ≡ rows next (Waiting (cursor + 1)) n) (sym e)
+            (sym (step.rows_grow ∙ ap (λ cs. rows_with (max cursor (oldest h)) cs (rows next (Waiting cursor) (newest h))) none)))
+            (other_rows (Waiting cursor) (Waiting (cursor + 1)) j);
       }
 
   skip_many : (cursor k : ℕ) → h.base + 1 ≤ cursor → cursor + k ≤ newest h + 1 → h.expired < length h.versions → ((j : ℕ) → cursor ≤ j → j < cursor + k → open_category h Settled j ≡ []) →

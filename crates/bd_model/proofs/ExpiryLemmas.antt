@@ -1,18 +1,17 @@
 -- What giving up the oldest version takes.
-use Rattle.std.proofs.Common.{◌≡◌, ℕ, ◌+◌, ◌-◌, ◌<◌, ◌≤◌, Bool, true, false, cond, ◌&&◌, ◌||◌, List, [], ◌∷◌, refl, sym, ◌∙◌, ap, arith, sum_by, filter, length, nat_eq, nat_lt, lt-ltb, eq-eqb}
+use Rattle.std.proofs.Common.{◌≡◌, ℕ, ◌+◌, ◌-◌, ◌≤◌, true, false, cond, ◌&&◌, ◌||◌, [], refl, sym, ◌∙◌, ap, arith, sum_by, length, nat_eq, nat_lt, lt-ltb, eq-eqb}
 use Rattle.std.proofs.lemmas.Bool.{ne_eqb}
 use Rattle.std.proofs.lemmas.List.Sums.{sum_by-cons}
 use Rattle.std.specs.List.{flat_map}
-use Rattle.bd_model.specs.declared.shape.Shape.{Shape}
 use Rattle.bd_model.specs.declared.layout.Phase.{Phase}
 use Rattle.bd_model.specs.declared.layout.Phase.TheVariants.{Settled}
 use Rattle.bd_model.specs.Chunks.{numbers}
 use Rattle.bd_model.specs.History.{History, version, newest, oldest, retained}
 use Rattle.bd_model.specs.Category.{category}
-use Rattle.bd_model.specs.State.{VersionState, history}
+use Rattle.bd_model.specs.State.{history}
 use Rattle.bd_model.specs.Layout.{closed_volume, open_category, is_arranged, is_closed, record_bytes, row_chunks}
 use Rattle.bd_model.specs.Room.{up, owned, recipe_bytes}
-use Rattle.bd_model.specs.Step.{drop_oldest, dropped_extents, expired_extents}
+use Rattle.bd_model.specs.Step.{dropped_extents}
 use Rattle.bd_model.specs.Laws.{given_up, TakesOnlyTheOldest, ExpiryTakesOnlyTheOldest}
 use Rattle.bd_model.proofs.ListLemmas.{numbers-cons, numbers-none, filter-same}
 use Rattle.bd_model.proofs.LayoutLemmas.{row_chunks-merged, row_chunks-later}

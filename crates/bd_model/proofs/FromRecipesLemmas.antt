@@ -7,7 +7,7 @@ use Rattle.std.specs.List.{list_any}
 use Rattle.std.specs.Str.{bytes_eq}
 use Rattle.bd_model.specs.Chunks.{numbers}
 use Rattle.bd_model.specs.Marks.{mark, Distinct}
-use Rattle.bd_model.specs.History.{History, version, newest, contains, distinct}
+use Rattle.bd_model.specs.History.{History, version, newest, contains}
 use Rattle.bd_model.specs.declared.layout.RecipeEntry.{RecipeEntry}
 use Rattle.bd_model.specs.Recipe.{start_of, entry_of, recipe, first_entries, has_mark, entry_records, starts_of}
 use Rattle.bd_model.specs.Layout.{record_bytes}
@@ -59,9 +59,9 @@ any-filter p r [] = λ has. has
 any-filter p r (e ∷ es) =
     elim (r e) as (λ b. list_any p (cond b (e ∷ filter r es) (filter r es)) ≡ true → (p e || list_any p es) ≡ true) [
       | true ↦ λ has. elim (or_cases (p e) (list_any p (filter r es)) has) [
-          | inl first ↦ or_left (p e) (list_any p es) first
-          | inr later ↦ or_right (p e) (list_any p es) (any-filter p r es later)
-        ]
+        | inl first ↦ or_left (p e) (list_any p es) first
+        | inr later ↦ or_right (p e) (list_any p es) (any-filter p r es later)
+      ]
       | false ↦ λ has. or_right (p e) (list_any p es) (any-filter p r es has)
     ]
 

@@ -1,7 +1,7 @@
 -- The laws that put other lemmas together.
-use Rattle.std.proofs.Common.{◌≡◌, ℕ, ◌+◌, ◌-◌, ◌<◌, ◌≤◌, cond, List, [], ◌∷◌, refl, sym, ◌∙◌, ap, arith, sum_by, flat_map, filter, not, zero-add, add-zero}
+use Rattle.std.proofs.Common.{◌≡◌, ℕ, ◌+◌, ◌-◌, ◌≤◌, cond, List, [], ◌∷◌, sym, ◌∙◌, ap, arith, sum_by, flat_map, filter, not, zero-add}
 use Rattle.bd_model.specs.Chunks.{numbers}
-use Rattle.bd_model.specs.History.{History, version, newest, oldest, contains}
+use Rattle.bd_model.specs.History.{History, version, newest, contains}
 use Rattle.bd_model.specs.declared.layout.Phase.TheVariants.{Settled, Waiting}
 use Rattle.bd_model.specs.Layout.{closed_volume, open_category, record_bytes}
 use Rattle.bd_model.specs.Room.{up, recipe_bytes, owned, need, fresh, kept, archived, lacks_some, reserve_left}

@@ -1,8 +1,7 @@
 -- How the rows of the newest closed volume grow.
-use Rattle.std.proofs.Common.{◌≡◌, ◌≢◌, ℕ, zero, suc, ◌+◌, ◌-◌, ◌<◌, ◌≤◌, max, Bool, true, false, cond, not, ◌||◌, ◌&&◌, List, [], ◌∷◌, ◌++◌, refl, sym, ◌∙◌, ap, arith, filter, map, length, length-append, append_assoc, nat_lt, nat_eq, lt-ltb, le-ltb, eq-eqb, ◌⊎◌, inl, inr, ⊎_elim}
+use Rattle.std.proofs.Common.{◌≡◌, ◌≢◌, ℕ, zero, suc, ◌+◌, ◌-◌, ◌<◌, ◌≤◌, max, Bool, true, false, cond, not, ◌||◌, ◌&&◌, List, [], ◌∷◌, ◌++◌, refl, sym, ◌∙◌, ap, arith, filter, map, length, length-append, nat_lt, nat_eq, lt-ltb, le-ltb, eq-eqb, ◌⊎◌, inl, inr, ⊎_elim}
 use Rattle.std.proofs.lemmas.Bool.{ne_eqb, cases_lt, eqb-true, eqb-false, false≢true}
 use Rattle.std.proofs.lemmas.List.{append-nil}
-use Rattle.std.proofs.lemmas.List.Elements.{filter-append}
 use Rattle.std.proofs.lemmas.List.Sums.{sum_by-append}
 use Rattle.std.proofs.lemmas.Grind.{flat_map-append}
 use Rattle.std.specs.List.{flat_map, list_all, range_with_len}
@@ -10,11 +9,11 @@ use Rattle.bd_model.specs.Chunks.{numbers}
 use Rattle.bd_model.specs.History.{History, newest, oldest, contains}
 use Rattle.bd_model.specs.Category.{category}
 use Rattle.bd_model.specs.declared.layout.CategoryRow.{CategoryRow}
-use Rattle.bd_model.specs.declared.layout.Phase.TheVariants.{Settled, Waiting}
-use Rattle.bd_model.specs.Layout.{is_closed, recorded_as, row_chunks, row_of, rows, record_bytes}
+use Rattle.bd_model.specs.declared.layout.Phase.TheVariants.{Waiting}
+use Rattle.bd_model.specs.Layout.{recorded_as, row_chunks, row_of, rows}
 use Rattle.bd_model.specs.Room.{archived}
 use Rattle.bd_model.specs.Laws.{row_with, rows_with}
-use Rattle.bd_model.proofs.ListLemmas.{left_and, right_and, filter-same, filter-numbers, filter-numbers_none, filter-below, numbers-split, numbers-cons, numbers-none, numbers-suc, flat_map-numbers}
+use Rattle.bd_model.proofs.ListLemmas.{left_and, right_and, filter-same, filter-numbers, filter-numbers_none, filter-below, numbers-split, numbers-cons, numbers-none, numbers-suc}
 use Rattle.bd_model.proofs.HistoryLemmas.{grown, newest-grown}
 use Rattle.bd_model.proofs.CategoryLemmas.{category-archived, category-newest}
 

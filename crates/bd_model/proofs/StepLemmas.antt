@@ -1,24 +1,24 @@
 -- A command leaves a legal state and a legal phase.
-use Rattle.std.proofs.Common.{◌≡◌, ◌⊎◌, ◌≢◌, ℕ, ◌+◌, ◌-◌, ◌<◌, ◌≤◌, Bool, true, false, cond, not, ◌&&◌, List, [], ◌∷◌, ◌++◌, refl, sym, ◌∙◌, ap, subst, arith, length, map, find, nat_eq, nat_lt, nat_le, length-append, Option, Some, None, IfSome, option_map, inl, inr, ⊎_elim}
-use Rattle.std.proofs.lemmas.Bool.{eqb-true, eqb-false, ltb-true, ltb-false, leb-true, leb-false}
+use Rattle.std.proofs.Common.{◌≡◌, ◌≢◌, ℕ, ◌+◌, ◌-◌, ◌<◌, ◌≤◌, true, false, cond, ◌&&◌, List, [], refl, ◌∙◌, arith, length, nat_eq, nat_lt, nat_le, Option, Some, None, IfSome, option_map, inl, inr, ⊎_elim}
+use Rattle.std.proofs.lemmas.Bool.{eqb-false, leb-false}
 use Rattle.std.proofs.lemmas.List.{length-map, length_push}
 use Rattle.std.specs.FinMap as map
 use Rattle.bd_model.specs.declared.shape.Shape.{Shape}
 use Rattle.bd_model.specs.declared.command.Command.{Command}
 use Rattle.bd_model.specs.declared.command.Command.TheVariants.{Backup, Restore, Expire, Reorganise, Scrub, List as Listing}
 use Rattle.bd_model.specs.declared.answer.Answer.{Answer}
-use Rattle.bd_model.specs.declared.answer.Answer.TheVariants.{BackedUp, Restored, Expired, Arranged, Scrubbed, Listed, FullNumbers, FullVersions, FullExtents, NoVersion, NothingRetained}
+use Rattle.bd_model.specs.declared.answer.Answer.TheVariants.{BackedUp, Expired, FullNumbers, FullVersions, FullExtents, NoVersion, NothingRetained}
 use Rattle.bd_model.specs.declared.layout.Phase.{Phase}
 use Rattle.bd_model.specs.declared.layout.Phase.TheVariants.{Settled, Waiting}
-use Rattle.bd_model.specs.Chunks.{chunks, numbers}
+use Rattle.bd_model.specs.Chunks.{chunks}
 use Rattle.bd_model.specs.History.{History, newest, oldest, retained}
 use Rattle.bd_model.specs.FileMap.{FileMap}
-use Rattle.bd_model.specs.State.{Version, VersionState, IsState, IsPhase, history, streams, cut_of, last_number}
+use Rattle.bd_model.specs.State.{VersionState, IsState, IsPhase, history, streams, cut_of, last_number}
 use Rattle.bd_model.specs.Layout.{open_category}
 use Rattle.bd_model.specs.Room.{counted, need, fresh}
 use Rattle.bd_model.specs.Laws.{Keeps, StatesStayLegal}
 use Rattle.std.proofs.lemmas.Option.{IfSome_then}
-use Rattle.bd_model.specs.Step.{Outcome, unchanged, restore, expired_extents, step, backup, free_extents, drop_oldest, with_version, phase_after, next_start, phase_after_step}
+use Rattle.bd_model.specs.Step.{unchanged, restore, expired_extents, step, backup, free_extents, drop_oldest, with_version, next_start, phase_after_step}
 use Rattle.bd_model.proofs.ListLemmas.{IfSome-find_range_with_len}
 
 module _ (shape : Shape) where

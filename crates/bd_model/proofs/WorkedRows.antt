@@ -6,7 +6,7 @@ use Rattle.bd_model.specs.Layout.{closed_volume, open_category, rows, row_of}
 use Rattle.bd_model.specs.declared.layout.Phase.TheVariants.{Settled, Waiting}
 use Rattle.bd_model.specs.Room.{need, counted, running, owned, fresh, reserve_left}
 use Rattle.bd_model.specs.Recipe.{recipe, entry_of}
-use Rattle.std.specs.Prelude.{codes, Option, Some, None, option_map, IsTrue}
+use Rattle.std.specs.Prelude.{codes, Option, Some, None, IsTrue}
 use Rattle.std.specs.Int.{is_power_of_two}
 use lib.Count.{ones}
 use Rattle.std.proofs.Common.{lit≤}
