@@ -15,7 +15,7 @@ use Rattle.bd_model.specs.Laws.{rows_with, grown, ArrangesOne, SameLayout, OneSt
 use Rattle.bd_model.proofs.ListLemmas.{filter-numbers}
 use Rattle.bd_model.proofs.HistoryLemmas.{newest-grown}
 use Rattle.bd_model.proofs.LayoutLemmas.{closed_volume-step, open_category-waiting, open_category-arranged, open_category-fresh}
-use Rattle.bd_model.proofs.RowLemmas.{rows-step, rows_over, rows_over-same, recorded_as-numbers, one_more}
+use Rattle.bd_model.proofs.RowLemmas.{no_chunks, rows-step, rows_over, rows_over-same, recorded_as-numbers, one_more}
 
 none_some : (n : ℕ) → None ≡ Some n → ⊥
 none_some n e = cc
@@ -138,11 +138,6 @@ module _ (h : History) (w : List (List ℕ)) where
       let same : cursor + 1 + k ≡ cursor + suc k = omega arith in
       same_twice (skip_one cursor low (omega arith) some (empty cursor (omega arith) (omega arith)))
       (subst (λ n. SameLayout next (Waiting (cursor + 1)) (Waiting n)) same (skip_many (cursor + 1) k (omega arith) (omega arith) some (λ j from to. empty j (omega arith) (omega arith))))
-
-  -- where no chunk is counted there is none
-  no_chunks : (cs : List (List ℕ)) → nat_lt 0 (length cs) ≡ false → cs ≡ []
-  no_chunks [] e = refl
-  no_chunks (c ∷ cs) e = absurd (omega (arith, ltb-false 0 (length (c ∷ cs)) e))
 
   abbrev is_next : ℕ → ℕ → Bool
   is_next cursor i = nat_lt 0 (length (open_category next (Waiting cursor) i))

@@ -15,6 +15,7 @@ use Rattle.bd_model.specs.Step.{dropped_extents}
 use Rattle.bd_model.specs.Laws.{given_up, TakesOnlyTheOldest, ExpiryTakesOnlyTheOldest}
 use Rattle.bd_model.proofs.ListLemmas.{numbers-cons, numbers-none, filter-same}
 use Rattle.bd_model.proofs.LayoutLemmas.{row_chunks-merged, row_chunks-later}
+use Rattle.bd_model.proofs.RowLemmas.{rows-given_up}
 use Rattle.bd_model.proofs.StepLemmas.{length-history}
 
 -- a sum over a range without its first number
@@ -49,8 +50,7 @@ takes h phase more same =
       recipes = λ v. refl;
       volumes = λ j. refl;
       categories = λ i. refl;
-      first_row = λ j. ap (row_chunks (given_up h) phase j) (sym next) ∙ row_chunks-merged h phase j;
-      other_rows = λ j r lt. row_chunks-later (given_up h) phase j r (omega arith) ∙ sym (row_chunks-later h phase j r (omega arith));
+      rows = rows-given_up h phase;
     }
 
 nothing_owned : (extent base : ℕ) → owned extent (record { base = base; versions = []; expired = 0 }) Settled ≡ 0

@@ -5,14 +5,14 @@ use Rattle.bd_model.specs.History.{History, version, newest, contains}
 use Rattle.bd_model.specs.declared.layout.Phase.TheVariants.{Settled, Waiting}
 use Rattle.bd_model.specs.Layout.{closed_volume, open_category, record_bytes}
 use Rattle.bd_model.specs.Room.{up, recipe_bytes, owned, need, fresh, kept, archived, lacks_some, reserve_left}
-use Rattle.bd_model.specs.Laws.{grown, ANewVersionSplitsTheCategories, ClosedVolumesGrow, ABackupLeavesItsReserve, RefusalIsExact, RecipesGiveTheCounts}
+use Rattle.bd_model.specs.Laws.{grown, ANewVersionSplitsTheCategories, ClosedVolumesGrow, ABackupLeavesItsReserve, RefusalIsExact}
 use Rattle.bd_model.proofs.ListLemmas.{numbers-none, numbers-cons}
 use Rattle.bd_model.proofs.HistoryLemmas.{version-newest}
 use Rattle.bd_model.proofs.CategoryLemmas.{category-earlier, category-archived, category-kept, category-fresh, category-newest}
 use Rattle.bd_model.proofs.LayoutLemmas.{closed_volume-earlier, closed_volume-newest, open_category-waiting, open_category-arranged, open_category-settled, open_category-fresh}
 use Rattle.bd_model.proofs.RoomLemmas.{up-zero, need-reserve_left, owned-grown, reserve_is_free, reserve_left-step}
 use Rattle.bd_model.proofs.CountedLemmas.{counted-above}
-use Rattle.bd_model.proofs.FromRecipesLemmas.{need_of-need, counted_of-counted, counted_of-above}
+use Rattle.bd_model.proofs.FromRecipesLemmas.{counted_of-above}
 
 pub a_new_version_splits_the_categories : ANewVersionSplitsTheCategories
 a_new_version_splits_the_categories = record {
@@ -73,10 +73,4 @@ pub refusal_is_exact : RefusalIsExact
 refusal_is_exact = record {
   chunks = λ extent free h w some. counted-above extent h some w free;
   recipes = λ extent free old new some. counted_of-above extent some old new free;
-}
-
-pub recipes_give_the_counts : RecipesGiveTheCounts
-recipes_give_the_counts = record {
-  need = λ extent h w e are apart. need_of-need h w e are.marks are.lengths extent apart;
-  counted = λ extent free h w e are apart. counted_of-counted h w e are.marks are.lengths extent apart free;
 }

@@ -17,7 +17,7 @@ use Rattle.bd_model.specs.Layout.{record_bytes, row_of, rows, row_chunks, closed
 use Rattle.bd_model.specs.Marks.{mark, Distinct, Near}
 use Rattle.bd_model.specs.Recipe.{recipe, start_of}
 use Rattle.bd_model.specs.Room.{up, owned, recipe_bytes, fresh, kept, archived, lacks_some, need, counted, reserve_left, need_of, counted_of}
-use Rattle.bd_model.specs.State.{VersionState, IsState, IsPhase, history}
+use Rattle.bd_model.specs.State.{VersionState, IsState, IsPhase, history, cut_of}
 use Rattle.bd_model.specs.Step.{Outcome, step, drop_oldest, dropped_extents, expired_extents, phase_after, next_start, phase_after_step}
 
 -- the least chunk has a byte, and is no longer than the longest
@@ -27,6 +27,14 @@ IsCut cut = (1 ≤ cut.least) × (cut.least ≤ cut.most)
 -- The chunks of a stream, joined together, are the stream.
 abbrev pub ChunksJoinedAreTheStream : Type 0
 ChunksJoinedAreTheStream = (cut : Cut) (stream : List ℕ) → IsCut cut → concat (chunks cut stream) ≡ stream
+
+-- A chunk has a byte and no more than the most that it may have, and one with less than the least is the last of its
+-- stream; so a stream has no more chunks than bytes. The sizes of every shape are in order.
+pub record ChunksAreWithinBounds : Type 0 where
+  pub each : (cut : Cut) (stream c : List ℕ) → IsCut cut → IsTrue (contains (chunks cut stream) c) → (1 ≤ length c) × (length c ≤ cut.most)
+  pub least : (cut : Cut) (stream : List ℕ) (start : ℕ) → IsCut cut → start < length stream → chunk_len cut stream start < cut.least → start + chunk_len cut stream start ≡ length stream
+  pub count : (cut : Cut) (stream : List ℕ) → length (chunks cut stream) ≤ length stream
+  pub shapes : (shape : Shape) → IsCut (cut_of shape)
 
 -- the chunks from `start` on up to the first that isn't decided, at most `count` of them
 unfoldable pub decided_from : Cut → List ℕ → ℕ → ℕ → List (List ℕ)
@@ -105,6 +113,22 @@ rows_with r chunks [] = row_of r chunks ∷ []
 rows_with r chunks (row ∷ []) = if row.start == r then row_with row chunks ∷ [] else row ∷ row_of r chunks ∷ []
 rows_with r chunks (row ∷ rows) = row ∷ rows_with r chunks rows
 
+-- The rows of a closed volume count its chunks and the bytes of its records. There is one for each recorded start that
+-- has chunks, in ascending order.
+pub record RowsDescribeTheVolume : Type 0 where
+  pub chunks : (h : History) (phase : Phase) (j : ℕ) → oldest h ≤ j → sum_by (λ row. row.chunks) (rows h phase j) ≡ length (closed_volume h phase j)
+  pub bytes : (h : History) (phase : Phase) (j : ℕ) → oldest h ≤ j → sum_by (λ row. row.bytes) (rows h phase j) ≡ record_bytes (closed_volume h phase j)
+  pub starts : (h : History) (phase : Phase) (j : ℕ) → map (λ row. row.start) (rows h phase j) ≡ filter (λ r. nat_lt 0 (length (row_chunks h phase j r))) (numbers (oldest h) j)
+
+-- the rows where r becomes the oldest version: a first row of a lower start gets this one, and takes in a row that has it
+abbrev pub rows_from : ℕ → List CategoryRow → List CategoryRow
+rows_from r [] = []
+rows_from r (row ∷ []) = record row { start = max r row.start } ∷ []
+rows_from r (row ∷ second ∷ rows) =
+    if nat_lt row.start r && second.start == r
+    then record { start = r; chunks = row.chunks + second.chunks; bytes = row.bytes + second.bytes } ∷ rows
+    else record row { start = max r row.start } ∷ second ∷ rows
+
 -- one step of arranging the version of the chunks w, that of start i
 pub record ArrangesOne (h : History) (w : List (List ℕ)) (i : ℕ) : Type 0 where
   pub volume : closed_volume (grown h w) (Waiting (i + 1)) (newest h) ≡ closed_volume (grown h w) (Waiting i) (newest h) ++ archived h w i
@@ -139,8 +163,7 @@ pub record TakesOnlyTheOldest (h : History) (phase : Phase) : Type 0 where
   pub recipes : (v : ℕ) → recipe (given_up h) v ≡ recipe h v
   pub volumes : (j : ℕ) → closed_volume (given_up h) phase j ≡ closed_volume h phase j
   pub categories : (i : ℕ) → open_category (given_up h) phase i ≡ open_category h phase i
-  pub first_row : (j : ℕ) → row_chunks (given_up h) phase j (oldest h + 1) ≡ row_chunks h phase j (oldest h) ++ row_chunks h phase j (oldest h + 1)
-  pub other_rows : (j r : ℕ) → oldest h + 1 < r → row_chunks (given_up h) phase j r ≡ row_chunks h phase j r
+  pub rows : (j : ℕ) → oldest h < j → rows (given_up h) phase j ≡ rows_from (oldest h + 1) (rows h phase j)
 
 -- An expiry takes only the oldest version's parts where others are left, in a settled store or one with three versions
 -- or more; with the only version it takes all.
@@ -196,17 +219,17 @@ pub record RefusalIsExact : Type 0 where
   pub chunks : (extent free : ℕ) (h : History) (w : List (List ℕ)) → 1 ≤ extent → (free < counted extent h w free) ↔ (free < need extent h w)
   pub recipes : (extent free : ℕ) (old new : List RecipeEntry) → 1 ≤ extent → (free < counted_of extent old new free) ↔ (free < need_of extent old new)
 
--- the entries have the marks and the lengths of their chunks
-pub record AreEntries (e : List ℕ → RecipeEntry) : Type 0 where
-  pub marks : (c : List ℕ) → (e c).mark.0 ≡ mark c
-  pub lengths : (c : List ℕ) → (e c).length ≡ length c
+-- the entries have the marks and the lengths of these chunks
+pub record AreEntriesOf (entries : List RecipeEntry) (chunks : List (List ℕ)) : Type 0 where
+  pub marks : map (λ e. e.mark.0) entries ≡ map mark chunks
+  pub lengths : map (λ e. e.length) entries ≡ map (λ c. length c) chunks
 
 -- Where marks tell the chunks of the newest version and the new one apart, their recipes give the need and the count.
 pub record RecipesGiveTheCounts : Type 0 where
-  pub need : (extent : ℕ) (h : History) (w : List (List ℕ)) (e : List ℕ → RecipeEntry) → AreEntries e → Distinct (version h (newest h) ++ w) →
-      need_of extent (recipe h (newest h)) (map e w) ≡ need extent h w
-  pub counted : (extent free : ℕ) (h : History) (w : List (List ℕ)) (e : List ℕ → RecipeEntry) → AreEntries e → Distinct (version h (newest h) ++ w) →
-      counted_of extent (recipe h (newest h)) (map e w) free ≡ counted extent h w free
+  pub needed : (extent : ℕ) (h : History) (w : List (List ℕ)) (new : List RecipeEntry) → AreEntriesOf new w → Distinct (version h (newest h) ++ w) →
+      need_of extent (recipe h (newest h)) new ≡ need extent h w
+  pub refused : (extent free : ℕ) (h : History) (w : List (List ℕ)) (new : List RecipeEntry) → AreEntriesOf new w → Distinct (version h (newest h) ++ w) →
+      counted_of extent (recipe h (newest h)) new free ≡ counted extent h w free
 
 -- Where marks tell all chunks of a history apart, they tell those of each two versions in a row apart.
 abbrev pub DistinctMarksAreNear : Type 0

@@ -1,10 +1,15 @@
 //! What holds of the definitions. Each law is the contract of a function with nothing to do.
 
-ghost use Rattle.bd_model.specs.Laws.{ABackupLeavesItsReserve, ANewVersionSplitsTheCategories, ARestoreFindsEachChunkOnce, AVersionUsesAFront, ChunksJoinedAreTheStream, ClosedVolumesGrow, DecidedChunksStay, DistinctMarksAreNear, EachChunkLiesInOneCategory, ExpiryTakesOnlyTheOldest, GivenChunksStayApart, OneStepOfArranging, RecipesGiveTheCounts, RefusalIsExact, StatesStayLegal, TheHashRolls};
+ghost use Rattle.bd_model.specs.Laws.{ABackupLeavesItsReserve, ANewVersionSplitsTheCategories, ARestoreFindsEachChunkOnce, AVersionUsesAFront, ChunksAreWithinBounds, ChunksJoinedAreTheStream, ClosedVolumesGrow, DecidedChunksStay, DistinctMarksAreNear, EachChunkLiesInOneCategory, ExpiryTakesOnlyTheOldest, GivenChunksStayApart, OneStepOfArranging, RecipesGiveTheCounts, RefusalIsExact, RowsDescribeTheVolume, StatesStayLegal, TheHashRolls};
 
 /// The chunks of a stream, joined together, are the stream.
 pub fn chunks_joined_are_the_stream()
     ensures { ChunksJoinedAreTheStream }
+{}
+
+/// A chunk has 1 byte up to the most of its shape, and only a stream's last one has less than the least.
+pub fn chunks_are_within_bounds()
+    ensures { ChunksAreWithinBounds }
 {}
 
 /// The chunks of a stream up to the first that isn't decided are the first chunks of every stream that begins with it.
@@ -31,6 +36,11 @@ pub fn each_chunk_lies_in_one_category()
 /// A new version leaves the closed volumes. The newest one has what was archived of the categories that are arranged.
 pub fn closed_volumes_grow()
     ensures { ClosedVolumesGrow }
+{}
+
+/// The rows of a closed volume count its chunks and the bytes of its records, by ascending start.
+pub fn rows_describe_the_volume()
+    ensures { RowsDescribeTheVolume }
 {}
 
 /// A step of arranging appends what one open category loses to the newest closed volume, in the row of its recorded
