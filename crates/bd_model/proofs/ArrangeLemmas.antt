@@ -75,7 +75,7 @@ module _ (h : History) (w : List (List ℕ)) where
   all_arranged : (i : ℕ) → i ≤ newest h → is_closed next (Waiting (newest h + 1)) (newest h) i ≡ is_closed next Settled (newest h) i
   all_arranged i le = ap (λ t. nat_lt (newest h + 1) (newest next) || (nat_eq (newest h + 1) (newest next) && t)) (lt-ltb i (newest h + 1) (omega arith))
 
-  all_done : SameLayout next (Waiting (newest h + 1)) Settled
+  pub all_done : SameLayout next (Waiting (newest h + 1)) Settled
   all_done = record {
     volumes = λ j. by_newest j
         (closed_volume next (Waiting (newest h + 1)) j ≡ closed_volume next Settled j)

@@ -18,7 +18,7 @@ use Rattle.bd_model.specs.Marks.{mark, Distinct, Near}
 use Rattle.bd_model.specs.Recipe.{recipe, start_of}
 use Rattle.bd_model.specs.Room.{up, owned, recipe_bytes, fresh, kept, archived, lacks_some, need, counted, reserve_left, need_of, counted_of}
 use Rattle.bd_model.specs.State.{VersionState, IsState, IsPhase, history, cut_of}
-use Rattle.bd_model.specs.Step.{Outcome, step, drop_oldest, dropped_extents, expired_extents, phase_after, next_start, phase_after_step}
+use Rattle.bd_model.specs.Step.{Outcome, with_version, step, drop_oldest, dropped_extents, expired_extents, phase_after, next_start, phase_after_step}
 
 -- the least chunk has a byte, and is no longer than the longest
 abbrev pub IsCut : Cut → Type 0
@@ -90,10 +90,11 @@ pub record LiesInOneCategory (h : History) (v : ℕ) (c : List ℕ) : Type 0 whe
 abbrev pub EachChunkLiesInOneCategory : Type 0
 EachChunkLiesInOneCategory = (h : History) (v : ℕ) (c : List ℕ) → IsTrue (contains (version h v) c) → LiesInOneCategory h v c
 
--- A new version leaves the closed volumes; the newest one has what was archived of the categories that are arranged.
+-- No volume is closed from the newest version on. A new version leaves the closed ones; the newest one has what was archived of the categories that are arranged.
 -- An open category is as before while it waits, and afterwards what is kept of it; the new version's own has the fresh
 -- chunks.
 pub record ClosedVolumesGrow : Type 0 where
+  pub none : (h : History) (phase : Phase) (j : ℕ) → newest h ≤ j → closed_volume h phase j ≡ []
   pub earlier : (h : History) (w : List (List ℕ)) (phase : Phase) (j : ℕ) → j < newest h → closed_volume (grown h w) phase j ≡ closed_volume h Settled j
   pub newest_volume : (h : History) (w : List (List ℕ)) (phase : Phase) → closed_volume (grown h w) phase (newest h) ≡ flat_map (archived h w) (filter (is_arranged phase) (numbers (h.base + 1) (newest h)))
   pub waiting : (h : History) (w : List (List ℕ)) (cursor i : ℕ) → cursor ≤ i → i ≤ newest h → open_category (grown h w) (Waiting cursor) i ≡ open_category h Settled i
@@ -199,7 +200,8 @@ abbrev pub ARestoreFindsEachChunkOnce : Type 0
 ARestoreFindsEachChunkOnce = (f : List ℕ → ℕ) (h : History) (phase : Phase) (v : ℕ) → oldest h ≤ v → v ≤ newest h → sum_by f (walk h phase v) ≡ sum_by f (distinct (version h v))
 
 -- A backup needs extents for its fresh chunks and its recipe, which it takes, and for the reserve, which is free
--- afterwards and of which arranging takes its part at each start. The first version has no reserve.
+-- afterwards and of which arranging takes its part at each start. So it stays free, and a settled store owns no more than
+-- before and the need. The first version has no reserve.
 pub record ABackupLeavesItsReserve : Type 0 where
   pub needed : (extent : ℕ) (h : History) (w : List (List ℕ)) → 1 ≤ extent →
       need extent h w ≡ up extent (record_bytes (fresh h w)) + up extent (recipe_bytes w) + reserve_left extent (grown h w) (Waiting (h.base + 1))
@@ -212,7 +214,17 @@ pub record ABackupLeavesItsReserve : Type 0 where
       (up extent (record_bytes (closed_volume (grown h w) (Waiting (i + 1)) (newest h))) - up extent (record_bytes (closed_volume (grown h w) (Waiting i) (newest h))))
       + (if lacks_some w (open_category h Settled i) then up extent (record_bytes (kept h w i)) else 0)
       + reserve_left extent (grown h w) (Waiting (i + 1))
+  pub stays_free : (extent : ℕ) (h : History) (w : List (List ℕ)) (i : ℕ) → 1 ≤ extent → h.base + 1 ≤ i → i ≤ newest h → h.expired < length h.versions →
+      owned extent (grown h w) (Waiting (i + 1)) + reserve_left extent (grown h w) (Waiting (i + 1)) ≤ owned extent (grown h w) (Waiting i) + reserve_left extent (grown h w) (Waiting i)
+  pub settled : (extent : ℕ) (h : History) (w : List (List ℕ)) → 1 ≤ extent → h.expired < length h.versions → owned extent (grown h w) Settled ≤ owned extent h Settled + need extent h w
   pub first : (extent base : ℕ) (w : List (List ℕ)) → 1 ≤ extent → let h : History = record { base = base; versions = []; expired = 0 } in need extent h w ≡ owned extent (grown h w) Settled
+
+-- The state after a backup has the history that is grown by the stream's chunks; and no command makes a settled store own
+-- more extents than there are.
+pub record RoomSuffices : Type 0 where
+  pub grows : (shape : Shape) (s : VersionState) (stream : List ℕ) → history shape (with_version s stream) ≡ grown (history shape s) (chunks (cut_of shape) stream)
+  pub owns : (shape : Shape) (held : ℕ) (s : VersionState) (files : FileMap) (command : Command) → IsState s → owned shape.extent (history shape s) Settled ≤ shape.extents →
+      IfSome (step shape held s files command) (λ o. owned shape.extent (history shape o.state) Settled ≤ shape.extents)
 
 -- What a refusal counts is more than what is free exactly where the need is, from chunks and from any two recipes.
 pub record RefusalIsExact : Type 0 where
