@@ -53,7 +53,7 @@ takes h phase more same =
       rows = rows-given_up h phase;
     }
 
-nothing_owned : (extent base : ℕ) → owned extent (record { base = base; versions = []; expired = 0 }) Settled ≡ 0
+pub nothing_owned : (extent base : ℕ) → owned extent (record { base = base; versions = []; expired = 0 }) Settled ≡ 0
 unfolding owned
 nothing_owned extent base =
     let recipes : numbers (base + 0 + 1) (base + 0) ≡ [] = numbers-none _ _ (omega arith) in

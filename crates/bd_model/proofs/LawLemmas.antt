@@ -43,7 +43,7 @@ closed_volumes_grow = record {
 }
 
 -- the first version needs what it owns afterwards
-need-first : (extent base : ℕ) (w : List (List ℕ)) → 1 ≤ extent → let h : History = record { base = base; versions = []; expired = 0 } in need extent h w ≡ owned extent (grown h w) Settled
+pub need-first : (extent base : ℕ) (w : List (List ℕ)) → 1 ≤ extent → let h : History = record { base = base; versions = []; expired = 0 } in need extent h w ≡ owned extent (grown h w) Settled
 unfolding need owned
 need-first extent base w some =
     let h : History = record { base = base; versions = []; expired = 0 } in
@@ -159,7 +159,7 @@ owned-same extent h one other same =
       sum_by-numbers _ _ (h.base + 1) (newest h) (λ i low high. ap (λ cs. up extent (record_bytes cs)) (same.categories i high)),
     )
 
-owned-settled : (extent : ℕ) (h : History) (w : List (List ℕ)) → 1 ≤ extent → h.expired < length h.versions → owned extent (grown h w) Settled ≤ owned extent h Settled + need extent h w
+pub owned-settled : (extent : ℕ) (h : History) (w : List (List ℕ)) → 1 ≤ extent → h.expired < length h.versions → owned extent (grown h w) Settled ≤ owned extent h Settled + need extent h w
 owned-settled extent h w one some =
     omega (
       arith,

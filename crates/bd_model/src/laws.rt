@@ -1,6 +1,6 @@
 //! What holds of the definitions. Each law is the contract of a function with nothing to do.
 
-ghost use Rattle.bd_model.specs.Laws.{ABackupLeavesItsReserve, ANewVersionSplitsTheCategories, ARestoreFindsEachChunkOnce, AVersionUsesAFront, ChunksAreWithinBounds, ChunksJoinedAreTheStream, ClosedVolumesGrow, DecidedChunksStay, DistinctMarksAreNear, EachChunkLiesInOneCategory, ExpiryTakesOnlyTheOldest, GivenChunksStayApart, OneStepOfArranging, RecipesGiveTheCounts, RefusalIsExact, RowsDescribeTheVolume, StatesStayLegal, TheHashRolls};
+ghost use Rattle.bd_model.specs.Laws.{ABackupLeavesItsReserve, ANewVersionSplitsTheCategories, ARestoreFindsEachChunkOnce, AVersionUsesAFront, ChunksAreWithinBounds, ChunksJoinedAreTheStream, ClosedVolumesGrow, DecidedChunksStay, DistinctMarksAreNear, EachChunkLiesInOneCategory, ExpiryTakesOnlyTheOldest, GivenChunksStayApart, OneStepOfArranging, RecipesGiveTheCounts, RefusalIsExact, RoomSuffices, RowsDescribeTheVolume, StatesStayLegal, TheHashRolls};
 
 /// The chunks of a stream, joined together, are the stream.
 pub fn chunks_joined_are_the_stream()
@@ -68,6 +68,12 @@ pub fn a_restore_finds_each_chunk_once()
 /// A backup needs extents for its fresh chunks, its recipe and its reserve, and the reserve is free afterwards.
 pub fn a_backup_leaves_its_reserve()
     ensures { ABackupLeavesItsReserve }
+{}
+
+/// A backup adds a version of the stream's chunks to the history, and no command makes a settled store own more extents
+/// than it has.
+pub fn room_suffices()
+    ensures { RoomSuffices }
 {}
 
 /// What a refusal counts is more than what is free exactly where a backup needs more than that.
