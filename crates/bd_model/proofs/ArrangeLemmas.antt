@@ -1,6 +1,6 @@
 -- One step of arranging changes one category and the newest closed volume, and the last one settles the store.
-use Rattle.std.proofs.Common.{◌≡◌, ◌≢◌, ℕ, zero, suc, not, ◌++◌, add-zero, find, Some, None, ◌+◌, ◌-◌, ◌<◌, ◌≤◌, max, Bool, true, false, cond, ◌&&◌, ◌||◌, List, [], ◌∷◌, refl, sym, ◌∙◌, ap, arith, filter, nat_eq, nat_lt, lt-ltb, length, subst, ⊎_elim}
-use Rattle.std.proofs.lemmas.Bool.{ne_eqb, cases_lt, eqb-true, eqb-false, ltb-false}
+use Rattle.std.proofs.Common.{◌≡◌, ◌≢◌, ℕ, zero, suc, not, ◌++◌, add-zero, find, Some, None, ◌+◌, ◌-◌, ◌<◌, ◌≤◌, max, Bool, true, false, cond, ◌&&◌, ◌||◌, List, [], refl, sym, ◌∙◌, ap, arith, filter, nat_eq, nat_lt, lt-ltb, length, subst, ⊎_elim}
+use Rattle.std.proofs.lemmas.Bool.{ne_eqb, cases_lt, eqb-true, eqb-false}
 use Rattle.std.proofs.lemmas.List.{append-nil}
 use Rattle.std.specs.List.{flat_map, range_with_len}
 use Rattle.bd_model.specs.Chunks.{numbers}

@@ -9,12 +9,11 @@ use Rattle.bd_model.specs.Chunks.{numbers}
 use Rattle.bd_model.specs.History.{History, version, newest, oldest, retained}
 use Rattle.bd_model.specs.Category.{category}
 use Rattle.bd_model.specs.State.{history}
-use Rattle.bd_model.specs.Layout.{closed_volume, open_category, is_arranged, is_closed, record_bytes, row_chunks}
+use Rattle.bd_model.specs.Layout.{closed_volume, open_category, is_arranged, is_closed, record_bytes}
 use Rattle.bd_model.specs.Room.{up, owned, recipe_bytes}
 use Rattle.bd_model.specs.Step.{dropped_extents}
 use Rattle.bd_model.specs.Laws.{given_up, TakesOnlyTheOldest, ExpiryTakesOnlyTheOldest}
 use Rattle.bd_model.proofs.ListLemmas.{numbers-cons, numbers-none, filter-same}
-use Rattle.bd_model.proofs.LayoutLemmas.{row_chunks-merged, row_chunks-later}
 use Rattle.bd_model.proofs.RowLemmas.{rows-given_up}
 use Rattle.bd_model.proofs.StepLemmas.{length-history}
 

@@ -1,5 +1,5 @@
 -- The laws that put other lemmas together.
-use Rattle.std.proofs.Common.{◌≡◌, ℕ, ◌+◌, ◌-◌, ◌≤◌, cond, List, [], ◌∷◌, sym, ◌∙◌, ap, arith, sum_by, flat_map, filter, not, zero-add, ◌≢◌, zero, suc, Bool, true, false, ◌&&◌, ◌||◌, length, nat_lt, nat_eq, le-ltb, ⊎_elim, ◌<◌, refl}
+use Rattle.std.proofs.Common.{◌≡◌, ℕ, ◌+◌, ◌-◌, ◌≤◌, cond, List, [], ◌∷◌, sym, ◌∙◌, ap, arith, sum_by, flat_map, filter, not, zero-add, ◌≢◌, zero, suc, true, false, ◌&&◌, ◌||◌, length, nat_lt, nat_eq, le-ltb, ⊎_elim, ◌<◌, refl}
 use Rattle.std.proofs.lemmas.Bool.{cases_lt, false≢true, ne_eqb}
 use Rattle.std.proofs.lemmas.List.Sums.{sum_by-cons, sum_by-append}
 use Rattle.std.specs.List.{range_with_len}

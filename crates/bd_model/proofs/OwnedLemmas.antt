@@ -1,5 +1,5 @@
 -- A settled store never owns more extents than there are.
-use Rattle.std.proofs.Common.{◌≡◌, ◌≢◌, ℕ, ◌+◌, ◌-◌, ◌<◌, ◌≤◌, Bool, true, false, cond, ◌&&◌, List, [], ◌∷◌, ◌++◌, refl, sym, ◌∙◌, ap, subst, arith, map, length, nat_eq, nat_lt, nat_le, Some, None, IfSome, option_map, ⊎_elim}
+use Rattle.std.proofs.Common.{◌≡◌, ◌≢◌, ℕ, ◌+◌, ◌≤◌, true, false, cond, ◌&&◌, List, [], ◌∷◌, ◌++◌, refl, sym, ap, subst, arith, map, length, nat_eq, nat_lt, nat_le, Some, None, IfSome, option_map, ⊎_elim}
 use Rattle.std.proofs.lemmas.Bool.{eqb-false, ltb-false, cases_lt}
 use Rattle.std.specs.FinMap as map
 use Rattle.bd_model.specs.declared.shape.Shape.{Shape}
@@ -10,11 +10,11 @@ use Rattle.bd_model.specs.declared.command.Command.TheVariants.{Backup, Restore,
 use Rattle.bd_model.specs.declared.layout.Phase.TheVariants.{Settled}
 use Rattle.bd_model.specs.Chunks.{chunks}
 use Rattle.bd_model.specs.FileMap.{FileMap}
-use Rattle.bd_model.specs.History.{History, newest, oldest, retained}
+use Rattle.bd_model.specs.History.{newest, oldest, retained}
 use Rattle.bd_model.specs.Room.{owned, need, counted, fresh}
-use Rattle.bd_model.specs.State.{Version, VersionState, IsState, history, streams, cut_of, last_number}
-use Rattle.bd_model.specs.Step.{Outcome, unchanged, restore, backup, free_extents, with_version, drop_oldest, expired_extents, dropped_extents, step}
-use Rattle.bd_model.specs.Laws.{grown, given_up, TakesOnlyTheOldest, RoomSuffices}
+use Rattle.bd_model.specs.State.{Version, VersionState, IsState, history, cut_of, last_number}
+use Rattle.bd_model.specs.Step.{unchanged, restore, backup, free_extents, with_version, drop_oldest, expired_extents, step}
+use Rattle.bd_model.specs.Laws.{grown, TakesOnlyTheOldest, RoomSuffices}
 use Rattle.bd_model.proofs.CountedLemmas.{counted-above}
 use Rattle.bd_model.proofs.ExpiryLemmas.{expiry_takes_only_the_oldest, nothing_owned}
 use Rattle.bd_model.proofs.LawLemmas.{need-first, owned-settled}
