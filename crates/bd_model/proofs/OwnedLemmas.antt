@@ -18,16 +18,9 @@ use Rattle.bd_model.specs.Laws.{grown, TakesOnlyTheOldest, RoomSuffices}
 use Rattle.bd_model.proofs.CountedLemmas.{counted-above}
 use Rattle.bd_model.proofs.ExpiryLemmas.{expiry_takes_only_the_oldest, nothing_owned}
 use Rattle.bd_model.proofs.LawLemmas.{need-first, owned-settled}
-use Rattle.bd_model.proofs.StepLemmas.{length-history}
+use Rattle.bd_model.proofs.StepLemmas.{length-history, history-grown}
 
 module _ (shape : Shape) where
-  chunks-pushed : (versions : List Version) (v : Version) → map (chunks (cut_of shape)) (map (λ v. v.stream) (versions ++ v ∷ [])) ≡ map (chunks (cut_of shape)) (map (λ v. v.stream) versions) ++ chunks (cut_of shape) v.stream ∷ []
-  chunks-pushed [] v = refl
-  chunks-pushed (u ∷ versions) v = ap (λ vs. chunks (cut_of shape) u.stream ∷ vs) (chunks-pushed versions v)
-
-  pub history-grown : (s : VersionState) (stream : List ℕ) → history shape (with_version s stream) ≡ grown (history shape s) (chunks (cut_of shape) stream)
-  history-grown s stream = λ k. record { base = s.base; versions = chunks-pushed s.versions (record { stream = stream }) k; expired = s.expired }
-
   -- the state's settled store has the extents that it owns
   abbrev Fits : VersionState → Type 0
   Fits s = owned shape.extent (history shape s) Settled ≤ shape.extents
@@ -44,7 +37,7 @@ module _ (shape : Shape) where
       let nothing : h ≡ record { base = s.base; versions = []; expired = 0 } = λ k. record { base = s.base; versions = map (chunks (cut_of shape)) (map (λ v. v.stream) (none.0 k)); expired = none.1 k } in
       omega (arith, ap (λ g. need shape.extent g w) nothing, need-first shape.extent s.base w one, ap (λ g. owned shape.extent (grown g w) Settled) nothing))
       is.some in
-      subst (λ g. owned shape.extent g Settled ≤ shape.extents) (sym (history-grown s stream)) room
+      subst (λ g. owned shape.extent g Settled ≤ shape.extents) (sym (history-grown shape s stream)) room
 
   fits-backup : (held : ℕ) (s : VersionState) (files : FileMap) (stream : List ℕ) → IsState s → Fits s → Fits (backup shape held s files stream).state
   fits-backup held s files stream is fits =
@@ -109,4 +102,4 @@ module _ (shape : Shape) where
   fits held s files Listing is fit = fit
 
 pub room_suffices : RoomSuffices
-room_suffices = record { grows = history-grown; owns = fits }
+room_suffices = fits

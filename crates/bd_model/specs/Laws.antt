@@ -63,10 +63,15 @@ pub record TheHashRolls : Type 0 where
   pub next : (stream : List ℕ) (p : ℕ) → window_hash stream (p + 1) ≡ (2 * window_hash stream p + gear (slice_index stream (p + 1))) % 2 ^ 64
   pub whole : (stream : List ℕ) (p : ℕ) → p < length stream → window_hash stream p ≡ rolled (take (p + 1) stream)
 
--- the history after a version of these chunks is backed up, and after the oldest one is given up
+-- the history after a version of these chunks is backed up
 abbrev pub grown : History → List (List ℕ) → History
 grown h chunks = record h { versions = h.versions ++ chunks ∷ [] }
 
+-- the history before the newest version was backed up; each one with a version is this one, grown by that version
+abbrev pub before : History → History
+before h = record h { versions = take (length h.versions - 1) h.versions }
+
+-- the history after the oldest retained version is given up
 abbrev pub given_up : History → History
 given_up h = record h { expired = h.expired + 1 }
 
@@ -90,9 +95,9 @@ pub record LiesInOneCategory (h : History) (v : ℕ) (c : List ℕ) : Type 0 whe
 abbrev pub EachChunkLiesInOneCategory : Type 0
 EachChunkLiesInOneCategory = (h : History) (v : ℕ) (c : List ℕ) → IsTrue (contains (version h v) c) → LiesInOneCategory h v c
 
--- No volume is closed from the newest version on. A new version leaves the closed ones; the newest one has what was archived of the categories that are arranged.
--- An open category is as before while it waits, and afterwards what is kept of it; the new version's own has the fresh
--- chunks.
+-- No volume is closed from the newest version on. A new version leaves the closed ones; the newest of them has what was
+-- archived of the categories that are arranged. An open category is as before while it waits, and afterwards what is kept
+-- of it; the new version's own has the fresh chunks.
 pub record ClosedVolumesGrow : Type 0 where
   pub none : (h : History) (phase : Phase) (j : ℕ) → newest h ≤ j → closed_volume h phase j ≡ []
   pub earlier : (h : History) (w : List (List ℕ)) (phase : Phase) (j : ℕ) → j < newest h → closed_volume (grown h w) phase j ≡ closed_volume h Settled j
@@ -219,12 +224,17 @@ pub record ABackupLeavesItsReserve : Type 0 where
   pub settled : (extent : ℕ) (h : History) (w : List (List ℕ)) → 1 ≤ extent → h.expired < length h.versions → owned extent (grown h w) Settled ≤ owned extent h Settled + need extent h w
   pub first : (extent base : ℕ) (w : List (List ℕ)) → 1 ≤ extent → let h : History = record { base = base; versions = []; expired = 0 } in need extent h w ≡ owned extent (grown h w) Settled
 
--- The state after a backup has the history that is grown by the stream's chunks; and no command makes a settled store own
--- more extents than there are.
-pub record RoomSuffices : Type 0 where
+-- The state after a backup has the history that is grown by the stream's chunks, and each history with a version is the
+-- one before, grown by that version.
+pub record BackupsGrowTheHistory : Type 0 where
   pub grows : (shape : Shape) (s : VersionState) (stream : List ℕ) → history shape (with_version s stream) ≡ grown (history shape s) (chunks (cut_of shape) stream)
-  pub owns : (shape : Shape) (held : ℕ) (s : VersionState) (files : FileMap) (command : Command) → IsState s → owned shape.extent (history shape s) Settled ≤ shape.extents →
-      IfSome (step shape held s files command) (λ o. owned shape.extent (history shape o.state) Settled ≤ shape.extents)
+  pub grew : (h : History) → 1 ≤ length h.versions → h ≡ grown (before h) (version h (newest h))
+
+-- No command makes a settled store own more extents than there are.
+abbrev pub RoomSuffices : Type 0
+RoomSuffices =
+    (shape : Shape) (held : ℕ) (s : VersionState) (files : FileMap) (command : Command) → IsState s → owned shape.extent (history shape s) Settled ≤ shape.extents →
+    IfSome (step shape held s files command) (λ o. owned shape.extent (history shape o.state) Settled ≤ shape.extents)
 
 -- What a refusal counts is more than what is free exactly where the need is, from chunks and from any two recipes.
 pub record RefusalIsExact : Type 0 where

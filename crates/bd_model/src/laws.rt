@@ -1,6 +1,6 @@
 //! What holds of the definitions. Each law is the contract of a function with nothing to do.
 
-ghost use Rattle.bd_model.specs.Laws.{ABackupLeavesItsReserve, ANewVersionSplitsTheCategories, ARestoreFindsEachChunkOnce, AVersionUsesAFront, ChunksAreWithinBounds, ChunksJoinedAreTheStream, ClosedVolumesGrow, DecidedChunksStay, DistinctMarksAreNear, EachChunkLiesInOneCategory, ExpiryTakesOnlyTheOldest, GivenChunksStayApart, OneStepOfArranging, RecipesGiveTheCounts, RefusalIsExact, RoomSuffices, RowsDescribeTheVolume, StatesStayLegal, TheHashRolls};
+ghost use Rattle.bd_model.specs.Laws.{ABackupLeavesItsReserve, ANewVersionSplitsTheCategories, ARestoreFindsEachChunkOnce, AVersionUsesAFront, BackupsGrowTheHistory, ChunksAreWithinBounds, ChunksJoinedAreTheStream, ClosedVolumesGrow, DecidedChunksStay, DistinctMarksAreNear, EachChunkLiesInOneCategory, ExpiryTakesOnlyTheOldest, GivenChunksStayApart, OneStepOfArranging, RecipesGiveTheCounts, RefusalIsExact, RoomSuffices, RowsDescribeTheVolume, StatesStayLegal, TheHashRolls};
 
 /// The chunks of a stream, joined together, are the stream.
 pub fn chunks_joined_are_the_stream()
@@ -70,8 +70,12 @@ pub fn a_backup_leaves_its_reserve()
     ensures { ABackupLeavesItsReserve }
 {}
 
-/// A backup adds a version of the stream's chunks to the history, and no command makes a settled store own more extents
-/// than it has.
+/// A backup adds a version of the stream's chunks to the history, and every version came so.
+pub fn backups_grow_the_history()
+    ensures { BackupsGrowTheHistory }
+{}
+
+/// No command makes a settled store own more extents than it has.
 pub fn room_suffices()
     ensures { RoomSuffices }
 {}
