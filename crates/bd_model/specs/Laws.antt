@@ -3,6 +3,7 @@ use Rattle.std.specs.Prelude.{◌≡◌, ◌≢◌, ◌↔◌, ℕ, zero, suc, �
 use Rattle.std.specs.Str.{bytes_eq}
 use Rattle.std.specs.List.{concat}
 use Rattle.bd_model.specs.declared.shape.Shape.{Shape}
+use Rattle.bd_model.specs.declared.answer.VersionLine.{VersionLine}
 use Rattle.bd_model.specs.declared.command.Command.{Command}
 use Rattle.bd_model.specs.declared.layout.CategoryRow.{CategoryRow}
 use Rattle.bd_model.specs.declared.layout.RecipeEntry.{RecipeEntry}
@@ -18,7 +19,7 @@ use Rattle.bd_model.specs.Marks.{mark, Distinct, Near}
 use Rattle.bd_model.specs.Recipe.{recipe, start_of}
 use Rattle.bd_model.specs.Room.{up, owned, recipe_bytes, fresh, kept, archived, lacks_some, need, counted, reserve_left, need_of, counted_of}
 use Rattle.bd_model.specs.State.{VersionState, IsState, IsPhase, history, cut_of}
-use Rattle.bd_model.specs.Step.{Outcome, with_version, step, drop_oldest, dropped_extents, expired_extents, phase_after, next_start, phase_after_step}
+use Rattle.bd_model.specs.Step.{Outcome, with_version, version_line, step, drop_oldest, dropped_extents, expired_extents, phase_after, next_start, phase_after_step}
 
 -- the least chunk has a byte, and is no longer than the longest
 abbrev pub IsCut : Cut → Type 0
@@ -94,6 +95,31 @@ pub record LiesInOneCategory (h : History) (v : ℕ) (c : List ℕ) : Type 0 whe
 -- Each chunk of a version lies in exactly one category of a run through it, and that one begins at the chunk's start.
 abbrev pub EachChunkLiesInOneCategory : Type 0
 EachChunkLiesInOneCategory = (h : History) (v : ℕ) (c : List ℕ) → IsTrue (contains (version h v) c) → LiesInOneCategory h v c
+
+-- the start that the first entry with the mark has, or else `new`
+abbrev pub start_in : List RecipeEntry → List ℕ → ℕ → ℕ
+start_in [] m new = new
+start_in (e ∷ es) m new = if bytes_eq m e.mark.0 then e.start else start_in es m new
+
+-- the entries of these chunks where a recipe tells the starts of those that it has, and the others begin at version v
+abbrev pub entries_in : List RecipeEntry → ℕ → List (List ℕ) → List RecipeEntry
+entries_in old v chunks = map (λ c. record { mark = record { 0 = mark c }; length = length c; start = start_in old (mark c) v }) chunks
+
+-- A new version leaves the recipes. Where marks tell its chunks and the newest version's apart, its own has the starts of
+-- the newest recipe, and its number for each chunk that the newest version lacks.
+pub record RecipesStay : Type 0 where
+  pub earlier : (h : History) (w : List (List ℕ)) (v : ℕ) → v ≤ newest h → recipe (grown h w) v ≡ recipe h v
+  pub own : (h : History) (w : List (List ℕ)) → Distinct (version h (newest h) ++ w) → recipe (grown h w) (newest h + 1) ≡ entries_in (recipe h (newest h)) (newest h + 1) w
+
+-- The line of a version in a list stays at a backup and at an expiry, and that of a new version has what the backup answers.
+pub record LinesStay : Type 0 where
+  pub earlier : (shape : Shape) (s : VersionState) (stream : List ℕ) (v : ℕ) → v ≤ newest (history shape s) →
+      version_line (with_version s stream) (history shape (with_version s stream)) v ≡ version_line s (history shape s) v
+  pub own : (shape : Shape) (s : VersionState) (stream : List ℕ) → let parts = chunks (cut_of shape) stream in let h = history shape s in
+      version_line (with_version s stream) (history shape (with_version s stream)) (newest h + 1)
+      ≡ record { version = newest h + 1; bytes = length stream; chunks = length parts; fresh = length (fresh h parts) }
+  pub expired : (shape : Shape) (s : VersionState) (v : ℕ) → 2 ≤ retained (history shape s) →
+      version_line (drop_oldest s) (history shape (drop_oldest s)) v ≡ version_line s (history shape s) v
 
 -- No volume is closed from the newest version on. A new version leaves the closed ones; the newest of them has what was
 -- archived of the categories that are arranged. An open category is as before while it waits, and afterwards what is kept

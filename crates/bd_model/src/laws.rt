@@ -1,6 +1,6 @@
 //! What holds of the definitions. Each law is the contract of a function with nothing to do.
 
-ghost use Rattle.bd_model.specs.Laws.{ABackupLeavesItsReserve, ANewVersionSplitsTheCategories, ARestoreFindsEachChunkOnce, AVersionUsesAFront, BackupsGrowTheHistory, ChunksAreWithinBounds, ChunksJoinedAreTheStream, ClosedVolumesGrow, DecidedChunksStay, DistinctMarksAreNear, EachChunkLiesInOneCategory, ExpiryTakesOnlyTheOldest, GivenChunksStayApart, OneStepOfArranging, RecipesGiveTheCounts, RefusalIsExact, RoomSuffices, RowsDescribeTheVolume, StatesStayLegal, TheHashRolls};
+ghost use Rattle.bd_model.specs.Laws.{ABackupLeavesItsReserve, ANewVersionSplitsTheCategories, ARestoreFindsEachChunkOnce, AVersionUsesAFront, BackupsGrowTheHistory, ChunksAreWithinBounds, ChunksJoinedAreTheStream, ClosedVolumesGrow, DecidedChunksStay, DistinctMarksAreNear, EachChunkLiesInOneCategory, ExpiryTakesOnlyTheOldest, GivenChunksStayApart, LinesStay, OneStepOfArranging, RecipesGiveTheCounts, RecipesStay, RefusalIsExact, RoomSuffices, RowsDescribeTheVolume, StatesStayLegal, TheHashRolls};
 
 /// The chunks of a stream, joined together, are the stream.
 pub fn chunks_joined_are_the_stream()
@@ -36,6 +36,16 @@ pub fn each_chunk_lies_in_one_category()
 /// A new version leaves the closed volumes. The newest one has what was archived of the categories that are arranged.
 pub fn closed_volumes_grow()
     ensures { ClosedVolumesGrow }
+{}
+
+/// A new version leaves the recipes, and its own takes its starts from that of the version before.
+pub fn recipes_stay()
+    ensures { RecipesStay }
+{}
+
+/// A backup and an expiry leave the lines of the other versions, and a new version's line has what its backup answers.
+pub fn lines_stay()
+    ensures { LinesStay }
 {}
 
 /// The rows of a closed volume count its chunks and the bytes of its records, by ascending start.
