@@ -1,19 +1,17 @@
 -- The recipes and the lines of the versions stay when one is added.
-use Rattle.std.proofs.Common.{◌≡◌, ℕ, zero, suc, ◌+◌, ◌-◌, ◌<◌, ◌≤◌, Bool, true, false, cond, not, ◌||◌, List, [], ◌∷◌, ◌++◌, refl, sym, ◌∙◌, ap, arith, filter, map, length, get_or, nat_eq}
-use Rattle.std.proofs.lemmas.Bool.{false≢true, ne_eqb, or_left, or_right}
-use Rattle.std.proofs.lemmas.List.{get_or_append_left, get_or_at, map_push, length-map}
+use Rattle.std.proofs.Common.{◌≡◌, ℕ, zero, suc, ◌+◌, ◌-◌, ◌≤◌, Bool, true, false, cond, not, ◌||◌, List, [], ◌∷◌, ◌++◌, refl, sym, ◌∙◌, ap, arith, filter, map, length, get_or, nat_eq}
+use Rattle.std.proofs.lemmas.Bool.{ne_eqb, or_left, or_right}
+use Rattle.std.proofs.lemmas.List.{get_or_append_left, get_or_at, length-map}
 use Rattle.std.specs.Str.{bytes_eq}
 use Rattle.bd_model.specs.declared.shape.Shape.{Shape}
 use Rattle.bd_model.specs.declared.layout.RecipeEntry.{RecipeEntry}
-use Rattle.bd_model.specs.declared.answer.VersionLine.{VersionLine}
 use Rattle.bd_model.specs.Chunks.{chunks}
-use Rattle.bd_model.specs.History.{History, version, newest, retained, contains, distinct}
-use Rattle.bd_model.specs.Category.{begins}
+use Rattle.bd_model.specs.History.{History, version, newest, contains, distinct}
 use Rattle.bd_model.specs.Marks.{mark, Distinct}
 use Rattle.bd_model.specs.Recipe.{start_of, entry_of, recipe}
 use Rattle.bd_model.specs.Room.{fresh}
 use Rattle.bd_model.specs.State.{Version, VersionState, history, streams, stream_of, cut_of}
-use Rattle.bd_model.specs.Step.{with_version, version_line, drop_oldest}
+use Rattle.bd_model.specs.Step.{with_version, version_line}
 use Rattle.bd_model.specs.Laws.{grown, start_in, entries_in, RecipesStay, LinesStay}
 use Rattle.bd_model.proofs.ChunkListLemmas.{bytes_eq-refl, bytes_eq-same, contains-append}
 use Rattle.bd_model.proofs.HistoryLemmas.{version-grown, version-newest}

@@ -1,5 +1,5 @@
 -- A settled store never owns more extents than there are.
-use Rattle.std.proofs.Common.{◌≡◌, ◌≢◌, ℕ, ◌+◌, ◌≤◌, true, false, cond, ◌&&◌, List, [], ◌∷◌, ◌++◌, refl, sym, ap, subst, arith, map, length, nat_eq, nat_lt, nat_le, Some, None, IfSome, option_map, ⊎_elim}
+use Rattle.std.proofs.Common.{◌≡◌, ◌≢◌, ℕ, ◌+◌, ◌≤◌, true, false, cond, ◌&&◌, List, [], refl, sym, ap, subst, arith, map, length, nat_eq, nat_lt, nat_le, Some, None, IfSome, option_map, ⊎_elim}
 use Rattle.std.proofs.lemmas.Bool.{eqb-false, ltb-false, cases_lt}
 use Rattle.std.specs.FinMap as map
 use Rattle.bd_model.specs.declared.shape.Shape.{Shape}
@@ -12,7 +12,7 @@ use Rattle.bd_model.specs.Chunks.{chunks}
 use Rattle.bd_model.specs.FileMap.{FileMap}
 use Rattle.bd_model.specs.History.{newest, oldest, retained}
 use Rattle.bd_model.specs.Room.{owned, need, counted, fresh}
-use Rattle.bd_model.specs.State.{Version, VersionState, IsState, history, cut_of, last_number}
+use Rattle.bd_model.specs.State.{VersionState, IsState, history, cut_of, last_number}
 use Rattle.bd_model.specs.Step.{unchanged, restore, backup, free_extents, with_version, drop_oldest, expired_extents, step}
 use Rattle.bd_model.specs.Laws.{grown, TakesOnlyTheOldest, RoomSuffices}
 use Rattle.bd_model.proofs.CountedLemmas.{counted-above}
