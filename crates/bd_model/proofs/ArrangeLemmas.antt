@@ -1,6 +1,6 @@
 -- One step of arranging changes one category and the newest closed volume, and the last one settles the store.
-use Rattle.std.proofs.Common.{◌≡◌, ◌≢◌, ℕ, zero, suc, not, ◌++◌, add-zero, find, Some, None, ◌+◌, ◌-◌, ◌<◌, ◌≤◌, max, Bool, true, false, cond, ◌&&◌, ◌||◌, List, [], ◌∷◌, refl, sym, ◌∙◌, ap, arith, filter, nat_eq, nat_lt, lt-ltb, length, subst, ⊎_elim}
-use Rattle.std.proofs.lemmas.Bool.{ne_eqb, cases_lt, eqb-true, eqb-false, ltb-false}
+use Rattle.std.proofs.Common.{◌≡◌, ◌≢◌, ℕ, zero, suc, not, ◌++◌, add-zero, find, Some, None, ◌+◌, ◌-◌, ◌<◌, ◌≤◌, max, Bool, true, false, cond, ◌&&◌, ◌||◌, List, [], refl, sym, ◌∙◌, ap, arith, filter, nat_eq, nat_lt, lt-ltb, length, subst, ⊎_elim}
+use Rattle.std.proofs.lemmas.Bool.{ne_eqb, cases_lt, eqb-true, eqb-false}
 use Rattle.std.proofs.lemmas.List.{append-nil}
 use Rattle.std.specs.List.{flat_map, range_with_len}
 use Rattle.bd_model.specs.Chunks.{numbers}
@@ -12,10 +12,10 @@ use Rattle.bd_model.specs.Layout.{closed_volume, open_category, is_arranged, is_
 use Rattle.bd_model.specs.Room.{archived}
 use Rattle.bd_model.specs.Step.{next_start}
 use Rattle.bd_model.specs.Laws.{rows_with, grown, ArrangesOne, SameLayout, OneStepOfArranging}
-use Rattle.bd_model.proofs.ListLemmas.{filter-same, filter-numbers}
+use Rattle.bd_model.proofs.ListLemmas.{filter-numbers}
 use Rattle.bd_model.proofs.HistoryLemmas.{newest-grown}
 use Rattle.bd_model.proofs.LayoutLemmas.{closed_volume-step, open_category-waiting, open_category-arranged, open_category-fresh}
-use Rattle.bd_model.proofs.RowLemmas.{rows-step, rows_over, rows_over-same, recorded_as-numbers, one_more}
+use Rattle.bd_model.proofs.RowLemmas.{no_chunks, rows-step, rows_over, rows_over-same, recorded_as-numbers, one_more}
 
 none_some : (n : ℕ) → None ≡ Some n → ⊥
 none_some n e = cc
@@ -75,18 +75,18 @@ module _ (h : History) (w : List (List ℕ)) where
   all_arranged : (i : ℕ) → i ≤ newest h → is_closed next (Waiting (newest h + 1)) (newest h) i ≡ is_closed next Settled (newest h) i
   all_arranged i le = ap (λ t. nat_lt (newest h + 1) (newest next) || (nat_eq (newest h + 1) (newest next) && t)) (lt-ltb i (newest h + 1) (omega arith))
 
-  all_done : SameLayout next (Waiting (newest h + 1)) Settled
+  pub all_done : SameLayout next (Waiting (newest h + 1)) Settled
   all_done = record {
     volumes = λ j. by_newest j
-    (closed_volume next (Waiting (newest h + 1)) j ≡ closed_volume next Settled j)
-    (λ e. subst (λ n. closed_volume next (Waiting (newest h + 1)) n ≡ closed_volume next Settled n) (sym e)
-    (ap (flat_map (λ i. category next i (newest h))) (filter-numbers _ _ (h.base + 1) (newest h) (λ i low high. all_arranged i high))))
-    (other_volumes (Waiting (newest h + 1)) Settled j);
+        (closed_volume next (Waiting (newest h + 1)) j ≡ closed_volume next Settled j)
+        (λ e. subst (λ n. closed_volume next (Waiting (newest h + 1)) n ≡ closed_volume next Settled n) (sym e)
+        (ap (flat_map (λ i. category next i (newest h))) (filter-numbers _ _ (h.base + 1) (newest h) (λ i low high. all_arranged i high))))
+        (other_volumes (Waiting (newest h + 1)) Settled j);
     rows = λ j. by_newest j
-    (rows next (Waiting (newest h + 1)) j ≡ rows next Settled j)
-    (λ e. subst (λ n. rows next (Waiting (newest h + 1)) n ≡ rows next Settled n) (sym e)
-    (rows_over-same (row_chunks next (Waiting (newest h + 1)) (newest h)) (row_chunks next Settled (newest h)) (oldest h) (newest h + 1 - oldest h) (λ r low high. row r (omega arith))))
-    (other_rows (Waiting (newest h + 1)) Settled j);
+        (rows next (Waiting (newest h + 1)) j ≡ rows next Settled j)
+        (λ e. subst (λ n. rows next (Waiting (newest h + 1)) n ≡ rows next Settled n) (sym e)
+        (rows_over-same (row_chunks next (Waiting (newest h + 1)) (newest h)) (row_chunks next Settled (newest h)) (oldest h) (newest h + 1 - oldest h) (λ r low high. row r (omega arith))))
+        (other_rows (Waiting (newest h + 1)) Settled j);
     categories = λ i le.
         ⊎_elim
         (λ less. ap (λ t. living next i (cond t (newest next) (max i (newest next - 1)))) (lt-ltb i (newest h + 1) less))
@@ -113,10 +113,10 @@ module _ (h : History) (w : List (List ℕ)) where
       let none : archived h w cursor ≡ [] = ap (filter (λ c. not (contains w c))) empty in
       record {
         volumes = λ j. by_newest j
-        (closed_volume next (Waiting cursor) j ≡ closed_volume next (Waiting (cursor + 1)) j)
-        (λ e. subst (λ n. closed_volume next (Waiting cursor) n ≡ closed_volume next (Waiting (cursor + 1)) n) (sym e)
-        (sym (step.volume ∙ ap (λ cs. closed_volume next (Waiting cursor) (newest h) ++ cs) none ∙ append-nil (closed_volume next (Waiting cursor) (newest h)))))
-        (other_volumes (Waiting cursor) (Waiting (cursor + 1)) j);
+            (closed_volume next (Waiting cursor) j ≡ closed_volume next (Waiting (cursor + 1)) j)
+            (λ e. subst (λ n. closed_volume next (Waiting cursor) n ≡ closed_volume next (Waiting (cursor + 1)) n) (sym e)
+            (sym (step.volume ∙ ap (λ cs. closed_volume next (Waiting cursor) (newest h) ++ cs) none ∙ append-nil (closed_volume next (Waiting cursor) (newest h)))))
+            (other_volumes (Waiting cursor) (Waiting (cursor + 1)) j);
         categories = λ i le.
             elim (nat_eq i cursor) as (λ t. nat_eq i cursor ≡ t → open_category next (Waiting cursor) i ≡ open_category next (Waiting (cursor + 1)) i) [
               | true ↦ λ e.
@@ -125,10 +125,10 @@ module _ (h : History) (w : List (List ℕ)) where
               | false ↦ λ e. sym (step.other_categories i (eqb-false i cursor e))
             ] refl;
         rows = λ j. by_newest j
-        (rows next (Waiting cursor) j ≡ rows next (Waiting (cursor + 1)) j)
-        (λ e. subst (λ n. rows next (Waiting cursor) n ≡ rows next (Waiting (cursor + 1)) n) (sym e)
-        (sym (step.rows_grow ∙ ap (λ cs. rows_with (max cursor (oldest h)) cs (rows next (Waiting cursor) (newest h))) none)))
-        (other_rows (Waiting cursor) (Waiting (cursor + 1)) j);
+            (rows next (Waiting cursor) j ≡ rows next (Waiting (cursor + 1)) j)
+            (λ e. subst (λ n. rows next (Waiting cursor) n ≡ rows next (Waiting (cursor + 1)) n) (sym e)
+            (sym (step.rows_grow ∙ ap (λ cs. rows_with (max cursor (oldest h)) cs (rows next (Waiting cursor) (newest h))) none)))
+            (other_rows (Waiting cursor) (Waiting (cursor + 1)) j);
       }
 
   skip_many : (cursor k : ℕ) → h.base + 1 ≤ cursor → cursor + k ≤ newest h + 1 → h.expired < length h.versions → ((j : ℕ) → cursor ≤ j → j < cursor + k → open_category h Settled j ≡ []) →
@@ -138,11 +138,6 @@ module _ (h : History) (w : List (List ℕ)) where
       let same : cursor + 1 + k ≡ cursor + suc k = omega arith in
       same_twice (skip_one cursor low (omega arith) some (empty cursor (omega arith) (omega arith)))
       (subst (λ n. SameLayout next (Waiting (cursor + 1)) (Waiting n)) same (skip_many (cursor + 1) k (omega arith) (omega arith) some (λ j from to. empty j (omega arith) (omega arith))))
-
-  -- where no chunk is counted there is none
-  no_chunks : (cs : List (List ℕ)) → nat_lt 0 (length cs) ≡ false → cs ≡ []
-  no_chunks [] e = refl
-  no_chunks (c ∷ cs) e = absurd (omega (arith, ltb-false 0 (length (c ∷ cs)) e))
 
   abbrev is_next : ℕ → ℕ → Bool
   is_next cursor i = nat_lt 0 (length (open_category next (Waiting cursor) i))

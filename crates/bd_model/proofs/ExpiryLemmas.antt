@@ -1,21 +1,20 @@
 -- What giving up the oldest version takes.
-use Rattle.std.proofs.Common.{◌≡◌, ℕ, ◌+◌, ◌-◌, ◌<◌, ◌≤◌, Bool, true, false, cond, ◌&&◌, ◌||◌, List, [], ◌∷◌, refl, sym, ◌∙◌, ap, arith, sum_by, filter, length, nat_eq, nat_lt, lt-ltb, eq-eqb}
+use Rattle.std.proofs.Common.{◌≡◌, ℕ, ◌+◌, ◌-◌, ◌≤◌, true, false, cond, ◌&&◌, ◌||◌, [], refl, sym, ◌∙◌, ap, arith, sum_by, length, nat_eq, nat_lt, lt-ltb, eq-eqb}
 use Rattle.std.proofs.lemmas.Bool.{ne_eqb}
 use Rattle.std.proofs.lemmas.List.Sums.{sum_by-cons}
 use Rattle.std.specs.List.{flat_map}
-use Rattle.bd_model.specs.declared.shape.Shape.{Shape}
 use Rattle.bd_model.specs.declared.layout.Phase.{Phase}
 use Rattle.bd_model.specs.declared.layout.Phase.TheVariants.{Settled}
 use Rattle.bd_model.specs.Chunks.{numbers}
 use Rattle.bd_model.specs.History.{History, version, newest, oldest, retained}
 use Rattle.bd_model.specs.Category.{category}
-use Rattle.bd_model.specs.State.{VersionState, history}
-use Rattle.bd_model.specs.Layout.{closed_volume, open_category, is_arranged, is_closed, record_bytes, row_chunks}
+use Rattle.bd_model.specs.State.{history}
+use Rattle.bd_model.specs.Layout.{closed_volume, open_category, is_arranged, is_closed, record_bytes}
 use Rattle.bd_model.specs.Room.{up, owned, recipe_bytes}
-use Rattle.bd_model.specs.Step.{drop_oldest, dropped_extents, expired_extents}
+use Rattle.bd_model.specs.Step.{dropped_extents}
 use Rattle.bd_model.specs.Laws.{given_up, TakesOnlyTheOldest, ExpiryTakesOnlyTheOldest}
 use Rattle.bd_model.proofs.ListLemmas.{numbers-cons, numbers-none, filter-same}
-use Rattle.bd_model.proofs.LayoutLemmas.{row_chunks-merged, row_chunks-later}
+use Rattle.bd_model.proofs.RowLemmas.{rows-given_up}
 use Rattle.bd_model.proofs.StepLemmas.{length-history}
 
 -- a sum over a range without its first number
@@ -50,11 +49,10 @@ takes h phase more same =
       recipes = λ v. refl;
       volumes = λ j. refl;
       categories = λ i. refl;
-      first_row = λ j. ap (row_chunks (given_up h) phase j) (sym next) ∙ row_chunks-merged h phase j;
-      other_rows = λ j r lt. row_chunks-later (given_up h) phase j r (omega arith) ∙ sym (row_chunks-later h phase j r (omega arith));
+      rows = rows-given_up h phase;
     }
 
-nothing_owned : (extent base : ℕ) → owned extent (record { base = base; versions = []; expired = 0 }) Settled ≡ 0
+pub nothing_owned : (extent base : ℕ) → owned extent (record { base = base; versions = []; expired = 0 }) Settled ≡ 0
 unfolding owned
 nothing_owned extent base =
     let recipes : numbers (base + 0 + 1) (base + 0) ≡ [] = numbers-none _ _ (omega arith) in

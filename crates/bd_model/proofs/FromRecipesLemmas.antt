@@ -7,15 +7,16 @@ use Rattle.std.specs.List.{list_any}
 use Rattle.std.specs.Str.{bytes_eq}
 use Rattle.bd_model.specs.Chunks.{numbers}
 use Rattle.bd_model.specs.Marks.{mark, Distinct}
-use Rattle.bd_model.specs.History.{History, version, newest, contains, distinct}
+use Rattle.bd_model.specs.History.{History, version, newest, contains}
 use Rattle.bd_model.specs.declared.layout.RecipeEntry.{RecipeEntry}
 use Rattle.bd_model.specs.Recipe.{start_of, entry_of, recipe, first_entries, has_mark, entry_records, starts_of}
 use Rattle.bd_model.specs.Layout.{record_bytes}
 use Rattle.bd_model.specs.Room.{up, need, counted, running, fresh, need_of, counted_of, running_of, fresh_entries, kept_entries, archived_entries, entries_from}
-use Rattle.bd_model.proofs.ListLemmas.{filter-filter, sum_by-agree, sum_by-zero, sum_by-plus, sum_by-one_key, sum_by-filter}
+use Rattle.bd_model.proofs.ListLemmas.{filter-same, filter-filter, sum_by-agree, sum_by-zero, sum_by-plus, sum_by-one_key, sum_by-filter}
 use Rattle.bd_model.proofs.ChunkListLemmas.{bytes_eq-refl, contains-append}
 use Rattle.bd_model.proofs.RecipeLemmas.{start_of-low, start_of-le}
 use Rattle.bd_model.proofs.RoomLemmas.{up-le}
+use Rattle.bd_model.specs.Laws.{RecipesGiveTheCounts}
 use Rattle.bd_model.proofs.NeedLemmas.{need_over, need_over-need, fresh-from_entries}
 use Rattle.bd_model.proofs.CountedLemmas.{first_above}
 
@@ -59,9 +60,9 @@ any-filter p r [] = λ has. has
 any-filter p r (e ∷ es) =
     elim (r e) as (λ b. list_any p (cond b (e ∷ filter r es) (filter r es)) ≡ true → (p e || list_any p es) ≡ true) [
       | true ↦ λ has. elim (or_cases (p e) (list_any p (filter r es)) has) [
-          | inl first ↦ or_left (p e) (list_any p es) first
-          | inr later ↦ or_right (p e) (list_any p es) (any-filter p r es later)
-        ]
+        | inl first ↦ or_left (p e) (list_any p es) first
+        | inr later ↦ or_right (p e) (list_any p es) (any-filter p r es later)
+      ]
       | false ↦ λ has. or_right (p e) (list_any p es) (any-filter p r es has)
     ]
 
@@ -153,3 +154,82 @@ counted_of-above extent some old new free =
     first_above (running_of extent old new) (need_of extent old new) free
     (λ n. omega (arith, up-le extent _ _ some (first_entries-take (λ x. not (has_mark old x.mark.0)) n new), up-le extent (40 * length (take n new)) (40 * length new) some (omega (arith, length-take n new))))
     (numbers 1 (length new))
+
+-- an entry without its start
+abbrev plain : RecipeEntry → RecipeEntry
+plain e = record e { start = 0 }
+
+has_mark-plain : (es : List RecipeEntry) (m : List ℕ) → has_mark (map plain es) m ≡ has_mark es m
+has_mark-plain [] m = refl
+has_mark-plain (e ∷ es) m = ap (λ t. bytes_eq m e.mark.0 || t) (has_mark-plain es m)
+
+filter-plain : (p : RecipeEntry → Bool) (es : List RecipeEntry) → filter p (map plain es) ≡ map plain (filter (λ e. p (plain e)) es)
+filter-plain p [] = refl
+filter-plain p (e ∷ es) =
+    elim (p (plain e)) as (λ t. cond t (plain e ∷ filter p (map plain es)) (filter p (map plain es)) ≡ map plain (cond t (e ∷ filter (λ e. p (plain e)) es) (filter (λ e. p (plain e)) es))) [
+      | true ↦ ap (λ xs. plain e ∷ xs) (filter-plain p es)
+      | false ↦ filter-plain p es
+    ]
+
+first_entries-plain : (es : List RecipeEntry) → first_entries (map plain es) ≡ map plain (first_entries es)
+first_entries-plain [] = refl
+first_entries-plain (e ∷ es) =
+    let other : RecipeEntry → Bool = λ f. not (bytes_eq e.mark.0 f.mark.0) in
+    ap (λ xs. plain e ∷ filter other xs) (first_entries-plain es) ∙ ap (λ xs. plain e ∷ xs) (filter-plain other (first_entries es))
+
+entry_records-plain : (es : List RecipeEntry) → entry_records (map plain es) ≡ entry_records es
+entry_records-plain [] = refl
+entry_records-plain (e ∷ es) = omega (arith, sum_by-cons (λ x. 36 + x.length) (plain e) (map plain es), sum_by-cons (λ x. 36 + x.length) e es, entry_records-plain es)
+
+fresh_entries-plain : (old new : List RecipeEntry) → entry_records (fresh_entries old (map plain new)) ≡ entry_records (fresh_entries old new)
+fresh_entries-plain old new =
+    let lacks : RecipeEntry → Bool = λ e. not (has_mark old e.mark.0) in
+    ap entry_records (ap (filter lacks) (first_entries-plain new) ∙ filter-plain lacks (first_entries new)) ∙ entry_records-plain (filter lacks (first_entries new))
+
+-- the starts of the new recipe make no difference
+need_of-plain : (extent : ℕ) (old new : List RecipeEntry) → need_of extent old (map plain new) ≡ need_of extent old new
+unfolding need_of
+need_of-plain extent old new =
+    let kept_is : kept_entries old (map plain new) ≡ kept_entries old new = filter-same (λ e. has_mark-plain new e.mark.0) refl in
+    let archived_is : archived_entries old (map plain new) ≡ archived_entries old new = filter-same (λ e. ap not (has_mark-plain new e.mark.0)) refl in
+    λ k. up extent (fresh_entries-plain old new k)
+    + up extent (40 * length-map new plain k)
+    + up extent (entry_records (archived_is k))
+    + sum_by (λ i. up extent (entry_records (entries_from i (kept_is k)))) (filter (λ i. has_start (archived_is k) i) (starts_of old))
+
+running_of-plain : (extent : ℕ) (old new : List RecipeEntry) (n : ℕ) → running_of extent old (map plain new) n ≡ running_of extent old new n
+running_of-plain extent old new n =
+    let first : take n (map plain new) ≡ map plain (take n new) = take-map plain n new in
+    (λ k. up extent (entry_records (fresh_entries old (first k))) + up extent (40 * length (first k)))
+    ∙ (λ k. up extent (fresh_entries-plain old (take n new) k) + up extent (40 * length-map (take n new) plain k))
+
+counted_of-plain : (extent free : ℕ) (old new : List RecipeEntry) → counted_of extent old (map plain new) free ≡ counted_of extent old new free
+unfolding counted_of
+counted_of-plain extent free old new =
+    λ k. unwrap_or (find (nat_lt free) (map (λ n. running_of-plain extent old new n k) (numbers 1 (length-map new plain k)))) (need_of-plain extent old new k)
+
+-- an entry of a chunk without its start
+abbrev plain_of : List ℕ → RecipeEntry
+plain_of c = record { mark = record { 0 = mark c }; length = length c; start = 0 }
+
+plain-entries : (es : List RecipeEntry) (cs : List (List ℕ)) → map (λ e. e.mark.0) es ≡ map mark cs → map (λ e. e.length) es ≡ map (λ c. length c) cs → map plain es ≡ map plain_of cs
+plain-entries [] [] marks lengths = refl
+plain-entries [] (c ∷ cs) marks lengths = absurd (cc)
+plain-entries (e ∷ es) [] marks lengths = absurd (cc)
+plain-entries (e ∷ es) (c ∷ cs) marks lengths =
+    let same_mark : e.mark.0 ≡ mark c = cc in
+    let same_length : e.length ≡ length c = cc in
+    let rest : map plain es ≡ map plain_of cs = plain-entries es cs (cc) (cc) in
+    λ k. record { mark = record { 0 = same_mark k }; length = same_length k; start = 0 } ∷ rest k
+
+pub recipes_give_the_counts : RecipesGiveTheCounts
+recipes_give_the_counts = record {
+  needed = λ extent h w new are apart.
+      sym (need_of-plain extent (recipe h (newest h)) new)
+      ∙ ap (need_of extent (recipe h (newest h))) (plain-entries new w are.marks are.lengths)
+      ∙ need_of-need h w plain_of (λ c. refl) (λ c. refl) extent apart;
+  refused = λ extent free h w new are apart.
+      sym (counted_of-plain extent free (recipe h (newest h)) new)
+      ∙ ap (λ entries. counted_of extent (recipe h (newest h)) entries free) (plain-entries new w are.marks are.lengths)
+      ∙ counted_of-counted h w plain_of (λ c. refl) (λ c. refl) extent apart free;
+}

@@ -1,5 +1,5 @@
 -- The chunks that a state keeps and that commands read, from one command to the next.
-use Rattle.std.proofs.Common.{◌≡◌, ℕ, ◌+◌, Bool, true, false, cond, ◌&&◌, ◌||◌, List, [], ◌∷◌, ◌++◌, refl, sym, ◌∙◌, ap, subst, map, flat_map, length, nat_eq, nat_le, nat_lt, Option, Some, None, IfSome, option_map, unwrap_or, append_assoc, ◌-◌, ⊎_elim}
+use Rattle.std.proofs.Common.{◌≡◌, ℕ, ◌+◌, true, false, cond, ◌&&◌, ◌||◌, List, [], ◌∷◌, ◌++◌, refl, sym, ◌∙◌, ap, subst, map, flat_map, length, nat_eq, nat_le, nat_lt, Some, None, IfSome, option_map, unwrap_or, append_assoc, ◌-◌, ⊎_elim}
 use Rattle.std.proofs.lemmas.List.{append-nil}
 use Rattle.std.proofs.lemmas.Bool.{false≢true, or_left, or_right, or_cases}
 use Rattle.std.specs.FinMap as map
@@ -10,11 +10,11 @@ use Rattle.bd_model.specs.declared.command.Command.{Command}
 use Rattle.bd_model.specs.declared.command.Command.TheVariants.{Backup, Restore, Expire, Reorganise, Scrub, List as Listing}
 use Rattle.bd_model.specs.Chunks.{chunks}
 use Rattle.bd_model.specs.FileMap.{FileMap}
-use Rattle.bd_model.specs.Folds.{HeldCommand, chunks_read, all_read, given}
+use Rattle.bd_model.specs.Folds.{chunks_read, all_read, given}
 use Rattle.bd_model.specs.History.{newest, oldest, retained, contains, version}
 use Rattle.bd_model.specs.Marks.{Distinct}
 use Rattle.bd_model.specs.Room.{counted, need, fresh}
-use Rattle.bd_model.specs.State.{Version, VersionState, history, streams, cut_of, last_number}
+use Rattle.bd_model.specs.State.{Version, VersionState, history, cut_of, last_number}
 use Rattle.bd_model.specs.Step.{Outcome, unchanged, restore, backup, free_extents, with_version, drop_oldest, expired_extents, step}
 use Rattle.bd_model.specs.Laws.{GivenChunksStayApart}
 use Rattle.bd_model.proofs.ChunkListLemmas.{contains-append}

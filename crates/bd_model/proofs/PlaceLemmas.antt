@@ -1,5 +1,5 @@
 -- In which category a chunk of a version lies, and in which part of a closed volume.
-use Rattle.std.proofs.Common.{◌≡◌, ℕ, zero, suc, ◌+◌, ◌-◌, ◌<◌, ◌≤◌, Bool, true, false, cond, not, ◌&&◌, ◌||◌, List, [], ◌∷◌, ◌++◌, refl, sym, ◌∙◌, ap, subst, arith, filter, nat_eq, eq-eqb, ⊎_elim}
+use Rattle.std.proofs.Common.{◌≡◌, ℕ, zero, suc, ◌+◌, ◌-◌, ◌<◌, ◌≤◌, Bool, true, false, cond, not, ◌&&◌, List, [], ◌∷◌, refl, sym, ◌∙◌, ap, subst, arith, filter, nat_eq, eq-eqb, ⊎_elim}
 use Rattle.std.proofs.lemmas.Bool.{false≢true, or_cases, eqb-true, cases_lt}
 use Rattle.std.proofs.lemmas.List.Folds.{list_all-append}
 use Rattle.std.proofs.lemmas.Grind.{flat_map-append}
@@ -9,12 +9,12 @@ use Rattle.bd_model.specs.Chunks.{numbers}
 use Rattle.bd_model.specs.History.{History, version, newest, oldest, contains, distinct}
 use Rattle.bd_model.specs.Category.{category, living, begins, lasts, ends}
 use Rattle.bd_model.specs.declared.layout.Phase.{Phase}
-use Rattle.bd_model.specs.Layout.{closed_volume, open_category, arranged_to, is_closed, row_chunks}
+use Rattle.bd_model.specs.Layout.{arranged_to, is_closed, row_chunks}
 use Rattle.bd_model.specs.Recipe.{start_of}
 use Rattle.bd_model.specs.Laws.{front_of, LiesInOneCategory, EachChunkLiesInOneCategory, AVersionUsesAFront}
 use Rattle.bd_model.proofs.ListLemmas.{left_and, right_and, numbers-split, filter-filter, filter-same, and_comm, flat_map-filter}
 use Rattle.bd_model.proofs.ChunkListLemmas.{contains-filter, contains-filter_distinct, contains-append, filter-equal}
-use Rattle.bd_model.proofs.HistoryLemmas.{above_base, version-past}
+use Rattle.bd_model.proofs.HistoryLemmas.{version-past}
 use Rattle.bd_model.proofs.RecipeLemmas.{lasts-suc, start_of-is, start_of-le, start_of-low}
 use Rattle.bd_model.proofs.LayoutLemmas.{closed_volume-rows}
 use Rattle.bd_model.proofs.RowLemmas.{recorded_as-numbers}

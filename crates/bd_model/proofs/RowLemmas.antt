@@ -1,20 +1,21 @@
 -- How the rows of the newest closed volume grow.
-use Rattle.std.proofs.Common.{◌≡◌, ◌≢◌, ℕ, zero, suc, ◌+◌, ◌-◌, ◌<◌, ◌≤◌, max, Bool, true, false, cond, not, ◌||◌, ◌&&◌, List, [], ◌∷◌, ◌++◌, refl, sym, ◌∙◌, ap, arith, filter, map, length, length-append, append_assoc, nat_lt, nat_eq, lt-ltb, le-ltb, eq-eqb, ◌⊎◌, inl, inr, ⊎_elim}
-use Rattle.std.proofs.lemmas.Bool.{ne_eqb, cases_lt, eqb-true, eqb-false, false≢true}
+use Rattle.std.proofs.Common.{◌≡◌, ◌≢◌, ℕ, zero, suc, ◌+◌, ◌-◌, ◌<◌, ◌≤◌, max, Bool, true, false, cond, not, ◌||◌, ◌&&◌, List, [], ◌∷◌, ◌++◌, refl, sym, ◌∙◌, ap, arith, filter, map, length, length-append, nat_lt, nat_eq, lt-ltb, le-ltb, eq-eqb, ◌⊎◌, inl, inr, ⊎_elim, sum_by}
+use Rattle.std.proofs.lemmas.Bool.{ne_eqb, cases_lt, eqb-true, eqb-false, false≢true, ltb-true, ltb-false}
 use Rattle.std.proofs.lemmas.List.{append-nil}
-use Rattle.std.proofs.lemmas.List.Elements.{filter-append}
-use Rattle.std.proofs.lemmas.List.Sums.{sum_by-append}
+use Rattle.std.proofs.lemmas.List.Sums.{sum_by-append, sum_by-cons}
 use Rattle.std.proofs.lemmas.Grind.{flat_map-append}
 use Rattle.std.specs.List.{flat_map, list_all, range_with_len}
 use Rattle.bd_model.specs.Chunks.{numbers}
 use Rattle.bd_model.specs.History.{History, newest, oldest, contains}
 use Rattle.bd_model.specs.Category.{category}
 use Rattle.bd_model.specs.declared.layout.CategoryRow.{CategoryRow}
-use Rattle.bd_model.specs.declared.layout.Phase.TheVariants.{Settled, Waiting}
-use Rattle.bd_model.specs.Layout.{is_closed, recorded_as, row_chunks, row_of, rows, record_bytes}
+use Rattle.bd_model.specs.declared.layout.Phase.TheVariants.{Waiting}
+use Rattle.bd_model.specs.Layout.{recorded_as, row_chunks, row_of, rows, record_bytes}
 use Rattle.bd_model.specs.Room.{archived}
-use Rattle.bd_model.specs.Laws.{row_with, rows_with}
-use Rattle.bd_model.proofs.ListLemmas.{left_and, right_and, filter-same, filter-numbers, filter-numbers_none, filter-below, numbers-split, numbers-cons, numbers-none, numbers-suc, flat_map-numbers}
+use Rattle.bd_model.proofs.LayoutLemmas.{closed_volume-rows, row_chunks-merged, row_chunks-later}
+use Rattle.bd_model.specs.declared.layout.Phase.{Phase}
+use Rattle.bd_model.specs.Laws.{given_up, rows_from, RowsDescribeTheVolume, row_with, rows_with}
+use Rattle.bd_model.proofs.ListLemmas.{sum_by-flat_map, left_and, right_and, filter-same, filter-numbers, filter-numbers_none, filter-below, numbers-split, numbers-cons, numbers-none, numbers-suc}
 use Rattle.bd_model.proofs.HistoryLemmas.{grown, newest-grown}
 use Rattle.bd_model.proofs.CategoryLemmas.{category-archived, category-newest}
 
@@ -80,15 +81,18 @@ rows_over-none : (starts : List ℕ) → rows_over (λ _. []) starts ≡ []
 rows_over-none [] = refl
 rows_over-none (x ∷ xs) = rows_over-none xs
 
-rows_over-below : (f : ℕ → List (List ℕ)) (r a n : ℕ) → a + n ≤ r → has_no r (rows_over f (range_with_len a n)) ≡ true
-rows_over-below f r a zero le = refl
-rows_over-below f r a (suc n) le =
-    let other : nat_eq a r ≡ false = ne_eqb a r (λ e. absurd (omega arith)) in
-    let tail = rows_over-below f r (a + 1) n (omega arith) in
-    elim (nat_lt 0 (length (f a))) as (λ t. has_no r (cond t (row_of a (f a) ∷ rows_over f (range_with_len (a + 1) n)) (rows_over f (range_with_len (a + 1) n))) ≡ true) [
-      | true ↦ λ k. not (other k) && tail k
+-- a test that all starts pass
+rows_over-all : (p : ℕ → Bool) (f : ℕ → List (List ℕ)) (a n : ℕ) → ((v : ℕ) → a ≤ v → v < a + n → p v ≡ true) → list_all (λ row. p row.start) (rows_over f (range_with_len a n)) ≡ true
+rows_over-all p f a zero passes = refl
+rows_over-all p f a (suc n) passes =
+    let tail = rows_over-all p f (a + 1) n (λ v low high. passes v (omega arith) (omega arith)) in
+    elim (nat_lt 0 (length (f a))) as (λ t. list_all (λ row. p row.start) (cond t (row_of a (f a) ∷ rows_over f (range_with_len (a + 1) n)) (rows_over f (range_with_len (a + 1) n))) ≡ true) [
+      | true ↦ λ k. passes a (omega arith) (omega arith) k && tail k
       | false ↦ tail
     ]
+
+rows_over-below : (f : ℕ → List (List ℕ)) (r a n : ℕ) → a + n ≤ r → has_no r (rows_over f (range_with_len a n)) ≡ true
+rows_over-below f r a n le = rows_over-all (λ v. not (nat_eq v r)) f a n (λ v low high. ap not (ne_eqb v r (λ e. absurd (omega arith))))
 
 -- where only the last start that has chunks gets more, the rows get them
 rows_over-more : (f g : ℕ → List (List ℕ)) (a r b : ℕ) (more : List (List ℕ)) → 1 ≤ a → a ≤ r → r ≤ b →
@@ -124,6 +128,113 @@ recorded_as-numbers h k =
 pub one_more : (x i : ℕ) → x ≢ i → nat_lt x (i + 1) ≡ nat_lt x i
 one_more x i other =
     ⊎_elim (λ less. lt-ltb x (i + 1) (omega arith) ∙ sym (lt-ltb x i less)) (λ past. le-ltb x (i + 1) (omega arith) ∙ sym (le-ltb x i past)) (cases_lt x i)
+
+-- where no chunk is counted there is none
+pub no_chunks : (cs : List (List ℕ)) → nat_lt 0 (length cs) ≡ false → cs ≡ []
+no_chunks [] e = refl
+no_chunks (c ∷ cs) e = absurd (omega (arith, ltb-false 0 (length (c ∷ cs)) e))
+
+-- what is summed over rows is summed over their chunks
+sum_by-rows_over : (g : CategoryRow → ℕ) (size : List (List ℕ) → ℕ) (f : ℕ → List (List ℕ)) → ((r : ℕ) (cs : List (List ℕ)) → g (row_of r cs) ≡ size cs) → size [] ≡ 0 →
+    (starts : List ℕ) → sum_by g (rows_over f starts) ≡ sum_by (λ r. size (f r)) starts
+sum_by-rows_over g size f same nothing [] = refl
+sum_by-rows_over g size f same nothing (x ∷ xs) =
+    let tail = sum_by-rows_over g size f same nothing xs in
+    elim (nat_lt 0 (length (f x))) as (λ t. nat_lt 0 (length (f x)) ≡ t → sum_by g (cond t (row_of x (f x) ∷ rows_over f xs) (rows_over f xs)) ≡ sum_by (λ r. size (f r)) (x ∷ xs)) [
+      | true ↦ λ e. omega (arith, sum_by-cons g (row_of x (f x)) (rows_over f xs), sum_by-cons (λ r. size (f r)) x xs, same x (f x), tail)
+      | false ↦ λ e. omega (arith, sum_by-cons (λ r. size (f r)) x xs, ap size (no_chunks (f x) e), nothing, tail)
+    ] refl
+
+length-flat_map : (f : ℕ → List (List ℕ)) (xs : List ℕ) → length (flat_map f xs) ≡ sum_by (λ x. length (f x)) xs
+length-flat_map f [] = refl
+length-flat_map f (x ∷ xs) = omega (arith, length-append (f x) (flat_map f xs), sum_by-cons (λ y. length (f y)) x xs, length-flat_map f xs)
+
+starts-rows_over : (f : ℕ → List (List ℕ)) (xs : List ℕ) → map (λ row. row.start) (rows_over f xs) ≡ filter (λ r. nat_lt 0 (length (f r))) xs
+starts-rows_over f [] = refl
+starts-rows_over f (x ∷ xs) =
+    elim (nat_lt 0 (length (f x))) as (λ t. map (λ row. row.start) (cond t (row_of x (f x) ∷ rows_over f xs) (rows_over f xs)) ≡ cond t (x ∷ filter (λ r. nat_lt 0 (length (f r))) xs) (filter (λ r. nat_lt 0 (length (f r))) xs)) [
+      | true ↦ ap (λ ys. x ∷ ys) (starts-rows_over f xs)
+      | false ↦ starts-rows_over f xs
+    ]
+
+pub rows_describe_the_volume : RowsDescribeTheVolume
+rows_describe_the_volume = record {
+  chunks = λ h phase j le.
+      sum_by-rows_over (λ row. row.chunks) length (row_chunks h phase j) (λ r cs. refl) refl (numbers (oldest h) j)
+      ∙ sym (length-flat_map (row_chunks h phase j) (numbers (oldest h) j)) ∙ ap length (sym (closed_volume-rows h phase j le));
+  bytes = λ h phase j le.
+      sum_by-rows_over (λ row. row.bytes) record_bytes (row_chunks h phase j) (λ r cs. refl) refl (numbers (oldest h) j)
+      ∙ sym (sum_by-flat_map (λ c. 36 + length c) (row_chunks h phase j) (numbers (oldest h) j)) ∙ ap record_bytes (sym (closed_volume-rows h phase j le));
+  starts = λ h phase j. starts-rows_over (row_chunks h phase j) (numbers (oldest h) j);
+}
+
+-- rows from r on stay
+rows_from-same : (r : ℕ) (row : CategoryRow) (rest : List CategoryRow) → r ≤ row.start → rows_from r (row ∷ rest) ≡ row ∷ rest
+rows_from-same r row [] le = let same : max r row.start ≡ row.start = omega arith in ap (λ n. record row { start = n } ∷ []) same
+rows_from-same r row (second ∷ rest) le =
+    let same : max r row.start ≡ row.start = omega arith in
+    let past : nat_lt row.start r ≡ false = le-ltb row.start r le in
+    (λ k. cond (past k && nat_eq second.start r) (record { start = r; chunks = row.chunks + second.chunks; bytes = row.bytes + second.bytes } ∷ rest) (record row { start = max r row.start } ∷ second ∷ rest))
+    ∙ ap (λ n. record row { start = n } ∷ second ∷ rest) same
+
+some_row : (c : List ℕ) (cs : List (List ℕ)) (xs ys : List CategoryRow) → cond (nat_lt 0 (length (c ∷ cs))) xs ys ≡ xs
+some_row c cs xs ys = let some : nat_lt 0 (length (c ∷ cs)) ≡ true = lt-ltb 0 (length (c ∷ cs)) (omega arith) in ap (λ t. cond t xs ys) some
+
+-- whether all rows begin after the start
+abbrev all_after : ℕ → List CategoryRow → Bool
+all_after r rows = list_all (λ row. nat_lt r row.start) rows
+
+rows_from-rest : (r : ℕ) (rest : List CategoryRow) → all_after r rest ≡ true → rows_from r rest ≡ rest
+rows_from-rest r [] late = refl
+rows_from-rest r (row ∷ rest) late = let lt : r < row.start = ltb-true r row.start (left_and (nat_lt r row.start) (all_after r rest) late) in rows_from-same r row rest (omega arith)
+
+rows_from-lower : (r o : ℕ) (cs : List (List ℕ)) (rest : List CategoryRow) → o < r → all_after r rest ≡ true → row_of r cs ∷ rest ≡ rows_from r (row_of o cs ∷ rest)
+rows_from-lower r o cs [] lt late = let same : r ≡ max r o = omega arith in ap (λ n. row_of n cs ∷ []) same
+rows_from-lower r o cs (second ∷ rest) lt late =
+    let same : r ≡ max r o = omega arith in
+    let after : r < second.start = ltb-true r second.start (left_and (nat_lt r second.start) (all_after r rest) late) in
+    let other : nat_eq second.start r ≡ false = ne_eqb second.start r (λ e. absurd (omega arith)) in
+    let lower : nat_lt o r ≡ true = lt-ltb o r lt in
+    ap (λ n. row_of n cs ∷ second ∷ rest) same
+    ∙ sym (λ k. cond (lower k && other k) (record { start = r; chunks = length cs + second.chunks; bytes = record_bytes cs + second.bytes } ∷ rest) (record (row_of o cs) { start = max r o } ∷ second ∷ rest))
+
+rows_from-first : (r o : ℕ) (cs ds : List (List ℕ)) (rest : List CategoryRow) → o < r → all_after r rest ≡ true →
+    cond (nat_lt 0 (length (cs ++ ds))) (row_of r (cs ++ ds) ∷ rest) rest
+    ≡ rows_from r (cond (nat_lt 0 (length cs)) (row_of o cs ∷ cond (nat_lt 0 (length ds)) (row_of r ds ∷ rest) rest) (cond (nat_lt 0 (length ds)) (row_of r ds ∷ rest) rest))
+rows_from-first r o [] [] rest lt late = sym (rows_from-rest r rest late)
+rows_from-first r o [] (d ∷ ds) rest lt late =
+    some_row d ds (row_of r (d ∷ ds) ∷ rest) rest ∙ sym (rows_from-same r (row_of r (d ∷ ds)) rest (omega arith)) ∙ ap (rows_from r) (sym (some_row d ds (row_of r (d ∷ ds) ∷ rest) rest))
+rows_from-first r o (c ∷ cs) [] rest lt late =
+    some_row c (cs ++ []) (row_of r (c ∷ cs ++ []) ∷ rest) rest
+    ∙ ap (λ es. row_of r (c ∷ es) ∷ rest) (append-nil cs)
+    ∙ rows_from-lower r o (c ∷ cs) rest lt late
+    ∙ ap (rows_from r) (sym (some_row c cs (row_of o (c ∷ cs) ∷ rest) rest))
+rows_from-first r o (c ∷ cs) (d ∷ ds) rest lt late =
+    let lower : nat_lt o r ≡ true = lt-ltb o r lt in
+    let same : nat_eq r r ≡ true = eq-eqb r r refl in
+    let second : List CategoryRow = cond (nat_lt 0 (length (d ∷ ds))) (row_of r (d ∷ ds) ∷ rest) rest in
+    some_row c (cs ++ d ∷ ds) (row_of r (c ∷ cs ++ d ∷ ds) ∷ rest) rest
+    ∙ ap (λ row. row ∷ rest) (row_of-append r (c ∷ cs) (d ∷ ds))
+    ∙ sym (λ k. cond (lower k && same k) (row_with (row_of r (c ∷ cs)) (d ∷ ds) ∷ rest) (record (row_of o (c ∷ cs)) { start = max r o } ∷ row_of r (d ∷ ds) ∷ rest))
+    ∙ ap (λ xs. rows_from r (row_of o (c ∷ cs) ∷ xs)) (sym (some_row d ds (row_of r (d ∷ ds) ∷ rest) rest))
+    ∙ ap (rows_from r) (sym (some_row c cs (row_of o (c ∷ cs) ∷ second) second))
+
+-- where the oldest version is given up the first two recorded starts become one row
+pub rows-given_up : (h : History) (phase : Phase) (j : ℕ) → oldest h < j → rows (given_up h) phase j ≡ rows_from (oldest h + 1) (rows h phase j)
+rows-given_up h phase j lt =
+    let o = oldest h in
+    let f = row_chunks h phase j in
+    let g = row_chunks (given_up h) phase j in
+    let next : oldest (given_up h) ≡ o + 1 = omega arith in
+    let rest : rows_over g (numbers (o + 1 + 1) j) ≡ rows_over f (numbers (o + 1 + 1) j) =
+    rows_over-same g f (o + 1 + 1) (j + 1 - (o + 1 + 1)) (λ v low high. row_chunks-later (given_up h) phase j v (omega arith) ∙ sym (row_chunks-later h phase j v (omega arith))) in
+    let first : g (o + 1) ≡ f o ++ f (o + 1) = ap g (sym next) ∙ row_chunks-merged h phase j in
+    ap (λ n. rows_over g (numbers n j)) next
+    ∙ ap (rows_over g) (numbers-cons (o + 1) j (omega arith))
+    ∙ (λ k. cond (nat_lt 0 (length (first k))) (row_of (o + 1) (first k) ∷ rest k) (rest k))
+    ∙ rows_from-first (o + 1) o (f o) (f (o + 1)) (rows_over f (numbers (o + 1 + 1) j)) (omega arith)
+    (rows_over-all (λ v. nat_lt (o + 1) v) f (o + 1 + 1) (j + 1 - (o + 1 + 1)) (λ v low high. lt-ltb (o + 1) v (omega arith)))
+    ∙ sym (ap (λ ns. rows_from (o + 1) (rows_over f ns)) (numbers-cons o j (omega arith) ∙ ap (λ ns. o ∷ ns) (numbers-cons (o + 1) j (omega arith))))
 
 module _ (h : History) (w : List (List ℕ)) where
   abbrev cats : ℕ → List (List ℕ)

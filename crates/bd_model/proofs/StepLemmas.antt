@@ -1,29 +1,36 @@
 -- A command leaves a legal state and a legal phase.
-use Rattle.std.proofs.Common.{◌≡◌, ◌⊎◌, ◌≢◌, ℕ, ◌+◌, ◌-◌, ◌<◌, ◌≤◌, Bool, true, false, cond, not, ◌&&◌, List, [], ◌∷◌, ◌++◌, refl, sym, ◌∙◌, ap, subst, arith, length, map, find, nat_eq, nat_lt, nat_le, length-append, Option, Some, None, IfSome, option_map, inl, inr, ⊎_elim}
-use Rattle.std.proofs.lemmas.Bool.{eqb-true, eqb-false, ltb-true, ltb-false, leb-true, leb-false}
-use Rattle.std.proofs.lemmas.List.{length-map, length_push}
+use Rattle.std.proofs.Common.{◌≡◌, ◌≢◌, ℕ, ◌+◌, ◌-◌, ◌<◌, ◌≤◌, true, false, cond, ◌&&◌, List, [], refl, ◌∙◌, arith, length, nat_eq, nat_lt, nat_le, Option, Some, None, IfSome, option_map, inl, inr, ⊎_elim, take, get_or, suc, ◌∷◌, ◌++◌, sym, ap, map}
+use Rattle.std.proofs.lemmas.Bool.{eqb-false, leb-false}
+use Rattle.std.proofs.lemmas.List.{length-map, length_push, take_all, take_more}
 use Rattle.std.specs.FinMap as map
 use Rattle.bd_model.specs.declared.shape.Shape.{Shape}
 use Rattle.bd_model.specs.declared.command.Command.{Command}
 use Rattle.bd_model.specs.declared.command.Command.TheVariants.{Backup, Restore, Expire, Reorganise, Scrub, List as Listing}
 use Rattle.bd_model.specs.declared.answer.Answer.{Answer}
-use Rattle.bd_model.specs.declared.answer.Answer.TheVariants.{BackedUp, Restored, Expired, Arranged, Scrubbed, Listed, FullNumbers, FullVersions, FullExtents, NoVersion, NothingRetained}
+use Rattle.bd_model.specs.declared.answer.Answer.TheVariants.{BackedUp, Expired, FullNumbers, FullVersions, FullExtents, NoVersion, NothingRetained}
 use Rattle.bd_model.specs.declared.layout.Phase.{Phase}
 use Rattle.bd_model.specs.declared.layout.Phase.TheVariants.{Settled, Waiting}
-use Rattle.bd_model.specs.Chunks.{chunks, numbers}
-use Rattle.bd_model.specs.History.{History, newest, oldest, retained}
+use Rattle.bd_model.specs.Chunks.{chunks}
+use Rattle.bd_model.specs.History.{History, newest, oldest, retained, version}
 use Rattle.bd_model.specs.FileMap.{FileMap}
-use Rattle.bd_model.specs.State.{Version, VersionState, IsState, IsPhase, history, streams, cut_of, last_number}
+use Rattle.bd_model.specs.State.{VersionState, IsState, IsPhase, history, streams, cut_of, last_number, Version}
 use Rattle.bd_model.specs.Layout.{open_category}
 use Rattle.bd_model.specs.Room.{counted, need, fresh}
-use Rattle.bd_model.specs.Laws.{Keeps, StatesStayLegal}
+use Rattle.bd_model.specs.Laws.{Keeps, StatesStayLegal, BackupsGrowTheHistory, grown}
 use Rattle.std.proofs.lemmas.Option.{IfSome_then}
-use Rattle.bd_model.specs.Step.{Outcome, unchanged, restore, expired_extents, step, backup, free_extents, drop_oldest, with_version, phase_after, next_start, phase_after_step}
+use Rattle.bd_model.specs.Step.{unchanged, restore, expired_extents, step, backup, free_extents, drop_oldest, with_version, next_start, phase_after_step}
 use Rattle.bd_model.proofs.ListLemmas.{IfSome-find_range_with_len}
 
 module _ (shape : Shape) where
   pub length-history : (s : VersionState) → length (history shape s).versions ≡ length s.versions
   length-history s = length-map (streams s) (chunks (cut_of shape)) ∙ length-map s.versions (λ v. v.stream)
+
+  chunks-pushed : (versions : List Version) (v : Version) → map (chunks (cut_of shape)) (map (λ v. v.stream) (versions ++ v ∷ [])) ≡ map (chunks (cut_of shape)) (map (λ v. v.stream) versions) ++ chunks (cut_of shape) v.stream ∷ []
+  chunks-pushed [] v = refl
+  chunks-pushed (u ∷ versions) v = ap (λ vs. chunks (cut_of shape) u.stream ∷ vs) (chunks-pushed versions v)
+
+  pub history-grown : (s : VersionState) (stream : List ℕ) → history shape (with_version s stream) ≡ grown (history shape s) (chunks (cut_of shape) stream)
+  history-grown s stream = λ k. record { base = s.base; versions = chunks-pushed s.versions (record { stream = stream }) k; expired = s.expired }
 
   IsState-pushed : (s : VersionState) (stream : List ℕ) → IsState s → newest (history shape s) ≢ last_number → IsState (with_version s stream)
   IsState-pushed s stream is below =
@@ -138,3 +145,17 @@ IsPhase-step h (Waiting cursor) is =
 
 pub states_stay_legal : StatesStayLegal
 states_stay_legal = record { command = keeps; arranging = IsPhase-step }
+
+last_of : (xs : List (List (List ℕ))) → 1 ≤ length xs → xs ≡ take (length xs - 1) xs ++ get_or xs (length xs - 1) [] ∷ []
+last_of xs some =
+    let whole : length xs - 1 + 1 ≡ length xs = omega arith in
+    sym (take_all (length xs) xs (omega arith)) ∙ ap (λ n. take n xs) (sym whole) ∙ take_more xs (length xs - 1) [] (omega arith)
+
+pub backups_grow_the_history : BackupsGrowTheHistory
+backups_grow_the_history = record {
+  grows = history-grown;
+  grew = λ h some.
+      let place : newest h - h.base ≡ suc (length h.versions - 1) = omega arith in
+      let last : get_or h.versions (length h.versions - 1) [] ≡ version h (newest h) = sym (ap (λ i. get_or ([] ∷ h.versions) i []) place) in
+      λ k. record { base = h.base; versions = (last_of h.versions some ∙ ap (λ v. take (length h.versions - 1) h.versions ++ v ∷ []) last) k; expired = h.expired };
+}

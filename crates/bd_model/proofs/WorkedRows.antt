@@ -6,7 +6,7 @@ use Rattle.bd_model.specs.Layout.{closed_volume, open_category, rows, row_of}
 use Rattle.bd_model.specs.declared.layout.Phase.TheVariants.{Settled, Waiting}
 use Rattle.bd_model.specs.Room.{need, counted, running, owned, fresh, reserve_left}
 use Rattle.bd_model.specs.Recipe.{recipe, entry_of}
-use Rattle.std.specs.Prelude.{codes, Option, Some, None, option_map, IsTrue}
+use Rattle.std.specs.Prelude.{codes, Option, Some, None, IsTrue}
 use Rattle.std.specs.Int.{is_power_of_two}
 use lib.Count.{ones}
 use Rattle.std.proofs.Common.{lit≤}
@@ -22,6 +22,7 @@ use Rattle.bd_model.specs.declared.answer.VersionLine.{VersionLine}
 use Rattle.bd_model.specs.Shapes.{payload_room as shape_room, half_bytes as shape_half, disk_bytes as shape_disk}
 use Rattle.bd_model.specs.Sizes.{Sizes, sizes_of, payload_room, half_bytes, disk_bytes}
 use Rattle.bd_model.specs.Chunks.{chunks_from}
+use Rattle.bd_model.specs.Laws.{walk, given_up}
 use Rattle.bd_model.specs.Texts.{answer_text, texts}
 use Rattle.bd_model.specs.FileMap.{FileMap}
 use Rattle.bd_model.specs.State.{Version, VersionState, empty, cut_of, last_number}
@@ -66,6 +67,10 @@ two = history_of 0 (abc ∷ acd ∷ [])
 
 abbrev three : History
 three = history_of 0 (abc ∷ acd ∷ bad ∷ [])
+
+-- the third volume has a chunk of the first version and one of the second
+abbrev two_starts : History
+two_starts = history_of 0 ((a ∷ b ∷ []) ∷ (a ∷ d ∷ []) ∷ (a ∷ d ∷ []) ∷ (c ∷ []) ∷ [])
 
 abbrev three_less_one : History
 three_less_one = record three { expired = 1 }
@@ -141,6 +146,10 @@ third_waiting = refl
 next_starts : map (phase_after_step three) (Waiting 1 ∷ Waiting 2 ∷ Waiting 3 ∷ Settled ∷ []) ≡ Waiting 2 ∷ Waiting 3 ∷ Settled ∷ Settled ∷ []
 next_starts = refl
 
+-- what a restore finds: of the first version when three are arranged, and of the second while it waits
+restore_walks : walk three Settled 1 ∷ walk two (Waiting 1) 2 ∷ [] ≡ (b ∷ c ∷ a ∷ []) ∷ (a ∷ c ∷ d ∷ []) ∷ []
+restore_walks = refl
+
 -- after an expiry
 expiry : expired_extents 64 three ∷ owned 64 three_less_one Settled ∷ [] ≡ 3 ∷ 8 ∷ []
 unfolding need owned reserve_left counted
@@ -148,6 +157,10 @@ expiry = refl
 
 expiry_rows : rows three_less_one Settled 2 ≡ row_of 2 (c ∷ []) ∷ []
 expiry_rows = refl
+
+-- where both of the first two starts have chunks they become one row
+merged_rows : rows two_starts Settled 3 ∷ rows (given_up two_starts) Settled 3 ∷ [] ≡ (row_of 1 (a ∷ []) ∷ row_of 2 (d ∷ []) ∷ []) ∷ (row_of 2 (a ∷ d ∷ []) ∷ []) ∷ []
+merged_rows = refl
 
 -- the same stream twice
 same_twice : need 64 one abc ∷ owned 64 (history_of 0 (abc ∷ abc ∷ [])) Settled ∷ [] ≡ 2 ∷ 6 ∷ []

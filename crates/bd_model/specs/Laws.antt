@@ -1,5 +1,5 @@
 -- What holds of the definitions, in the words of the subject. Each law stands on a function of its own.
-use Rattle.std.specs.Prelude.{◌≡◌, ◌≢◌, ◌↔◌, ◌⊎◌, ℕ, zero, suc, ◌+◌, ◌-◌, ◌*◌, ◌%◌, ◌^◌, ◌<◌, ◌≤◌, max, ◌&&◌, List, [], ◌∷◌, ◌++◌, length, map, filter, flat_map, sum_by, take, fold, slice_index, slice_range, nat_lt, ◌==◌, if◌then◌else◌, Some, None, IfSome, IsTrue}
+use Rattle.std.specs.Prelude.{◌≡◌, ◌≢◌, ◌↔◌, ℕ, zero, suc, ◌+◌, ◌-◌, ◌*◌, ◌%◌, ◌^◌, ◌<◌, ◌≤◌, max, ◌&&◌, List, [], ◌∷◌, ◌++◌, length, map, filter, flat_map, sum_by, take, fold, slice_index, slice_range, nat_lt, ◌==◌, if◌then◌else◌, Some, None, IfSome, IsTrue}
 use Rattle.std.specs.Str.{bytes_eq}
 use Rattle.std.specs.List.{concat}
 use Rattle.bd_model.specs.declared.shape.Shape.{Shape}
@@ -17,8 +17,8 @@ use Rattle.bd_model.specs.Layout.{record_bytes, row_of, rows, row_chunks, closed
 use Rattle.bd_model.specs.Marks.{mark, Distinct, Near}
 use Rattle.bd_model.specs.Recipe.{recipe, start_of}
 use Rattle.bd_model.specs.Room.{up, owned, recipe_bytes, fresh, kept, archived, lacks_some, need, counted, reserve_left, need_of, counted_of}
-use Rattle.bd_model.specs.State.{VersionState, IsState, IsPhase, history}
-use Rattle.bd_model.specs.Step.{Outcome, step, drop_oldest, dropped_extents, expired_extents, phase_after, next_start, phase_after_step}
+use Rattle.bd_model.specs.State.{VersionState, IsState, IsPhase, history, cut_of}
+use Rattle.bd_model.specs.Step.{Outcome, with_version, version_line, step, drop_oldest, dropped_extents, expired_extents, phase_after, next_start, phase_after_step}
 
 -- the least chunk has a byte, and is no longer than the longest
 abbrev pub IsCut : Cut → Type 0
@@ -27,6 +27,14 @@ IsCut cut = (1 ≤ cut.least) × (cut.least ≤ cut.most)
 -- The chunks of a stream, joined together, are the stream.
 abbrev pub ChunksJoinedAreTheStream : Type 0
 ChunksJoinedAreTheStream = (cut : Cut) (stream : List ℕ) → IsCut cut → concat (chunks cut stream) ≡ stream
+
+-- A chunk has a byte and no more than the most that it may have, and one with less than the least is the last of its
+-- stream; so a stream has no more chunks than bytes. The sizes of every shape are in order.
+pub record ChunksAreWithinBounds : Type 0 where
+  pub each : (cut : Cut) (stream c : List ℕ) → IsCut cut → IsTrue (contains (chunks cut stream) c) → (1 ≤ length c) × (length c ≤ cut.most)
+  pub least : (cut : Cut) (stream : List ℕ) (start : ℕ) → IsCut cut → start < length stream → chunk_len cut stream start < cut.least → start + chunk_len cut stream start ≡ length stream
+  pub count : (cut : Cut) (stream : List ℕ) → length (chunks cut stream) ≤ length stream
+  pub shapes : (shape : Shape) → IsCut (cut_of shape)
 
 -- the chunks from `start` on up to the first that isn't decided, at most `count` of them
 unfoldable pub decided_from : Cut → List ℕ → ℕ → ℕ → List (List ℕ)
@@ -55,10 +63,15 @@ pub record TheHashRolls : Type 0 where
   pub next : (stream : List ℕ) (p : ℕ) → window_hash stream (p + 1) ≡ (2 * window_hash stream p + gear (slice_index stream (p + 1))) % 2 ^ 64
   pub whole : (stream : List ℕ) (p : ℕ) → p < length stream → window_hash stream p ≡ rolled (take (p + 1) stream)
 
--- the history after a version of these chunks is backed up, and after the oldest one is given up
+-- the history after a version of these chunks is backed up
 abbrev pub grown : History → List (List ℕ) → History
 grown h chunks = record h { versions = h.versions ++ chunks ∷ [] }
 
+-- the history before the newest version was backed up; each one with a version is this one, grown by that version
+abbrev pub before : History → History
+before h = record h { versions = take (length h.versions - 1) h.versions }
+
+-- the history after the oldest retained version is given up
 abbrev pub given_up : History → History
 given_up h = record h { expired = h.expired + 1 }
 
@@ -82,10 +95,36 @@ pub record LiesInOneCategory (h : History) (v : ℕ) (c : List ℕ) : Type 0 whe
 abbrev pub EachChunkLiesInOneCategory : Type 0
 EachChunkLiesInOneCategory = (h : History) (v : ℕ) (c : List ℕ) → IsTrue (contains (version h v) c) → LiesInOneCategory h v c
 
--- A new version leaves the closed volumes; the newest one has what was archived of the categories that are arranged.
--- An open category is as before while it waits, and afterwards what is kept of it; the new version's own has the fresh
--- chunks.
+-- the start that the first entry with the mark has, or else `new`
+abbrev pub start_in : List RecipeEntry → List ℕ → ℕ → ℕ
+start_in [] m new = new
+start_in (e ∷ es) m new = if bytes_eq m e.mark.0 then e.start else start_in es m new
+
+-- the entries of these chunks where a recipe tells the starts of those that it has, and the others begin at version v
+abbrev pub entries_in : List RecipeEntry → ℕ → List (List ℕ) → List RecipeEntry
+entries_in old v chunks = map (λ c. record { mark = record { 0 = mark c }; length = length c; start = start_in old (mark c) v }) chunks
+
+-- A new version leaves the recipes. Where marks tell its chunks and the newest version's apart, its own has the starts of
+-- the newest recipe, and its number for each chunk that the newest version lacks.
+pub record RecipesStay : Type 0 where
+  pub earlier : (h : History) (w : List (List ℕ)) (v : ℕ) → v ≤ newest h → recipe (grown h w) v ≡ recipe h v
+  pub own : (h : History) (w : List (List ℕ)) → Distinct (version h (newest h) ++ w) → recipe (grown h w) (newest h + 1) ≡ entries_in (recipe h (newest h)) (newest h + 1) w
+
+-- The line of a version in a list stays at a backup and at an expiry, and that of a new version has what the backup answers.
+pub record LinesStay : Type 0 where
+  pub earlier : (shape : Shape) (s : VersionState) (stream : List ℕ) (v : ℕ) → v ≤ newest (history shape s) →
+      version_line (with_version s stream) (history shape (with_version s stream)) v ≡ version_line s (history shape s) v
+  pub own : (shape : Shape) (s : VersionState) (stream : List ℕ) → let parts = chunks (cut_of shape) stream in let h = history shape s in
+      version_line (with_version s stream) (history shape (with_version s stream)) (newest h + 1)
+      ≡ record { version = newest h + 1; bytes = length stream; chunks = length parts; fresh = length (fresh h parts) }
+  pub expired : (shape : Shape) (s : VersionState) (v : ℕ) → 2 ≤ retained (history shape s) →
+      version_line (drop_oldest s) (history shape (drop_oldest s)) v ≡ version_line s (history shape s) v
+
+-- No volume is closed from the newest version on. A new version leaves the closed ones; the newest of them has what was
+-- archived of the categories that are arranged. An open category is as before while it waits, and afterwards what is kept
+-- of it; the new version's own has the fresh chunks.
 pub record ClosedVolumesGrow : Type 0 where
+  pub none : (h : History) (phase : Phase) (j : ℕ) → newest h ≤ j → closed_volume h phase j ≡ []
   pub earlier : (h : History) (w : List (List ℕ)) (phase : Phase) (j : ℕ) → j < newest h → closed_volume (grown h w) phase j ≡ closed_volume h Settled j
   pub newest_volume : (h : History) (w : List (List ℕ)) (phase : Phase) → closed_volume (grown h w) phase (newest h) ≡ flat_map (archived h w) (filter (is_arranged phase) (numbers (h.base + 1) (newest h)))
   pub waiting : (h : History) (w : List (List ℕ)) (cursor i : ℕ) → cursor ≤ i → i ≤ newest h → open_category (grown h w) (Waiting cursor) i ≡ open_category h Settled i
@@ -104,6 +143,22 @@ rows_with r [] rows = rows
 rows_with r chunks [] = row_of r chunks ∷ []
 rows_with r chunks (row ∷ []) = if row.start == r then row_with row chunks ∷ [] else row ∷ row_of r chunks ∷ []
 rows_with r chunks (row ∷ rows) = row ∷ rows_with r chunks rows
+
+-- The rows of a closed volume count its chunks and the bytes of its records. There is one for each recorded start that
+-- has chunks, in ascending order.
+pub record RowsDescribeTheVolume : Type 0 where
+  pub chunks : (h : History) (phase : Phase) (j : ℕ) → oldest h ≤ j → sum_by (λ row. row.chunks) (rows h phase j) ≡ length (closed_volume h phase j)
+  pub bytes : (h : History) (phase : Phase) (j : ℕ) → oldest h ≤ j → sum_by (λ row. row.bytes) (rows h phase j) ≡ record_bytes (closed_volume h phase j)
+  pub starts : (h : History) (phase : Phase) (j : ℕ) → map (λ row. row.start) (rows h phase j) ≡ filter (λ r. nat_lt 0 (length (row_chunks h phase j r))) (numbers (oldest h) j)
+
+-- the rows where r becomes the oldest version: a first row of a lower start gets this one, and takes in a row that has it
+abbrev pub rows_from : ℕ → List CategoryRow → List CategoryRow
+rows_from r [] = []
+rows_from r (row ∷ []) = record row { start = max r row.start } ∷ []
+rows_from r (row ∷ second ∷ rows) =
+    if nat_lt row.start r && second.start == r
+    then record { start = r; chunks = row.chunks + second.chunks; bytes = row.bytes + second.bytes } ∷ rows
+    else record row { start = max r row.start } ∷ second ∷ rows
 
 -- one step of arranging the version of the chunks w, that of start i
 pub record ArrangesOne (h : History) (w : List (List ℕ)) (i : ℕ) : Type 0 where
@@ -139,8 +194,7 @@ pub record TakesOnlyTheOldest (h : History) (phase : Phase) : Type 0 where
   pub recipes : (v : ℕ) → recipe (given_up h) v ≡ recipe h v
   pub volumes : (j : ℕ) → closed_volume (given_up h) phase j ≡ closed_volume h phase j
   pub categories : (i : ℕ) → open_category (given_up h) phase i ≡ open_category h phase i
-  pub first_row : (j : ℕ) → row_chunks (given_up h) phase j (oldest h + 1) ≡ row_chunks h phase j (oldest h) ++ row_chunks h phase j (oldest h + 1)
-  pub other_rows : (j r : ℕ) → oldest h + 1 < r → row_chunks (given_up h) phase j r ≡ row_chunks h phase j r
+  pub rows : (j : ℕ) → oldest h < j → rows (given_up h) phase j ≡ rows_from (oldest h + 1) (rows h phase j)
 
 -- An expiry takes only the oldest version's parts where others are left, in a settled store or one with three versions
 -- or more; with the only version it takes all.
@@ -176,7 +230,8 @@ abbrev pub ARestoreFindsEachChunkOnce : Type 0
 ARestoreFindsEachChunkOnce = (f : List ℕ → ℕ) (h : History) (phase : Phase) (v : ℕ) → oldest h ≤ v → v ≤ newest h → sum_by f (walk h phase v) ≡ sum_by f (distinct (version h v))
 
 -- A backup needs extents for its fresh chunks and its recipe, which it takes, and for the reserve, which is free
--- afterwards and of which arranging takes its part at each start. The first version has no reserve.
+-- afterwards and of which arranging takes its part at each start. So it stays free, and a settled store owns no more than
+-- before and the need. The first version has no reserve.
 pub record ABackupLeavesItsReserve : Type 0 where
   pub needed : (extent : ℕ) (h : History) (w : List (List ℕ)) → 1 ≤ extent →
       need extent h w ≡ up extent (record_bytes (fresh h w)) + up extent (recipe_bytes w) + reserve_left extent (grown h w) (Waiting (h.base + 1))
@@ -189,24 +244,39 @@ pub record ABackupLeavesItsReserve : Type 0 where
       (up extent (record_bytes (closed_volume (grown h w) (Waiting (i + 1)) (newest h))) - up extent (record_bytes (closed_volume (grown h w) (Waiting i) (newest h))))
       + (if lacks_some w (open_category h Settled i) then up extent (record_bytes (kept h w i)) else 0)
       + reserve_left extent (grown h w) (Waiting (i + 1))
+  pub stays_free : (extent : ℕ) (h : History) (w : List (List ℕ)) (i : ℕ) → 1 ≤ extent → h.base + 1 ≤ i → i ≤ newest h → h.expired < length h.versions →
+      owned extent (grown h w) (Waiting (i + 1)) + reserve_left extent (grown h w) (Waiting (i + 1)) ≤ owned extent (grown h w) (Waiting i) + reserve_left extent (grown h w) (Waiting i)
+  pub settled : (extent : ℕ) (h : History) (w : List (List ℕ)) → 1 ≤ extent → h.expired < length h.versions → owned extent (grown h w) Settled ≤ owned extent h Settled + need extent h w
   pub first : (extent base : ℕ) (w : List (List ℕ)) → 1 ≤ extent → let h : History = record { base = base; versions = []; expired = 0 } in need extent h w ≡ owned extent (grown h w) Settled
+
+-- The state after a backup has the history that is grown by the stream's chunks, and each history with a version is the
+-- one before, grown by that version.
+pub record BackupsGrowTheHistory : Type 0 where
+  pub grows : (shape : Shape) (s : VersionState) (stream : List ℕ) → history shape (with_version s stream) ≡ grown (history shape s) (chunks (cut_of shape) stream)
+  pub grew : (h : History) → 1 ≤ length h.versions → h ≡ grown (before h) (version h (newest h))
+
+-- No command makes a settled store own more extents than there are.
+abbrev pub RoomSuffices : Type 0
+RoomSuffices =
+    (shape : Shape) (held : ℕ) (s : VersionState) (files : FileMap) (command : Command) → IsState s → owned shape.extent (history shape s) Settled ≤ shape.extents →
+    IfSome (step shape held s files command) (λ o. owned shape.extent (history shape o.state) Settled ≤ shape.extents)
 
 -- What a refusal counts is more than what is free exactly where the need is, from chunks and from any two recipes.
 pub record RefusalIsExact : Type 0 where
   pub chunks : (extent free : ℕ) (h : History) (w : List (List ℕ)) → 1 ≤ extent → (free < counted extent h w free) ↔ (free < need extent h w)
   pub recipes : (extent free : ℕ) (old new : List RecipeEntry) → 1 ≤ extent → (free < counted_of extent old new free) ↔ (free < need_of extent old new)
 
--- the entries have the marks and the lengths of their chunks
-pub record AreEntries (e : List ℕ → RecipeEntry) : Type 0 where
-  pub marks : (c : List ℕ) → (e c).mark.0 ≡ mark c
-  pub lengths : (c : List ℕ) → (e c).length ≡ length c
+-- the entries have the marks and the lengths of these chunks
+pub record AreEntriesOf (entries : List RecipeEntry) (chunks : List (List ℕ)) : Type 0 where
+  pub marks : map (λ e. e.mark.0) entries ≡ map mark chunks
+  pub lengths : map (λ e. e.length) entries ≡ map (λ c. length c) chunks
 
 -- Where marks tell the chunks of the newest version and the new one apart, their recipes give the need and the count.
 pub record RecipesGiveTheCounts : Type 0 where
-  pub need : (extent : ℕ) (h : History) (w : List (List ℕ)) (e : List ℕ → RecipeEntry) → AreEntries e → Distinct (version h (newest h) ++ w) →
-      need_of extent (recipe h (newest h)) (map e w) ≡ need extent h w
-  pub counted : (extent free : ℕ) (h : History) (w : List (List ℕ)) (e : List ℕ → RecipeEntry) → AreEntries e → Distinct (version h (newest h) ++ w) →
-      counted_of extent (recipe h (newest h)) (map e w) free ≡ counted extent h w free
+  pub needed : (extent : ℕ) (h : History) (w : List (List ℕ)) (new : List RecipeEntry) → AreEntriesOf new w → Distinct (version h (newest h) ++ w) →
+      need_of extent (recipe h (newest h)) new ≡ need extent h w
+  pub refused : (extent free : ℕ) (h : History) (w : List (List ℕ)) (new : List RecipeEntry) → AreEntriesOf new w → Distinct (version h (newest h) ++ w) →
+      counted_of extent (recipe h (newest h)) new free ≡ counted extent h w free
 
 -- Where marks tell all chunks of a history apart, they tell those of each two versions in a row apart.
 abbrev pub DistinctMarksAreNear : Type 0

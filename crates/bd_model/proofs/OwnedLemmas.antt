@@ -1,0 +1,105 @@
+-- A settled store never owns more extents than there are.
+use Rattle.std.proofs.Common.{◌≡◌, ◌≢◌, ℕ, ◌+◌, ◌≤◌, true, false, cond, ◌&&◌, List, [], refl, sym, ap, subst, arith, map, length, nat_eq, nat_lt, nat_le, Some, None, IfSome, option_map, ⊎_elim}
+use Rattle.std.proofs.lemmas.Bool.{eqb-false, ltb-false, cases_lt}
+use Rattle.std.specs.FinMap as map
+use Rattle.bd_model.specs.declared.shape.Shape.{Shape}
+use Rattle.bd_model.specs.declared.answer.Answer.{Answer}
+use Rattle.bd_model.specs.declared.answer.Answer.TheVariants.{BackedUp, Expired, FullNumbers, FullVersions, FullExtents, NoVersion, NothingRetained}
+use Rattle.bd_model.specs.declared.command.Command.{Command}
+use Rattle.bd_model.specs.declared.command.Command.TheVariants.{Backup, Restore, Expire, Reorganise, Scrub, List as Listing}
+use Rattle.bd_model.specs.declared.layout.Phase.TheVariants.{Settled}
+use Rattle.bd_model.specs.Chunks.{chunks}
+use Rattle.bd_model.specs.FileMap.{FileMap}
+use Rattle.bd_model.specs.History.{newest, oldest, retained}
+use Rattle.bd_model.specs.Room.{owned, need, counted, fresh}
+use Rattle.bd_model.specs.State.{VersionState, IsState, history, cut_of, last_number}
+use Rattle.bd_model.specs.Step.{unchanged, restore, backup, free_extents, with_version, drop_oldest, expired_extents, step}
+use Rattle.bd_model.specs.Laws.{grown, TakesOnlyTheOldest, RoomSuffices}
+use Rattle.bd_model.proofs.CountedLemmas.{counted-above}
+use Rattle.bd_model.proofs.ExpiryLemmas.{expiry_takes_only_the_oldest, nothing_owned}
+use Rattle.bd_model.proofs.LawLemmas.{need-first, owned-settled}
+use Rattle.bd_model.proofs.StepLemmas.{length-history, history-grown}
+
+module _ (shape : Shape) where
+  -- the state's settled store has the extents that it owns
+  abbrev Fits : VersionState → Type 0
+  Fits s = owned shape.extent (history shape s) Settled ≤ shape.extents
+
+  fits-pushed : (held : ℕ) (s : VersionState) (stream : List ℕ) → IsState s → Fits s → need shape.extent (history shape s) (chunks (cut_of shape) stream) ≤ free_extents shape held s → Fits (with_version s stream)
+  fits-pushed held s stream is fits enough =
+      let h = history shape s in
+      let w = chunks (cut_of shape) stream in
+      let one : 1 ≤ shape.extent = omega (arith, shape.in_range.extent_low) in
+      let room : owned shape.extent (grown h w) Settled ≤ shape.extents =
+      ⊎_elim
+      (λ some. omega (arith, owned-settled shape.extent h w one (omega (arith, length-history shape s))))
+      (λ none.
+      let nothing : h ≡ record { base = s.base; versions = []; expired = 0 } = λ k. record { base = s.base; versions = map (chunks (cut_of shape)) (map (λ v. v.stream) (none.0 k)); expired = none.1 k } in
+      omega (arith, ap (λ g. need shape.extent g w) nothing, need-first shape.extent s.base w one, ap (λ g. owned shape.extent (grown g w) Settled) nothing))
+      is.some in
+      subst (λ g. owned shape.extent g Settled ≤ shape.extents) (sym (history-grown shape s stream)) room
+
+  fits-backup : (held : ℕ) (s : VersionState) (files : FileMap) (stream : List ℕ) → IsState s → Fits s → Fits (backup shape held s files stream).state
+  fits-backup held s files stream is fits =
+      let h = history shape s in
+      let parts = chunks (cut_of shape) stream in
+      let free = free_extents shape held s in
+      let count = counted shape.extent h parts free in
+      let one : 1 ≤ shape.extent = omega (arith, shape.in_range.extent_low) in
+      elim (nat_lt free count) as (λ t. nat_lt free count ≡ t → Fits (let result : Answer × VersionState = cond t (FullExtents count free held, s) (BackedUp (newest h + 1) (length stream) (length parts) (length (fresh h parts)) (need shape.extent h parts), with_version s stream) in result.1)) [
+        | true ↦ λ e. fits
+        | false ↦ λ e.
+            let few : count ≤ free = ltb-false free count e in
+            let exact = counted-above shape.extent h one parts free in
+            fits-pushed held s stream is fits (⊎_elim (λ more. absurd (omega (arith, exact.1 more))) (λ le. le) (cases_lt free (need shape.extent h parts)))
+      ] refl
+
+  fits-dropped : (s : VersionState) → retained (history shape s) ≢ 0 → Fits s → Fits (drop_oldest s)
+  fits-dropped s some fits =
+      let h = history shape s in
+      elim (nat_eq (s.expired + 1) (length s.versions))
+      as (λ t. nat_eq (s.expired + 1) (length s.versions) ≡ t → Fits (cond t (record { base = s.base + length s.versions; versions = []; expired = 0 }) (record s { expired = s.expired + 1 }))) [
+        | true ↦ λ e. omega (arith, nothing_owned shape.extent (s.base + length s.versions))
+        | false ↦ λ e.
+            let others : s.expired + 1 ≢ length s.versions = eqb-false _ _ e in
+            let takes : TakesOnlyTheOldest h Settled = expiry_takes_only_the_oldest.settled h (omega (arith, length-history shape s)) in
+            omega (arith, takes.extents shape.extent)
+      ] refl
+
+  fits : (held : ℕ) (s : VersionState) (files : FileMap) (command : Command) → IsState s → Fits s → IfSome (step shape held s files command) (λ o. Fits o.state)
+  fits held s files (Backup name) is fit =
+      let h = history shape s in
+      elim (nat_eq (newest h) last_number)
+      as (λ t. IfSome (cond t (Some (unchanged s files FullNumbers)) (cond (nat_eq (retained h) shape.retain) (Some (unchanged s files (FullVersions shape.retain))) (option_map (backup shape held s files) (map.get files name)))) (λ o. Fits o.state)) [
+        | true ↦ fit
+        | false ↦
+            elim (nat_eq (retained h) shape.retain)
+            as (λ t. IfSome (cond t (Some (unchanged s files (FullVersions shape.retain))) (option_map (backup shape held s files) (map.get files name))) (λ o. Fits o.state)) [
+              | true ↦ fit
+              | false ↦
+                  elim (map.get files name) as (λ t. IfSome (option_map (backup shape held s files) t) (λ o. Fits o.state)) [
+                    | None ↦ tt
+                    | Some stream ↦ fits-backup held s files stream is fit
+                  ]
+            ]
+      ]
+  fits held s files (Restore v name) is fit =
+      let h = history shape s in
+      elim (nat_eq (retained h) 0)
+      as (λ t. IfSome (cond t (Some (unchanged s files (NothingRetained (Some v)))) (cond (nat_le (oldest h) v && nat_le v (newest h)) (Some (restore s files v name)) (Some (unchanged s files (NoVersion v (oldest h) (newest h)))))) (λ o. Fits o.state)) [
+        | true ↦ fit
+        | false ↦ elim (nat_le (oldest h) v && nat_le v (newest h)) as (λ t. IfSome (cond t (Some (restore s files v name)) (Some (unchanged s files (NoVersion v (oldest h) (newest h))))) (λ o. Fits o.state)) [ true ↦ fit | false ↦ fit ]
+      ]
+  fits held s files Expire is fit =
+      let h = history shape s in
+      elim (nat_eq (retained h) 0)
+      as (λ t. nat_eq (retained h) 0 ≡ t → IfSome (cond t (Some (unchanged s files (NothingRetained None))) (Some (record { answer = Expired (oldest h) (expired_extents shape.extent h); state = drop_oldest s; files = files }))) (λ o. Fits o.state)) [
+        | true ↦ λ e. fit
+        | false ↦ λ e. fits-dropped s (eqb-false _ _ e) fit
+      ] refl
+  fits held s files Reorganise is fit = fit
+  fits held s files Scrub is fit = fit
+  fits held s files Listing is fit = fit
+
+pub room_suffices : RoomSuffices
+room_suffices = fits
