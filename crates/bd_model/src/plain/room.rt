@@ -191,12 +191,7 @@ impl PlainHistory {
     }
 
     /// The extents of the fresh category and the recipe of these chunks; from 2^64 - 1 on, that number.
-    pub fn running(
-        &self,
-        alloc: Global,
-        shape: &Shape,
-        chunks: &[Vec<u8>],
-    ) -> Result<u64, OutOfMemory>
+    fn running(&self, alloc: Global, shape: &Shape, chunks: &[Vec<u8>]) -> Result<u64, OutOfMemory>
         ensures { IfOk result (λ n. n ≡ capped (running_extents shape.now.extent (history_of self.now) (as_chunks chunks.now))) }
     {
         let fresh = self.fresh(alloc, chunks)?;
@@ -245,7 +240,10 @@ impl PlainHistory {
         let last = self.newest().saturating_sub(1);
         let settled = self.closed_volume(alloc, Phase::Settled, last)?;
         let arranged = self.closed_volume(alloc, phase, last)?;
-        let missing = up(shape, record_bytes(&settled)).saturating_sub(up(shape, record_bytes(&arranged)));
+        let missing = up(shape, record_bytes(&settled)).saturating_sub(up(
+            shape,
+            record_bytes(&arranged),
+        ));
         Ok(capped(missing))
     }
 
