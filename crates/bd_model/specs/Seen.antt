@@ -1,9 +1,9 @@
 -- The lists of the plain program as the definitions see them.
-use Rattle.std.specs.Prelude.{ℕ, ◌+◌, Bool, ◌&&◌, min, List, [], ◌∷◌, ◌++◌, map, filter, flat_map, nat_lt, Vec, if◌then◌else◌}
-use Rattle.bd_model.specs.History.{History, contains}
+use Rattle.std.specs.Prelude.{ℕ, ◌+◌, ◌-◌, Bool, ◌&&◌, min, List, [], ◌∷◌, ◌++◌, map, filter, flat_map, nat_lt, Vec, if◌then◌else◌}
+use Rattle.bd_model.specs.History.{History, version, newest, contains}
 use Rattle.bd_model.specs.State.{VersionState}
 use Rattle.bd_model.specs.Category.{begins, lasts, category}
-use Rattle.bd_model.specs.Layout.{is_closed, open_category, record_bytes}
+use Rattle.bd_model.specs.Layout.{is_closed, closed_volume, open_category, record_bytes}
 use Rattle.bd_model.specs.Room.{up, recipe_bytes, fresh, kept, lacks_some}
 use Rattle.bd_model.specs.declared.layout.Phase.TheVariants.{Settled}
 use Rattle.bd_model.specs.declared.layout.Phase.{Phase}
@@ -60,6 +60,16 @@ running_extents extent h chunks = up extent (record_bytes (fresh h chunks)) + up
 abbrev pub kept_extents : ℕ → History → List (List ℕ) → ℕ → ℕ
 kept_extents extent h chunks i =
     if lacks_some chunks (open_category h Settled i) then up extent (record_bytes (kept h chunks i)) else 0
+
+-- the extents by which the closed volume before the newest version will grow
+abbrev pub growth_left : ℕ → History → Phase → ℕ
+growth_left extent h phase =
+    up extent (record_bytes (closed_volume h Settled (newest h - 1))) - up extent (record_bytes (closed_volume h phase (newest h - 1)))
+
+-- what arranging keeps of the open category i, if it archives some of it
+abbrev pub waiting_extents : ℕ → History → Phase → ℕ → ℕ
+waiting_extents extent h phase i =
+    if lacks_some (version h (newest h)) (open_category h phase i) then up extent (record_bytes (open_category h Settled i)) else 0
 
 -- the state with these streams
 abbrev pub state_from : ℕ → List (List ℕ) → ℕ → VersionState

@@ -35,7 +35,7 @@ impl PlainHistory {
     }
 
     /// The extents that dropping version v frees; from 2^64 - 1 on, that number.
-    pub fn dropped_extents(&self, alloc: Global, shape: &Shape, v: u64) -> Result<u64, OutOfMemory>
+    fn dropped_extents(&self, alloc: Global, shape: &Shape, v: u64) -> Result<u64, OutOfMemory>
         requires { v + 1 < 2 ^ 64 }
         ensures { IfOk result (λ n. n ≡ capped (dropped_extents shape.now.extent (history_of self.now) v)) }
     {
@@ -107,7 +107,7 @@ impl PlainHistory {
     }
 
     /// The different chunks of version v that the version before lacks.
-    pub fn begun(&self, alloc: Global, v: u64) -> Result<Vec<Vec<u8>>, OutOfMemory>
+    pub(super) fn begun(&self, alloc: Global, v: u64) -> Result<Vec<Vec<u8>>, OutOfMemory>
         ensures { IfOk result (λ cs. as_chunks cs.items ≡ filter (begins (history_of self.now) v) (distinct (version (history_of self.now) v))) }
     {
         let different = distinct(alloc, self.version(v))?;

@@ -120,7 +120,7 @@ impl PlainHistory {
     }
 
     /// The different chunks of version i that begin there and are in each version up to j.
-    pub fn living(&self, alloc: Global, i: u64, j: u64) -> Result<Vec<Vec<u8>>, OutOfMemory>
+    pub(super) fn living(&self, alloc: Global, i: u64, j: u64) -> Result<Vec<Vec<u8>>, OutOfMemory>
         requires { j + 1 < 2 ^ 64 }
         ensures { IfOk result (λ v. as_chunks v.items ≡ living (history_of self.now) i j) }
     {

@@ -20,11 +20,12 @@ fn is_arranged(phase: Phase, i: u64) -> bool
 
 /// The bytes of the records of these chunks: 36 a chunk and the chunk itself.
 pub fn record_bytes(chunks: &[Vec<u8>]) -> u128
-    ensures { result ≡ min (record_bytes (as_chunks chunks.now)) (2 ^ 128 - 1) }
+    ensures value { result ≡ record_bytes (as_chunks chunks.now) }
+    ensures fits { result < 2 ^ 127 }
 {
     let mut total: u128 = 0;
     for chunk in chunks {
-        total = total.saturating_add(36 + chunk.len() as u128);
+        total += 36 + chunk.len() as u128;
     }
     total
 }
