@@ -1,9 +1,8 @@
 -- What holds along a list of commands.
-use Rattle.std.proofs.Common.{◌≡◌, ℕ, zero, suc, List, [], ◌∷◌, refl, sym, ap, subst, map, drop, Option, Some, None, IfSome, slice_get}
+use Rattle.std.proofs.Common.{◌≡◌, ℕ, zero, suc, List, [], ◌∷◌, refl, subst, map, drop, Some, None, IfSome, slice_get}
 use Rattle.bd_model.specs.declared.shape.Shape.{Shape}
 use Rattle.bd_model.specs.FileMap.{FileMap}
-use Rattle.bd_model.specs.Folds.{HeldCommand, Point, outcomes, points, after, given}
-use Rattle.bd_model.specs.Marks.{Distinct}
+use Rattle.bd_model.specs.Folds.{HeldCommand, Point, outcomes, after}
 use Rattle.bd_model.specs.State.{VersionState, IsState}
 use Rattle.bd_model.specs.Step.{Outcome, step}
 use Rattle.bd_model.specs.Laws.{Keeps, StatesStayLegal}
