@@ -1,9 +1,10 @@
 -- What the reading of a record finds among the bytes of an owner.
 use Rattle.std.specs.Prelude.{◌≡◌, ℕ, ◌+◌, ◌-◌, ◌≤◌, ◌&&◌, List, ◌++◌, length, take, drop, nat_lt, nat_le, bytes_eq, Result, Ok, Err, if◌then◌else◌}
+use Rattle.std.specs.Int.{w32, from_be_bytes}
 use Rattle.bd_disk.specs.Calls.{Rose}
 use Rattle.bd_model.specs.Sizes.{Sizes}
 use Rattle.bd_model.specs.Marks.{mark}
-use Rattle.bd_model.specs.Records.{four, stored_at}
+use Rattle.bd_model.specs.Records.{four}
 use Rattle.bd_model.specs.declared.mark.Mark.{Mark}
 use Rattle.bd_model.specs.declared.damage.Damage.{Damage}
 use Rattle.bd_model.specs.declared.damage.Damage.TheVariants.{Header as BadHeader, Body as BadBody}
@@ -16,15 +17,21 @@ use Rattle.bd_category.specs.declared.fault.CategoryFault.TheVariants.{DiskFault
 abbrev pub record_with : Mark → List ℕ → List ℕ
 record_with m body = four (length body) ++ m.0 ++ body
 
--- the header at a place of a row that ends at `end`, or the damage that it is: too few bytes for a header, or a length
--- that no body there has
+-- the header that 36 bytes say, or the damage that it is: a length that no body has, where `left` bytes follow in the row
+abbrev pub header_in : ℕ → Owner → ℕ → ℕ → List ℕ → Result Header Damage
+header_in max who at left bytes =
+    let n = from_be_bytes w32 (take 4 bytes) in
+    if nat_le 1 n && nat_le n max && nat_le n left
+    then Ok (record { length = n; mark = record { 0 = take 32 (drop 4 bytes) }; at = at })
+    else Err (BadHeader who at n left)
+
+-- the header at a place of a row that ends at `end`, among the bytes of its owner; where too few are left for one the
+-- damage says length 0
 abbrev pub header_at : Sizes → Owner → ℕ → ℕ → List ℕ → Result Header Damage
 header_at s who at end bytes =
-    let r = stored_at (drop at bytes) in
-    if nat_lt (end - at) 36 then Err (BadHeader who at 0 (end - at)) else
-    (if nat_le 1 r.length && nat_le r.length s.max && nat_le r.length (end - at - 36)
-    then Ok (record { length = r.length; mark = record { 0 = r.mark }; at = at })
-    else Err (BadHeader who at r.length (end - at - 36)))
+    if nat_lt (end - at) 36
+    then Err (BadHeader who at 0 (end - at))
+    else header_in s.max who at (end - at - 36) (take 36 (drop at bytes))
 
 -- the body behind a header
 abbrev pub body_at : Header → List ℕ → List ℕ

@@ -9,7 +9,7 @@ ghost use Rattle.bd_model.specs.Sizes.{sizes_of, disk_bytes};
 ghost use Rattle.bd_model.specs.Records.{four};
 ghost use Rattle.bd_model.specs.Extents.{owner_bytes, places_at};
 ghost use Rattle.bd_extio.specs.Ranges.{AreExtents, InOwner, IsWithin};
-ghost use Rattle.bd_category.specs.Records.{AnswersBody, AnswersHeader, FailsByCount, body_at, header_at, record_with};
+ghost use Rattle.bd_category.specs.Records.{AnswersBody, AnswersHeader, FailsByCount, body_at, header_at, header_in, record_with};
 ghost use Rattle.bd_category.specs.Places.{ReadsHeader, ReadsBody};
 
 use crate::fault::{CategoryFault, Header};
@@ -69,18 +69,23 @@ pub fn read_header<D: Disk>(
 {
     let left = end - at;
     if left < HEADER as u64 {
-        return Err(bad_header(who, at, 0, left));
+        return Err(CategoryFault::Damaged {
+            damage: Damage::Header {
+                owner: who,
+                at,
+                length: 0,
+                left,
+            },
+        });
     }
     let mut bytes = [0u8; HEADER];
     if read_at(disk, shape, extents, at, &mut bytes).is_err() {
         return Err(CategoryFault::DiskFault);
     }
-    let (length, mark) = parts_of(&bytes);
-    let left = left - HEADER as u64;
-    if length == 0 || length > shape.max() || u64::from(length) > left {
-        return Err(bad_header(who, at, length, left));
+    match checked_header(&bytes, shape.max(), who, at, left - HEADER as u64) {
+        Ok(header) => Ok(header),
+        Err(damage) => Err(CategoryFault::Damaged { damage }),
     }
-    Ok(Header { length, mark, at })
 }
 
 /// Reads the body behind a header, and compares its fingerprint with the header's.
@@ -120,13 +125,36 @@ pub fn read_body<D: Disk>(
 }
 
 // The bytes of a header: the length of the body, and the mark.
-fn header_bytes(length: u32, mark: &Mark) -> [u8; HEADER]
-    ensures { result ≡ four length ++ mark.now.0 }
+fn header_bytes(size: u32, mark: &Mark) -> [u8; HEADER]
+    ensures so { result ≡ four size ++ mark.now.0 }
+    ensures sized { length result ≡ 36 }
 {
     let mut bytes = [0u8; HEADER];
-    put_u32(&mut bytes, 0, length);
+    put_u32(&mut bytes, 0, size);
     bytes[4..].copy_from_slice(&mark.0);
     bytes
+}
+
+// The header that these bytes say, or the damage that it is, where `left` bytes follow it in its row.
+fn checked_header(
+    bytes: &[u8; HEADER],
+    max: u32,
+    who: Owner,
+    at: u64,
+    left: u64,
+) -> Result<Header, Damage>
+    ensures { result ≡ header_in max who at left bytes.now }
+{
+    let (length, mark) = parts_of(bytes);
+    if length >= 1 && length <= max && u64::from(length) <= left {
+        return Ok(Header { length, mark, at });
+    }
+    Err(Damage::Header {
+        owner: who,
+        at,
+        length,
+        left,
+    })
 }
 
 // The length and the mark that a header says.
@@ -134,21 +162,8 @@ fn parts_of(bytes: &[u8; HEADER]) -> (u32, Mark)
     ensures length { result.0 ≡ from_be_bytes w32 (take 4 bytes.now) }
     ensures mark { result.1.0 ≡ take 32 (drop 4 bytes.now) }
 {
-    let mut cursor = Cursor::new(bytes);
-    let length = cursor.take_u32().unwrap_or(0);
-    let mark = cursor.take_32().unwrap_or([0; 32]);
+    let length = Cursor::new(bytes).take_u32().unwrap_or(0);
+    let mut mark = [0u8; 32];
+    mark.copy_from_slice(&bytes[4..]);
     (length, Mark(mark))
-}
-
-fn bad_header(owner: Owner, at: u64, length: u32, left: u64) -> CategoryFault
-    ensures { result ≡ CategoryFault.Damaged (Damage.Header owner at length left) }
-{
-    CategoryFault::Damaged {
-        damage: Damage::Header {
-            owner,
-            at,
-            length,
-            left,
-        },
-    }
 }
