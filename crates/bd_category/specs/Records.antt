@@ -1,5 +1,5 @@
 -- What the reading of a record finds among the bytes of an owner.
-use Rattle.std.specs.Prelude.{◌≡◌, ℕ, ◌+◌, ◌-◌, ◌≤◌, ◌&&◌, List, ◌++◌, length, take, drop, nat_lt, nat_le, bytes_eq, Result, Ok, Err, if◌then◌else◌}
+use Rattle.std.specs.Prelude.{◌≡◌, ℕ, ◌+◌, ◌-◌, ◌≤◌, ◌&&◌, List, ◌++◌, length, take, drop, nat_lt, nat_le, Result, Ok, Err, if◌then◌else◌}
 use Rattle.std.specs.Int.{w32, from_be_bytes}
 use Rattle.bd_disk.specs.Calls.{Rose}
 use Rattle.bd_model.specs.Sizes.{Sizes}

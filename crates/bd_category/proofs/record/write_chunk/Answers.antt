@@ -1,10 +1,9 @@
-use Rattle.std.proofs.Common.{◌≡◌, ◌+◌, ◌++◌, ◌≤◌, ◌∙◌, ap, sym, arith, length, length-append}
+use Rattle.std.proofs.Common.{◌≡◌, ◌+◌, ◌++◌, ◌≤◌, ◌∙◌, ap, sym, arith, length}
 use Rattle.bd_disk.specs.History.{contents}
 use Rattle.bd_disk.specs.Images.{overwritten}
 use Rattle.bd_disk.proofs.Traces.{reads_both}
 use Rattle.bd_model.specs.Sizes.{sizes_of, disk_bytes}
 use Rattle.bd_model.specs.Extents.{owner_bytes}
-use Rattle.bd_model.specs.Records.{four}
 use Rattle.bd_extio.proofs.Places.{range_small, length-owner_bytes}
 use Rattle.bd_extio.proofs.Ranges.{overwritten-append}
 use Rattle.bd_category.proofs.Writing.{first_writes, both_write}
