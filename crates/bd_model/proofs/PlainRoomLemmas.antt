@@ -1,8 +1,6 @@
 -- The plain program's sums, one summand on.
-use Rattle.std.proofs.Common.{◌≡◌, ℕ, ◌+◌, ◌-◌, ◌^◌, ◌<◌, ◌≤◌, Bool, true, false, cond, min, List, [], ◌∷◌, refl, sym, ◌∙◌, ap, arith, sum_by, find, map, Some, None, option_map, unwrap_or, nat_lt, lt-ltb, le-ltb, ⊎_elim, length, take}
+use Rattle.std.proofs.Common.{◌≡◌, ℕ, ◌+◌, ◌-◌, ◌<◌, ◌≤◌, Bool, true, false, cond, min, List, [], ◌∷◌, refl, sym, ◌∙◌, ap, arith, sum_by, find, map, Some, None, option_map, unwrap_or, nat_lt, lt-ltb, le-ltb, length, take}
 use Rattle.std.specs.List.{range_with_len, flat_map}
-use Rattle.std.proofs.lemmas.Bool.{cases_lt}
-use Rattle.std.proofs.lemmas.Nat.{le-div}
 use Rattle.std.proofs.lemmas.List.Sums.{sum_by_push}
 use Rattle.bd_model.specs.Chunks.{numbers}
 use Rattle.bd_model.specs.History.{History, version, newest}
@@ -13,7 +11,6 @@ use Rattle.std.proofs.lemmas.List.{take-map}
 use Rattle.bd_model.specs.Seen.{as_chunks, capped, kept_extents, running_extents, growth_left, waiting_extents}
 use Rattle.bd_model.specs.declared.layout.Phase.TheVariants.{Settled, Waiting}
 use Rattle.bd_model.proofs.ListLemmas.{sum_by-filter}
-use Rattle.bd_model.proofs.RoomLemmas.{up-le}
 use Rattle.bd_model.proofs.PlainLemmas.{range_more}
 
 -- a sum over a range, with one more number

@@ -1,4 +1,4 @@
-use Rattle.std.proofs.Common.{◌+◌, ◌-◌, sym, ◌∙◌, ap, sum_by}
+use Rattle.std.proofs.Common.{◌-◌, sym, ◌∙◌, ap, sum_by}
 use Rattle.bd_model.specs.Chunks.{numbers}
 use Rattle.bd_model.specs.History.{newest}
 use Rattle.bd_model.specs.Room.{reserve_left}
