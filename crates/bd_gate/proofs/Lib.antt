@@ -1,0 +1,5 @@
+pub mod Commits
+pub mod Fronts
+pub mod Newest
+pub mod Standings
+pub mod Stops
