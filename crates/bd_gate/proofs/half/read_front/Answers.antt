@@ -1,4 +1,7 @@
-use Rattle.std.proofs.Common.{◌≡◌, ◌+◌, ◌≤◌, length, sym, ◌∙◌, ap, subst, arith}
+use Rattle.std.proofs.Common.{◌≡◌, ◌+◌, ◌≤◌, length, take, drop, sym, ◌∙◌, ap, subst, arith}
+use Rattle.std.specs.Int.{w64, from_be_bytes}
+use Rattle.bd_disk.specs.History.{contents}
+use Rattle.bd_gate.specs.Superblock.{eight_at}
 use Rattle.bd_disk.proofs.Looking.{looks_wider, read_looks, failed_read_looks}
 use Rattle.bd_disk.proofs.Traces.{read_reads}
 use Rattle.bd_disk.specs.Trace.{ReadsOnly, upward}
@@ -23,4 +26,8 @@ returns-clause-places g c = λ told.
     subst (λ p. ReadsOnly (upward p 10) (g.D.Disk.history c.args.disk.now) (g.D.Disk.history c.read.new.self)) c.place_of_half-place.ensures.place (read_reads (c.in_ok-read.ensures.ok told))
 
 pub returns-clause-length : goal.returns-clause-length
-returns-clause-length g c = λ told. let after = c.copy_from_slice.ensures.after in let read = c.in_ok-read.ensures.read told in let is = c.from_be_bytes.ensures in ?
+returns-clause-length g c = λ told.
+    c.from_be_bytes.ensures
+    ∙ ap (from_be_bytes w64) (c.copy_from_slice.ensures.after ∙ ap (λ l. take 8 (drop 2 l)) (c.in_ok-read.ensures.read told))
+    ∙ front_length (contents (g.D.Disk.history c.args.disk.now)) c.place_of_half-place.result
+    ∙ ap (λ p. eight_at (contents (g.D.Disk.history c.args.disk.now)) (p + 2)) c.place_of_half-place.ensures.place
