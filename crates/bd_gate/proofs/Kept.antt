@@ -1,19 +1,19 @@
 -- What stays of the newest half where its standing stays, what a frame makes of it, and what a commit leaves elsewhere.
-use Rattle.std.proofs.Common.{◌≡◌, ⊎_elim, add-zero, ℕ, zero, suc, ◌+◌, ◌-◌, ◌*◌, ◌<◌, ◌≤◌, Bool, false, List, [], ◌∷◌, ◌++◌, length, take, drop, get_or, Some, refl, sym, ◌∙◌, ap, arith, length-take, get_or-take, get_or-drop, take-take}
+use Rattle.std.proofs.Common.{◌≡◌, ⊎_elim, add-zero, ℕ, zero, suc, ◌+◌, ◌-◌, ◌*◌, ◌<◌, ◌≤◌, ◌%◌, Bool, false, List, [], ◌∷◌, ◌++◌, length, take, drop, get_or, Some, refl, sym, ◌∙◌, ap, subst, arith, length-take, get_or-take, get_or-drop, take-take}
 use Rattle.std.proofs.lemmas.List.{drop-take, drop-drop}
 use Rattle.std.specs.Int.{w32, w64, from_be_bytes}
 use Rattle.std.specs.List.{flat_map}
 use Rattle.bd_disk.specs.Images.{InRange, Agree, AgreeBut, bytes_at}
 use Rattle.bd_disk.specs.History.{History, contents}
-use Rattle.bd_disk.specs.Made.{WritesOnly}
+use Rattle.bd_disk.specs.Made.{IsSure, Stores, WritesOnly, WritesNothing}
 use Rattle.bd_disk.proofs.Agreeing.{agree_fewer, same_bytes_at}
-use Rattle.bd_disk.proofs.Frames.{writes_wider}
+use Rattle.bd_disk.proofs.Frames.{settled_sure, still_now, unchanged, writes_wider}
 use Rattle.bd_model.specs.Extents.{extent_bytes, owner_bytes}
 use Rattle.bd_model.specs.Sizes.{Sizes, half_bytes, half_place, extent_place, payload_room}
 use Rattle.bd_gate.specs.Superblock.{eight_at, four_at, sizes_at}
-use Rattle.bd_gate.specs.Halves.{Half, newest_half, is_open, turn_at, payload_of, InHalf, InHalves}
-use Rattle.bd_gate.specs.Standing.{behind, standing, SameStanding, HasFrame}
-use Rattle.bd_gate.proofs.Newest.{place, places}
+use Rattle.bd_gate.specs.Halves.{Half, half_at, newest_half, is_open, turn_at, payload_of, InHalf, InHalves}
+use Rattle.bd_gate.specs.Standing.{behind, standing, SameStanding, HasFrame, IsBeside, next_turn}
+use Rattle.bd_gate.proofs.Newest.{place, places, other_twice}
 use Rattle.bd_gate.proofs.Standings.{same_halves, same_beside, newest_of_standing, bytes_of_standing}
 
 -- ---- where the standing stays
@@ -113,6 +113,27 @@ half_of_frame s k frame image has =
           ap (λ n. bytes_at (half_place s n + 10) half.length image) is_k
           ∙ frame_part size at 9 half.length frame image has.holds (omega (arith, fits));
     }
+
+-- ---- from the newest half to the next commit
+
+-- what was found of the newest half is what a commit to the other one asks
+pub beside_newest : (s : Sizes) (half : Half) {a b : History} → WritesNothing a b → IsSure (InHalves s) (contents a) a → newest_half s (contents a) ≡ Some half.number → half ≡ half_at s (contents a) half.number → half.number ≤ 1
+    → IsBeside s (1 - half.number) half.other_open b
+beside_newest s half {a} {b} nothing sure is found few =
+    let same : contents b ≡ contents a = unchanged nothing in
+    record {
+      newest = ap (newest_half s) same ∙ is ∙ ap Some (sym (other_twice half.number (omega arith)));
+      gate = ap (λ image. is_open s image (1 - half.number)) same ∙ sym (ap (λ (h : Half). h.other_open) found);
+      sure = subst (λ image. IsSure (InHalves s) image b) (sym same) (still_now nothing sure);
+    }
+
+pub turn_after : (s : Sizes) (half : Half) {a b : History} → WritesNothing a b → half ≡ half_at s (contents a) half.number → half.number ≤ 1 → (half.turn + 1) % 3 ≡ next_turn s (1 - half.number) (contents b)
+turn_after s half {a} {b} nothing found few =
+    ap (λ (h : Half). (h.turn + 1) % 3) found ∙ (λ i. (turn_at s (sym (unchanged nothing) i) (sym (other_twice half.number (omega arith)) i) + 1) % 3)
+
+-- the end of a commit stands for both halves at once
+pub sure_after : (s : Sizes) {at : ℕ} {bytes : List ℕ} {a b : History} → Stores at bytes a b → IsSure (InHalves s) (contents b) b
+sure_after s stores = settled_sure (InHalves s) stores.settled
 
 -- ---- elsewhere
 

@@ -134,8 +134,7 @@ opened_image size number a image lt long is next same gate =
     let other : Agree (InRange (place size (1 - number)) size) a image = agree_fewer _ _ a image (λ at r.
     ((omega (arith, r.0, p.other_from), omega (arith, r.1, p.other_to)), λ s. ⊎_elim (λ e. omega (arith, e, r.0, r.1, s.0, s.1)) (λ e. omega (arith, e, r.0, r.1, s.0, s.1)) p.apart)) same in
     let other_turn = turn_of_half size (1 - number) a image long other in
-    let this_turn : turn size image number ≡ turn size a number = same.each (place size number + 1) ((omega (arith, p.this_from), omega (arith, p.this_to)), λ s. omega (arith, s.1)) in
-    (
+    let this_turn : turn size image number ≡ turn size a number = same.each (place size number + 1) ((omega (arith, p.this_from), omega (arith, p.this_to)), λ s. omega (arith, s.1)) in (
       newest_next size number image lt gate (gate_of_half size (1 - number) a image long other ∙ was.0) (omega (arith, was.1, other_turn)) (this_turn ∙ next ∙ ap (λ t. (t + 1) % 3) (sym other_turn)),
       same_bytes_at _ a image (place size number + 1) (size - 1) (λ at r. ((omega (arith, r.0, p.this_from), omega (arith, r.1, p.this_to)), λ s. omega (arith, r.0, s.1))) same,
     )

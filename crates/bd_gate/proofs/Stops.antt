@@ -17,7 +17,7 @@ half_is_long : (s : Sizes) → 1 < half_bytes s
 half_is_long s = omega arith
 
 -- the contents at the end are one of the images
-contents_left : {P : List ℕ → Type 0} {a b : History} → LeavesSince P a b → P (contents b)
+pub contents_left : {P : List ℕ → Type 0} {a b : History} → LeavesSince P a b → P (contents b)
 contents_left {P} {a} {b} leaves = leaves.each (contents b) (now_since b (clock a) (contents b) (later leaves.made) (contents_now b))
 
 -- all bytes behind the gate, as a frame

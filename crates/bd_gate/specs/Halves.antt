@@ -3,7 +3,6 @@ use Rattle.std.specs.Prelude.{ℕ, ◌+◌, ◌-◌, ◌*◌, ◌%◌, ◌==◌,
 use Rattle.bd_disk.specs.Images.{InRange, bytes_at}
 use Rattle.bd_model.specs.Sizes.{Sizes, half_bytes, half_place}
 use Rattle.bd_gate.specs.Superblock.{open_gate, byte_at, eight_at}
-
 use Rattle.bd_gate.specs.declared.half.Half.{Half as StructHalf}
 
 -- a half by its number, its turn and the length of its payload, and whether the gate of the other is open

@@ -6,3 +6,6 @@ mod half;
 
 pub use commit::{close_half, commit_frame, fill_half, open_half};
 pub use half::{GateFault, Half, newest_half, read_payload};
+
+#[cfg(test)]
+mod tests;

@@ -16,8 +16,7 @@ returns-in_err-second-clause-looks g c = λ told. made_both (c.read_front.ensure
 pub returns-in-Some-eq0-clause-found : goal.returns-in-Some-eq0-clause-found
 returns-in-Some-eq0-clause-found g c = λ told.
     let fronts = (fronts_read (sizes_of c.args.shape.now) (contents (g.D.Disk.history c.args.disk.now)) (contents (g.D.Disk.history c.read_front.new.disk)) _ _ (unchanged (c.in_ok-first.ensures.writes told))
-    (c.in_ok-first.ensures.gate told) (c.in_ok-first.ensures.turn told) (c.in_ok-first.ensures.length told) (c.in_ok-second.ensures.gate told) (c.in_ok-second.ensures.turn told) (c.in_ok-second.ensures.length told)) in
-    (
+    (c.in_ok-first.ensures.gate told) (c.in_ok-first.ensures.turn told) (c.in_ok-first.ensures.length told) (c.in_ok-second.ensures.gate told) (c.in_ok-second.ensures.turn told) (c.in_ok-second.ensures.length told)) in (
       newest_of_fronts _ _ _ _ fronts ∙ sym c.in-Some-eq0.ensures ∙ ap Some c.in-Some-eq0.field-0-test,
       first_half _ _ _ _ fronts _ c.is_open.ensures,
     )
@@ -28,8 +27,7 @@ returns-in-Some-eq0-clause-range g c = (omega arith, (first_newest _ _ _ _ (sym 
 pub returns-in-Some-clause-found : goal.returns-in-Some-clause-found
 returns-in-Some-clause-found g c = λ told.
     let fronts = (fronts_read (sizes_of c.args.shape.now) (contents (g.D.Disk.history c.args.disk.now)) (contents (g.D.Disk.history c.read_front.new.disk)) _ _ (unchanged (c.in_ok-first.ensures.writes told))
-    (c.in_ok-first.ensures.gate told) (c.in_ok-first.ensures.turn told) (c.in_ok-first.ensures.length told) (c.in_ok-second.ensures.gate told) (c.in_ok-second.ensures.turn told) (c.in_ok-second.ensures.length told)) in
-    (
+    (c.in_ok-first.ensures.gate told) (c.in_ok-first.ensures.turn told) (c.in_ok-first.ensures.length told) (c.in_ok-second.ensures.gate told) (c.in_ok-second.ensures.turn told) (c.in_ok-second.ensures.length told)) in (
       newest_of_fronts _ _ _ _ fronts ∙ second_number c.in-Some.field-0 c.in_ok-first.first c.in_ok-second.second c.in-Some.ensures c.in-Some.field-0-test.1,
       second_half _ _ _ _ fronts _ c.is_open-in-Some.ensures,
     )
@@ -40,8 +38,7 @@ returns-in-Some-clause-range g c = (omega arith, (second_newest _ _ _ _ (second_
 pub returns-in-None-clause-found : goal.returns-in-None-clause-found
 returns-in-None-clause-found g c = λ told.
     let fronts = (fronts_read (sizes_of c.args.shape.now) (contents (g.D.Disk.history c.args.disk.now)) (contents (g.D.Disk.history c.read_front.new.disk)) _ _ (unchanged (c.in_ok-first.ensures.writes told))
-    (c.in_ok-first.ensures.gate told) (c.in_ok-first.ensures.turn told) (c.in_ok-first.ensures.length told) (c.in_ok-second.ensures.gate told) (c.in_ok-second.ensures.turn told) (c.in_ok-second.ensures.length told)) in
-    (
+    (c.in_ok-first.ensures.gate told) (c.in_ok-first.ensures.turn told) (c.in_ok-first.ensures.length told) (c.in_ok-second.ensures.gate told) (c.in_ok-second.ensures.turn told) (c.in_ok-second.ensures.length told)) in (
       newest_of_fronts _ _ _ _ fronts ∙ sym c.in-None.ensures,
       (λ i. fronts.first_gate i ∷ fronts.second_gate i ∷ []),
       (λ i. fronts.first_turn i ∷ fronts.second_turn i ∷ []),
