@@ -1,9 +1,9 @@
 -- The calls of a commit, and what they write.
-use Rattle.std.proofs.Common.{◌≡◌, ◌⊎◌, ⊎_elim, ℕ, zero, suc, ◌+◌, ◌-◌, ◌*◌, ◌<◌, ◌≤◌, Bool, true, false, List, [], ◌∷◌, length, refl, sym, ◌∙◌, ap, subst, arith}
-use Rattle.bd_disk.specs.Images.{InRange, AgreeBut, overwritten}
+use Rattle.std.proofs.Common.{◌≡◌, ℕ, zero, suc, ◌+◌, ◌≤◌, Bool, true, false, List, [], ◌∷◌, refl, ◌∙◌, ap, subst, arith}
+use Rattle.bd_disk.specs.Images.{InRange, overwritten}
 use Rattle.bd_disk.specs.History.{History, contents}
 use Rattle.bd_disk.specs.Made.{Makes, Stores, WritesOnly}
-use Rattle.bd_disk.proofs.Frames.{made_both, writes_wider}
+use Rattle.bd_disk.proofs.Frames.{writes_wider}
 use Rattle.bd_model.specs.Sizes.{Sizes, half_bytes, half_place}
 use Rattle.bd_gate.specs.Superblock.{open_gate, closed_gate}
 use Rattle.bd_gate.specs.Halves.{InHalf}

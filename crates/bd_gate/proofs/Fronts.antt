@@ -1,5 +1,5 @@
 -- What ten bytes from the front of a half say.
-use Rattle.std.proofs.Common.{◌≡◌, ⊎_elim, add-zero, ℕ, zero, suc, ◌+◌, ◌-◌, ◌*◌, ◌<◌, ◌≤◌, List, [], ◌∷◌, length, take, drop, get_or, Bool, eqb, Option, Some, None, refl, sym, ◌∙◌, ap, arith}
+use Rattle.std.proofs.Common.{◌≡◌, ⊎_elim, ℕ, ◌+◌, ◌*◌, ◌<◌, ◌≤◌, List, take, drop, Bool, eqb, Option, Some, sym, ◌∙◌, ap, arith}
 use Rattle.std.proofs.lemmas.List.{drop-take, drop-drop, take-take}
 use Rattle.std.specs.Int.{w64, from_be_bytes}
 use Rattle.bd_disk.specs.Images.{InRange, bytes_at}

@@ -1,18 +1,17 @@
 -- What stays of the newest half where its standing stays, what a frame makes of it, and what a commit leaves elsewhere.
-use Rattle.std.proofs.Common.{◌≡◌, ⊎_elim, add-zero, ℕ, zero, suc, ◌+◌, ◌-◌, ◌*◌, ◌<◌, ◌≤◌, ◌%◌, Bool, false, List, [], ◌∷◌, ◌++◌, length, take, drop, get_or, Some, refl, sym, ◌∙◌, ap, subst, arith, length-take, get_or-take, get_or-drop, take-take}
+use Rattle.std.proofs.Common.{◌≡◌, add-zero, ℕ, ◌+◌, ◌-◌, ◌*◌, ◌<◌, ◌≤◌, ◌%◌, false, List, [], ◌∷◌, ◌++◌, length, take, drop, get_or, Some, refl, sym, ◌∙◌, ap, subst, arith, length-take, get_or-take, get_or-drop, take-take}
 use Rattle.std.proofs.lemmas.List.{drop-take, drop-drop}
 use Rattle.std.specs.Int.{w32, w64, from_be_bytes}
-use Rattle.std.specs.List.{flat_map}
 use Rattle.bd_disk.specs.Images.{InRange, Agree, AgreeBut, bytes_at}
 use Rattle.bd_disk.specs.History.{History, contents}
 use Rattle.bd_disk.specs.Made.{IsSure, Stores, WritesOnly, WritesNothing}
-use Rattle.bd_disk.proofs.Agreeing.{agree_fewer, same_bytes_at}
+use Rattle.bd_disk.proofs.Agreeing.{same_bytes_at}
 use Rattle.bd_disk.proofs.Frames.{settled_sure, still_now, unchanged, writes_wider}
 use Rattle.bd_model.specs.Extents.{extent_bytes, owner_bytes}
 use Rattle.bd_model.specs.Sizes.{Sizes, half_bytes, half_place, extent_place, payload_room}
 use Rattle.bd_gate.specs.Superblock.{eight_at, four_at, sizes_at}
 use Rattle.bd_gate.specs.Halves.{Half, half_at, newest_half, is_open, turn_at, payload_of, InHalf, InHalves}
-use Rattle.bd_gate.specs.Standing.{behind, standing, SameStanding, HasFrame, IsBeside, next_turn}
+use Rattle.bd_gate.specs.Standing.{behind, SameStanding, HasFrame, IsBeside, next_turn}
 use Rattle.bd_gate.proofs.Newest.{place, places, other_twice}
 use Rattle.bd_gate.proofs.Standings.{same_halves, same_beside, newest_of_standing, bytes_of_standing}
 

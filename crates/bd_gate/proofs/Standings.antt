@@ -1,11 +1,11 @@
 -- When two images have the same newest half with the same bytes, for halves of one size.
-use Rattle.std.proofs.Common.{◌≡◌, ◌⊎◌, inl, inr, ⊎_elim, add-zero, ℕ, zero, suc, ◌+◌, ◌-◌, ◌*◌, ◌%◌, ◌<◌, ◌≤◌, Bool, true, false, eqb, List, [], ◌∷◌, length, take, drop, Option, Some, None, option_map, refl, sym, ◌∙◌, ap, subst, arith, take-take}
+use Rattle.std.proofs.Common.{◌≡◌, ◌⊎◌, inl, inr, ⊎_elim, ℕ, ◌+◌, ◌-◌, ◌*◌, ◌%◌, ◌<◌, ◌≤◌, Bool, true, false, eqb, List, [], Option, Some, None, option_map, refl, sym, ◌∙◌, ap, arith}
 use Rattle.std.proofs.lemmas.Bool.{cases_eq, eqb-true}
-use Rattle.bd_disk.specs.Images.{InRange, Agree, AgreeBut, bytes_at, overwritten}
+use Rattle.bd_disk.specs.Images.{InRange, Agree, AgreeBut, bytes_at}
 use Rattle.bd_disk.proofs.Agreeing.{agree_fewer, same_bytes_at}
 use Rattle.bd_gate.specs.Superblock.{byte_at}
 use Rattle.bd_gate.specs.Standing.{Standing}
-use Rattle.bd_gate.proofs.Newest.{place, opened, turn, newest, newest_is_open, newest_alone, newest_next, Places, places, none_or_half}
+use Rattle.bd_gate.proofs.Newest.{place, opened, turn, newest, newest_is_open, newest_alone, newest_next, places, none_or_half}
 
 abbrev pub bytes_behind : ℕ → List ℕ → ℕ → List ℕ
 bytes_behind size image k = bytes_at (place size k + 1) (size - 1) image

@@ -1,17 +1,17 @@
 -- What a stop within a commit leaves, and what each of its steps leaves behind.
-use Rattle.std.proofs.Common.{◌≡◌, ◌⊎◌, inl, inr, ⊎_elim, add-zero, ℕ, ◌+◌, ◌-◌, ◌*◌, ◌%◌, ◌<◌, ◌≤◌, Bool, true, false, eqb, List, [], ◌∷◌, length, take, drop, get_or, Some, refl, sym, ◌∙◌, ap, subst, arith, take-take, length-take}
+use Rattle.std.proofs.Common.{◌≡◌, inl, inr, ⊎_elim, add-zero, ℕ, ◌+◌, ◌-◌, ◌*◌, ◌%◌, ◌<◌, ◌≤◌, Bool, true, false, eqb, List, [], ◌∷◌, length, take, drop, get_or, Some, refl, sym, ◌∙◌, ap, subst, arith, take-take, length-take}
 use Rattle.std.proofs.Math.Seq.{take-length}
-use Rattle.bd_disk.specs.Images.{InRange, Agree, AgreeBut, bytes_at, overwritten}
-use Rattle.bd_disk.specs.History.{History, clock, contents, Now}
-use Rattle.bd_disk.specs.Made.{LeavesNow, LeavesSince, IsSure, Stores, WritesOnly}
-use Rattle.bd_disk.proofs.Agreeing.{length-overwritten, overwritten_there, overwritten_elsewhere, overwrite_agrees, bytes_at-overwritten, agree_refl}
-use Rattle.bd_disk.proofs.Frames.{contents_now, now_since, later, leaves_by_writes, leaves_both, leaves_same, leaves_wider, same_contents, settled_sure}
+use Rattle.bd_disk.specs.Images.{InRange, AgreeBut, overwritten}
+use Rattle.bd_disk.specs.History.{History, clock, contents}
+use Rattle.bd_disk.specs.Made.{LeavesNow, LeavesSince, IsSettled, Stores, WritesOnly}
+use Rattle.bd_disk.proofs.Agreeing.{overwritten_there, overwritten_elsewhere, overwrite_agrees, bytes_at-overwritten, agree_trans}
+use Rattle.bd_disk.proofs.Frames.{contents_now, now_since, later, leaves_and, leaves_by_writes, leaves_now, leaves_both, leaves_same, leaves_wider, same_contents, settled_sure}
 use Rattle.bd_model.specs.Sizes.{Sizes, half_bytes, half_place}
 use Rattle.bd_gate.specs.Superblock.{byte_at, open_gate, closed_gate}
-use Rattle.bd_gate.specs.Halves.{is_open, turn_at, newest_half}
-use Rattle.bd_gate.specs.Standing.{behind, standing, SameStanding, HasFrame, IsEither, IsBeside, IsNextTurn, BeginsNextTurn}
-use Rattle.bd_gate.proofs.Newest.{place, opened, turn, newest, newest_is_open, Places, places, other_twice, other_below}
-use Rattle.bd_gate.proofs.Standings.{bytes_behind, standing_of, newest_of_standing, bytes_of_standing, same_halves, filling_image, closing_image, opening_image, opened_image, IsOpenWith}
+use Rattle.bd_gate.specs.Halves.{is_open, turn_at, newest_half, InHalf}
+use Rattle.bd_gate.specs.Standing.{behind, SameStanding, HasFrame, IsEither, IsCommitted, IsOldOrCommitted, IsBeside, IsNextTurn, BeginsNextTurn}
+use Rattle.bd_gate.proofs.Newest.{place, opened, turn, newest_is_open, places, other_twice}
+use Rattle.bd_gate.proofs.Standings.{bytes_behind, newest_of_standing, same_halves, filling_image, closing_image, opening_image, opened_image, IsOpenWith}
 
 half_is_long : (s : Sizes) → 1 < half_bytes s
 half_is_long s = omega arith
@@ -166,18 +166,31 @@ module _ (s : Sizes) (number : ℕ) (lt : number < 2) where
   pub closed_filled : (a b c : History) → LeavesSince (SameStanding s (contents a)) a b → LeavesSince (SameStanding s (contents b)) b c → LeavesSince (SameStanding s (contents a)) a c
   closed_filled a b c closing filling = leaves_both closing (same_twice closing filling)
 
-  pub as_either : (frame old : List ℕ) {a b : History} → LeavesSince (SameStanding s old) a b → LeavesSince (IsEither s number frame old) a b
-  as_either frame old leaves = leaves_wider _ (λ image same. inl same) leaves
+  pub as_old : (frame old : List ℕ) {a b : History} → LeavesSince (SameStanding s old) a b → LeavesSince (IsOldOrCommitted s number frame old) a b
+  as_old frame old leaves = leaves_wider _ (λ image same. inl same) leaves
+
+  -- once all that was written is sure, each image is the contents but for the half
+  elsewhere_since : (a c d : History) → IsSettled c → WritesOnly (InHalf s number) a c → WritesOnly (InHalf s number) c d → LeavesSince (AgreeBut (InHalf s number) (contents a)) c d
+  elsewhere_since a c d settled before writes =
+      leaves_by_writes _ writes (λ moment image now but.
+      agree_trans _ (contents a) (contents c) image (same_contents before) (subst (λ l. AgreeBut (InHalf s number) l image) (settled.each moment now) but))
 
   -- and the third
-  pub commit_stops : (frame : List ℕ) (a b c d : History) → length frame + 1 ≤ half_bytes s → 64 + 2 * half_bytes s ≤ length (contents b) → Stores (half_place s number + 1) frame b c
-      → LeavesSince (SameStanding s (contents a)) a b → LeavesSince (SameStanding s (contents b)) b c → LeavesSince (IsEither s number (behind s (contents c) number) (contents c)) c d
-      → LeavesSince (IsEither s number frame (contents a)) a d
-  commit_stops frame a b c d fits room stores closing filling opening =
-      let before = closed_filled a b c closing filling in
-      leaves_both (as_either frame (contents a) before)
-      (leaves_wider _ (λ image either. ⊎_elim (λ same. inl (same ∙ contents_left before)) (λ has. inr (frame_stands frame b c image fits room stores has)) either) opening)
+  module _ (frame : List ℕ) (a b c d : History) (fits : length frame + 1 ≤ half_bytes s) (room : 64 + 2 * half_bytes s ≤ length (contents b)) (stores : Stores (half_place s number + 1) frame b c)
+      (before : WritesOnly (InHalf s number) a c) (writes : WritesOnly (InHalf s number) c d) where
+    pub commit_stops : LeavesSince (SameStanding s (contents a)) a b → LeavesSince (SameStanding s (contents b)) b c → LeavesSince (IsEither s number (behind s (contents c) number) (contents c)) c d
+        → LeavesSince (IsOldOrCommitted s number frame (contents a)) a d
+    commit_stops closing filling opening =
+        let first = closed_filled a b c closing filling in
+        leaves_both (as_old frame (contents a) first)
+        (leaves_wider _
+        (λ image both. ⊎_elim (λ same. inl (same ∙ contents_left first)) (λ has. inr (record { stands = frame_stands frame b c image fits room stores has; elsewhere = both.1 })) both.0)
+        (leaves_and opening (elsewhere_since a c d stores.settled before writes)))
 
-  pub commit_done : (frame : List ℕ) (b c d : History) → length frame + 1 ≤ half_bytes s → 64 + 2 * half_bytes s ≤ length (contents b) → Stores (half_place s number + 1) frame b c
-      → LeavesNow (HasFrame s number (behind s (contents c) number)) d → LeavesNow (HasFrame s number frame) d
-  commit_done frame b c d fits room stores done = record { each = λ image now. frame_stands frame b c image fits room stores (done.each image now) }
+    pub commit_done : LeavesNow (HasFrame s number (behind s (contents c) number)) d → LeavesNow (IsCommitted s number frame (contents a)) d
+    commit_done done = record {
+      each = λ image now. record {
+        stands = frame_stands frame b c image fits room stores (done.each image now);
+        elsewhere = (leaves_now (elsewhere_since a c d stores.settled before writes)).each image now;
+      };
+    }

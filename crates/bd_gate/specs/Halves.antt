@@ -44,7 +44,13 @@ payload_of s half image = bytes_at (half_place s half.number + 10) half.length i
 abbrev pub log_place : Sizes → Half → ℕ
 log_place s half = half_place s half.number + 10 + half.length
 
--- the places of a half, and of both
+-- the places of the gate of a half, of n bytes behind it, of the half, and of both
+abbrev pub InGate : Sizes → ℕ → ℕ → Type 0
+InGate s k place = InRange (half_place s k) 1 place
+
+abbrev pub InFrame : Sizes → ℕ → ℕ → ℕ → Type 0
+InFrame s k n place = InRange (half_place s k + 1) n place
+
 abbrev pub InHalf : Sizes → ℕ → ℕ → Type 0
 InHalf s k place = InRange (half_place s k) (half_bytes s) place
 

@@ -1,10 +1,10 @@
 -- The newest half with its bytes, and what a stop within a commit leaves of two halves.
 use Rattle.std.specs.Prelude.{◌≡◌, ◌⊎◌, ℕ, ◌+◌, ◌-◌, ◌%◌, Bool, List, length, take, slice_index, Option, Some, option_map}
-use Rattle.bd_disk.specs.Images.{bytes_at}
+use Rattle.bd_disk.specs.Images.{AgreeBut, bytes_at}
 use Rattle.bd_disk.specs.History.{History, contents}
 use Rattle.bd_disk.specs.Made.{IsSure}
 use Rattle.bd_model.specs.Sizes.{Sizes, half_bytes, half_place}
-use Rattle.bd_gate.specs.Halves.{newest_half, is_open, turn_at, InHalves}
+use Rattle.bd_gate.specs.Halves.{newest_half, is_open, turn_at, InHalf, InHalves}
 
 -- the bytes of a half behind its gate
 abbrev pub behind : Sizes → List ℕ → ℕ → List ℕ
@@ -31,6 +31,15 @@ pub record HasFrame (s : Sizes) (number : ℕ) (frame image : List ℕ) : Type 0
 -- the newest half as it was, or this one with its frame
 abbrev pub IsEither : Sizes → ℕ → List ℕ → List ℕ → List ℕ → Type 0
 IsEither s number frame old image = SameStanding s old image ⊎ HasFrame s number frame image
+
+-- this half is the newest with its frame, and everything but this half is as it was
+pub record IsCommitted (s : Sizes) (number : ℕ) (frame old image : List ℕ) : Type 0 where
+  pub stands : HasFrame s number frame image
+  pub elsewhere : AgreeBut (InHalf s number) old image
+
+-- a stop within a commit leaves the newest half as it was, or the whole commit
+abbrev pub IsOldOrCommitted : Sizes → ℕ → List ℕ → List ℕ → List ℕ → Type 0
+IsOldOrCommitted s number frame old image = SameStanding s old image ⊎ IsCommitted s number frame old image
 
 -- The other half is the newest, and this one is open or closed as said. Both are the same in each image that a stop may
 -- leave.

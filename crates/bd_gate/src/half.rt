@@ -81,11 +81,17 @@ fn read_front<D: Disk>(disk: &mut D, shape: &Shape, number: u8) -> Result<Front,
     ensures bytes { D.bytes disk.new ≡ D.bytes disk.old }
     ensures cause { HasCause (D.faults disk.old) (D.faults disk.new) result }
     ensures writes { D.tells → WritesNothing (D.history disk.old) (D.history disk.new) }
-    ensures looks { D.tells → LooksOnlyAt (InHalves (sizes_of shape.now)) (D.history disk.old) (D.history disk.new) }
-    ensures gate { IfOk result (λ front. D.tells → front.gate ≡ byte_at (contents (D.history disk.old)) (half_place (sizes_of shape.now) number)) }
-    ensures turn { IfOk result (λ front. D.tells → front.turn ≡ byte_at (contents (D.history disk.old)) (half_place (sizes_of shape.now) number + 1)) }
-    ensures length { IfOk result (λ front. D.tells → front.length ≡ eight_at (contents (D.history disk.old)) (half_place (sizes_of shape.now) number + 2)) }
-    ensures places { OnOk result (D.tells → ReadsOnly (upward (half_place (sizes_of shape.now) number) 10) (D.history disk.old) (D.history disk.new)) }
+    ensures looks { D.tells →
+        LooksOnlyAt (InHalves (sizes_of shape.now)) (D.history disk.old) (D.history disk.new) }
+    ensures gate { IfOk result (λ front. D.tells →
+        front.gate ≡ byte_at (contents (D.history disk.old)) (half_place (sizes_of shape.now) number)) }
+    ensures turn { IfOk result (λ front. D.tells →
+        front.turn ≡ byte_at (contents (D.history disk.old)) (half_place (sizes_of shape.now) number + 1)) }
+    ensures length { IfOk result (λ front. D.tells →
+        front.length ≡ eight_at (contents (D.history disk.old)) (half_place (sizes_of shape.now) number + 2)) }
+    ensures places { OnOk result (D.tells →
+        ReadsOnly (upward (half_place (sizes_of shape.now) number) 10)
+        (D.history disk.old) (D.history disk.new)) }
 {
     let mut bytes = [0u8; 10];
     let place = place_of_half(shape, number);
@@ -145,8 +151,10 @@ pub fn newest_half<D: Disk>(disk: &mut D, shape: &Shape) -> Result<Half, GateFau
     ensures found { D.tells → IsFound (sizes_of shape.now) (contents (D.history disk.old)) result }
     ensures range { IfOk result (λ half. (half.number ≤ 1) × (half.turn ≤ 2)) }
     ensures writes { D.tells → WritesNothing (D.history disk.old) (D.history disk.new) }
-    ensures looks { D.tells → LooksOnlyAt (InHalves (sizes_of shape.now)) (D.history disk.old) (D.history disk.new) }
-    ensures places { OnOk result (D.tells → ReadsOnly (front_places (sizes_of shape.now)) (D.history disk.old) (D.history disk.new)) }
+    ensures looks { D.tells →
+        LooksOnlyAt (InHalves (sizes_of shape.now)) (D.history disk.old) (D.history disk.new) }
+    ensures places { OnOk result (D.tells →
+        ReadsOnly (front_places (sizes_of shape.now)) (D.history disk.old) (D.history disk.new)) }
 {
     let first = read_front(disk, shape, 0)?;
     let second = read_front(disk, shape, 1)?;
@@ -183,10 +191,14 @@ pub fn read_payload<D: Disk>(
     requires into { length into.old ≡ half.now.length }
     ensures bytes { D.bytes disk.new ≡ D.bytes disk.old }
     ensures cause { HasCause (D.faults disk.old) (D.faults disk.new) result }
-    ensures read { OnOk result (D.tells → into.new ≡ payload_of (sizes_of shape.now) half.now (contents (D.history disk.old))) }
+    ensures read { OnOk result (D.tells →
+        into.new ≡ payload_of (sizes_of shape.now) half.now (contents (D.history disk.old))) }
     ensures writes { D.tells → WritesNothing (D.history disk.old) (D.history disk.new) }
-    ensures looks { D.tells → LooksOnlyAt (InHalves (sizes_of shape.now)) (D.history disk.old) (D.history disk.new) }
-    ensures places { OnOk result (D.tells → ReadsOnly (upward (half_place (sizes_of shape.now) half.now.number + 10) half.now.length) (D.history disk.old) (D.history disk.new)) }
+    ensures looks { D.tells →
+        LooksOnlyAt (InHalves (sizes_of shape.now)) (D.history disk.old) (D.history disk.new) }
+    ensures places { OnOk result (D.tells →
+        ReadsOnly (upward (half_place (sizes_of shape.now) half.now.number + 10) half.now.length)
+        (D.history disk.old) (D.history disk.new)) }
 {
     let place = place_of_half(shape, half.number);
     disk.read(place + 10, into)?;

@@ -1,7 +1,6 @@
-use Rattle.std.proofs.Common.{◌≡◌, ◌+◌, ◌*◌, ◌≤◌, length, ap, arith}
-use Rattle.bd_disk.specs.History.{contents}
+use Rattle.std.proofs.Common.{arith}
 use Rattle.bd_disk.proofs.Traces.{reads-makes}
-use Rattle.bd_model.specs.Sizes.{sizes_of, half_bytes}
+use Rattle.bd_model.specs.Sizes.{sizes_of}
 use Rattle.bd_gate.proofs.Commits.{moved, stores_moved}
 use Rattle.bd_gate.proofs.Stops.{open_stops, open_done, open_next}
 use Rattle.bd_gate.proofs.commit.open_half.Goals as goal

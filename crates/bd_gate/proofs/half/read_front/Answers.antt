@@ -1,11 +1,11 @@
-use Rattle.std.proofs.Common.{◌≡◌, ◌+◌, ◌≤◌, length, take, drop, sym, ◌∙◌, ap, subst, arith}
+use Rattle.std.proofs.Common.{◌+◌, take, drop, ◌∙◌, ap, subst, arith}
 use Rattle.std.specs.Int.{w64, from_be_bytes}
 use Rattle.bd_disk.specs.History.{contents}
 use Rattle.bd_gate.specs.Superblock.{eight_at}
 use Rattle.bd_disk.proofs.Looking.{looks_wider, read_looks, failed_read_looks}
 use Rattle.bd_disk.proofs.Traces.{read_reads}
 use Rattle.bd_disk.specs.Trace.{ReadsOnly, upward}
-use Rattle.bd_model.specs.Sizes.{sizes_of, half_bytes, half_place, payload_room}
+use Rattle.bd_model.specs.Sizes.{sizes_of}
 use Rattle.bd_gate.proofs.Fronts.{in_halves, front_length}
 use Rattle.bd_gate.proofs.half.read_front.Goals as goal
 

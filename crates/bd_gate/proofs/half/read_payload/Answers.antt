@@ -1,8 +1,8 @@
-use Rattle.std.proofs.Common.{◌≡◌, ◌+◌, ◌≤◌, length, sym, ◌∙◌, ap, subst, arith}
+use Rattle.std.proofs.Common.{◌+◌, subst, arith}
 use Rattle.bd_disk.proofs.Looking.{looks_wider, read_looks, failed_read_looks}
 use Rattle.bd_disk.proofs.Traces.{read_reads}
 use Rattle.bd_disk.specs.Trace.{ReadsOnly, upward}
-use Rattle.bd_model.specs.Sizes.{sizes_of, half_bytes, half_place, payload_room}
+use Rattle.bd_model.specs.Sizes.{sizes_of}
 use Rattle.bd_gate.proofs.Fronts.{in_halves}
 use Rattle.bd_gate.proofs.half.read_payload.Goals as goal
 
