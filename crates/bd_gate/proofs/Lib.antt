@@ -1,0 +1,6 @@
+pub mod Commits
+pub mod Fronts
+pub mod Kept
+pub mod Newest
+pub mod Standings
+pub mod Stops
