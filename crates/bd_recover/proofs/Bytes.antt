@@ -1,0 +1,65 @@
+-- What the writes of a format leave.
+use Rattle.std.proofs.Common.{◌≡◌, ◌≢◌, ◌⊎◌, inl, inr, ℕ, ◌+◌, ◌-◌, ◌*◌, ◌<◌, ◌≤◌, List, [], ◌∷◌, length, take, drop, get_or, refl, sym, ◌∙◌, ap, subst, arith, take-take, drop-drop, length-take, length-drop, true, false, eqb}
+use Rattle.std.proofs.lemmas.List.{drop-take}
+use Rattle.std.proofs.lemmas.Bool.{ne_eqb}
+use Rattle.bd_disk.specs.Images.{InRange, Agree, AgreeBut, bytes_at, overwritten}
+use Rattle.bd_disk.proofs.Agreeing.{agree_refl, agree_trans, length-overwritten, overwritten_there, overwritten_elsewhere, overwrite_agrees, bytes_at-overwritten, same_bytes_at}
+use Rattle.bd_model.specs.Sizes.{Sizes, disk_bytes, half_bytes, half_place}
+use Rattle.bd_gate.specs.Superblock.{byte_at, open_gate}
+use Rattle.bd_recover.specs.Fresh.{HoldsFresh, InParts, fresh_half, superblock_body}
+use Rattle.bd_disk.specs.History.{History}
+use Rattle.bd_disk.specs.Made.{WritesOnly}
+use Rattle.bd_disk.proofs.Frames.{writes_wider}
+
+-- a range within a range
+pub sub_bytes : (at m k n : ℕ) (image : List ℕ) → k + n ≤ m → bytes_at (at + k) n image ≡ take n (drop k (bytes_at at m image))
+sub_bytes at m k n image fits =
+    let whole : k + (m - k) ≡ m = omega arith in
+    let inside : drop k (take m (drop at image)) ≡ take (m - k) (drop (at + k) image) =
+    ap (λ l. drop k (take l (drop at image))) (sym whole) ∙ drop-take k (m - k) (drop at image) ∙ ap (take (m - k)) (drop-drop k at image) in
+    sym (ap (take n) inside ∙ take-take n (m - k) (drop (at + k) image) (omega arith))
+
+module _ (s : Sizes) where
+  -- the parts stay where the gate alone changes
+  pub holds_but_gate : (old image : List ℕ) → HoldsFresh s old → AgreeBut (InRange 0 1) old image → HoldsFresh s image
+  holds_but_gate old image h same = record {
+    room = omega (arith, h.room, same.size);
+    body = same_bytes_at _ old image 1 63 (λ place r q. omega (arith, r.0, q.1)) same ∙ h.body;
+    half = same_bytes_at _ old image 64 32 (λ place r q. omega (arith, r.0, q.1)) same ∙ h.half;
+    other = ap (λ b. eqb b open_gate) (same.each (half_place s 1) (λ q. omega (arith, q.1))) ∙ h.other;
+  }
+
+  -- after the three writes
+  pub holds_fresh : (image : List ℕ) → disk_bytes s ≤ length image →
+      HoldsFresh s (overwritten (overwritten (overwritten image 64 fresh_half) (half_place s 1) (0 ∷ [])) 1 (superblock_body s))
+  holds_fresh image room =
+      let first = overwritten image 64 fresh_half in
+      let second = overwritten first (half_place s 1) (0 ∷ []) in
+      let third = overwritten second 1 (superblock_body s) in
+      let size_first : length first ≡ length image = length-overwritten image 64 fresh_half in
+      let size_second : length second ≡ length image = length-overwritten first (half_place s 1) (0 ∷ []) ∙ size_first in
+      let size_third : length third ≡ length image = length-overwritten second 1 (superblock_body s) ∙ size_second in
+      let last : AgreeBut (InRange 1 63) second third = overwrite_agrees second 1 (superblock_body s) in
+      let middle : AgreeBut (InRange (half_place s 1) 1) first second = overwrite_agrees first (half_place s 1) (0 ∷ []) in
+      let gate : half_place s 1 < length first = omega (arith, size_first) in
+      record {
+        room = omega (arith, size_third);
+        body = bytes_at-overwritten second 1 (superblock_body s) (omega (arith, size_second));
+        half = same_bytes_at _ second third 64 32 (λ place r q. omega (arith, r.0, q.1)) last
+            ∙ same_bytes_at _ first second 64 32 (λ place r q. omega (arith, r.1, q.0)) middle
+            ∙ bytes_at-overwritten image 64 fresh_half (omega arith);
+        other = ap (λ b. eqb b open_gate)
+            (last.each (half_place s 1) (λ q. omega (arith, q.1))
+            ∙ ap (λ n. get_or second n 0) (omega arith)
+            ∙ overwritten_there first (half_place s 1) (0 ∷ []) 0 (omega arith) (omega (arith, gate)));
+      }
+
+  -- each part is written in its place
+  pub first_in_parts : {n : ℕ} {a b : History} → n ≡ 32 → WritesOnly (InRange 64 n) a b → WritesOnly (InParts s) a b
+  first_in_parts long writes = writes_wider _ (λ place r. (omega (arith, r.0), omega (arith, r.1, long))) writes
+
+  pub other_in_parts : {n : ℕ} {a b : History} → n ≡ half_bytes s → WritesOnly (InRange (64 + n) 1) a b → WritesOnly (InParts s) a b
+  other_in_parts is writes = writes_wider _ (λ place r. (omega (arith, r.0), omega (arith, r.1, is))) writes
+
+  pub body_in_parts : {n : ℕ} {a b : History} → n ≡ 63 → WritesOnly (InRange 1 n) a b → WritesOnly (InParts s) a b
+  body_in_parts long writes = writes_wider _ (λ place r. (r.0, omega (arith, r.1, long))) writes

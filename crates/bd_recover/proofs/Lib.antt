@@ -1,0 +1,4 @@
+mod Bytes
+mod Found
+mod Stops
+

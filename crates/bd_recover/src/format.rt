@@ -1,0 +1,123 @@
+ghost use Rattle.std.specs.Prelude.{◌≡◌, ◌≢◌, ◌+◌, ◌≤◌, ◌<◌, ◌==◌, false, length, OnOk, IfOk, Ok};
+ghost use Rattle.bd_disk.specs.Calls.{HasCause};
+ghost use Rattle.bd_disk.specs.History.{contents};
+ghost use Rattle.bd_disk.specs.Images.{InRange};
+ghost use Rattle.bd_disk.specs.Made.{IsSettled, LeavesSince, Stores, WritesNothing, WritesOnly};
+ghost use Rattle.bd_model.specs.Sizes.{sizes_of, disk_bytes, extent_place};
+ghost use Rattle.bd_gate.specs.Superblock.{is_marked, byte_at, open_gate};
+ghost use Rattle.bd_catalog.specs.Opening.{opened};
+ghost use Rattle.bd_recover.specs.Fresh.{HoldsFresh, InParts, IsNoneOrFresh, fresh_found};
+ghost use Rattle.bd_recover.specs.Answers.{AnswersFormat, ByCount, MeasuresFormat, RefusesUntouched, format_refusal};
+
+use crate::fault::FormatFault;
+use crate::fresh::{fresh_half, superblock_body};
+use bd_disk::{Disk, Failed};
+use bd_model::Shape;
+
+const OPEN_GATE: u8 = 0x4F;
+
+/// Makes the empty store of this shape on a disk that is large enough and isn't a store already. The gate of the
+/// superblock is closed first and opened last, so that a stop leaves no store or the empty one.
+pub fn format_disk<D: Disk>(disk: &mut D, shape: &Shape) -> Result<(), FormatFault>
+    ensures bytes { D.bytes disk.new ≡ D.bytes disk.old }
+    ensures later { D.faults disk.old ≤ D.faults disk.new }
+    ensures cause { ByCount (D.faults disk.old) (D.faults disk.new) result }
+    ensures size { MeasuresFormat (sizes_of shape.now) (D.bytes disk.old) result }
+    ensures refused { D.tells → AnswersFormat (format_refusal (sizes_of shape.now) (D.bytes disk.old) (contents (D.history disk.old))) result }
+    ensures untouched { D.tells → RefusesUntouched result (D.history disk.old) (D.history disk.new) }
+    ensures writes { D.tells → WritesOnly (λ place. place < extent_place (sizes_of shape.now) 0) (D.history disk.old) (D.history disk.new) }
+    // The contents are the empty store, and a stop leaves nothing else.
+    ensures made { OnOk result (D.tells → opened (contents (D.history disk.new)) ≡ Ok (fresh_found (sizes_of shape.now))) }
+    ensures settled { OnOk result (D.tells → IsSettled (D.history disk.new)) }
+    // A stop at any moment leaves no store or the empty one.
+    ensures stops { D.tells → is_marked (contents (D.history disk.old)) ≡ false → IsSettled (D.history disk.old)
+        → LeavesSince (IsNoneOrFresh (sizes_of shape.now)) (D.history disk.old) (D.history disk.new) }
+{
+    shut_gate(disk, shape)?;
+    write_parts(disk, shape)?;
+    write_and_sync(disk, 0, &[OPEN_GATE])?;
+    Ok(())
+}
+
+// Closes the first gate where it is open, or tells why the disk isn't formatted.
+fn shut_gate<D: Disk>(disk: &mut D, shape: &Shape) -> Result<(), FormatFault>
+    ensures bytes { D.bytes disk.new ≡ D.bytes disk.old }
+    ensures later { D.faults disk.old ≤ D.faults disk.new }
+    ensures cause { ByCount (D.faults disk.old) (D.faults disk.new) result }
+    ensures size { MeasuresFormat (sizes_of shape.now) (D.bytes disk.old) result }
+    ensures refused { D.tells → AnswersFormat (format_refusal (sizes_of shape.now) (D.bytes disk.old) (contents (D.history disk.old))) result }
+    ensures untouched { D.tells → RefusesUntouched result (D.history disk.old) (D.history disk.new) }
+    ensures writes { D.tells → WritesOnly (InRange 0 1) (D.history disk.old) (D.history disk.new) }
+    ensures shut { OnOk result (D.tells → byte_at (contents (D.history disk.new)) 0 ≢ open_gate) }
+    ensures settled { OnOk result (D.tells → IsSettled (D.history disk.old) → IsSettled (D.history disk.new)) }
+    ensures stops { D.tells → is_marked (contents (D.history disk.old)) ≡ false → IsSettled (D.history disk.old)
+        → LeavesSince (IsNoneOrFresh (sizes_of shape.now)) (D.history disk.old) (D.history disk.new) }
+{
+    if asks_for_closing(disk, shape)? {
+        write_and_sync(disk, 0, &[0])?;
+    }
+    Ok(())
+}
+
+// Whether the first gate has to be closed; or why the disk isn't formatted.
+fn asks_for_closing<D: Disk>(disk: &mut D, shape: &Shape) -> Result<bool, FormatFault>
+    ensures bytes { D.bytes disk.new ≡ D.bytes disk.old }
+    ensures later { D.faults disk.old ≤ D.faults disk.new }
+    ensures cause { ByCount (D.faults disk.old) (D.faults disk.new) result }
+    ensures size { MeasuresFormat (sizes_of shape.now) (D.bytes disk.old) result }
+    ensures refused { D.tells → AnswersFormat (format_refusal (sizes_of shape.now) (D.bytes disk.old) (contents (D.history disk.old))) result }
+    ensures writes { D.tells → WritesNothing (D.history disk.old) (D.history disk.new) }
+    ensures gate { IfOk result (λ closing. D.tells → closing ≡ (byte_at (contents (D.history disk.old)) 0 == open_gate)) }
+{
+    disk.sync()?;
+    let have = disk.size();
+    let need = shape.disk_bytes();
+    if have < 64 {
+        return Err(FormatFault::TooSmall { need, have });
+    }
+    let mut bytes = [0u8; 64];
+    disk.read(0, &mut bytes)?;
+    if is_marked(&bytes) {
+        return Err(FormatFault::AlreadyAStore);
+    }
+    if have < need {
+        return Err(FormatFault::TooSmall { need, have });
+    }
+    Ok(bytes[0] == OPEN_GATE)
+}
+
+// Whether a superblock says that the disk is a store.
+fn is_marked(superblock: &[u8; 64]) -> bool
+    ensures { result ≡ is_marked superblock.now }
+{
+    superblock[0] == OPEN_GATE && &superblock[1..8] == b"BDSTORE".as_slice()
+}
+
+// All but the gate of the superblock.
+fn write_parts<D: Disk>(disk: &mut D, shape: &Shape) -> Result<(), Failed>
+    requires room { disk_bytes (sizes_of shape.now) ≤ D.bytes disk.old }
+    ensures bytes { D.bytes disk.new ≡ D.bytes disk.old }
+    ensures cause { HasCause (D.faults disk.old) (D.faults disk.new) result }
+    ensures writes { D.tells → WritesOnly (InParts (sizes_of shape.now)) (D.history disk.old) (D.history disk.new) }
+    ensures fresh { OnOk result (D.tells → HoldsFresh (sizes_of shape.now) (contents (D.history disk.new))) }
+    ensures settled { OnOk result (D.tells → IsSettled (D.history disk.new)) }
+{
+    disk.write(64, &fresh_half())?;
+    disk.write(64 + shape.half_bytes(), &[0])?;
+    disk.write(1, &superblock_body(shape))?;
+    disk.sync()?;
+    Ok(())
+}
+
+// Writes, and makes sure of it.
+fn write_and_sync<D: Disk>(disk: &mut D, at: u64, from: &[u8]) -> Result<(), Failed>
+    requires { at + length from.now ≤ D.bytes disk.old }
+    ensures bytes { D.bytes disk.new ≡ D.bytes disk.old }
+    ensures cause { HasCause (D.faults disk.old) (D.faults disk.new) result }
+    ensures writes { D.tells → WritesOnly (InRange at (length from.now)) (D.history disk.old) (D.history disk.new) }
+    ensures stores { OnOk result (D.tells → Stores at from.now (D.history disk.old) (D.history disk.new)) }
+{
+    disk.write(at, from)?;
+    disk.sync()?;
+    Ok(())
+}
