@@ -1,0 +1,195 @@
+-- Images that agree where a store reads them open alike, and owners have the same bytes in them.
+use Rattle.std.proofs.Common.{◌≡◌, ℕ, zero, suc, ◌+◌, ◌-◌, ◌*◌, ◌%◌, ◌<◌, ◌≤◌, Bool, true, false, cond, ◌&&◌, not, List, [], ◌∷◌, ◌++◌, length, take, refl, sym, ◌∙◌, ap, subst, arith, Option, Some, None, IfSome, nat_le, nat_lt, flat_map, filter, map, get_or, replicate}
+use Rattle.std.specs.Prelude.{Result, Ok, Err, IfOk, Contains, bytes_eq, ◌==◌}
+use Rattle.std.specs.Int.{w32, w64, from_be_bytes}
+use Rattle.std.proofs.lemmas.Bool.{leb-true}
+use Rattle.bd_disk.specs.Images.{InRange, Agree, bytes_at}
+use Rattle.bd_disk.proofs.Agreeing.{same_bytes_at, agree_fewer}
+use Rattle.bd_model.specs.Sizes.{Sizes, half_bytes, half_place, payload_room, extent_place, disk_bytes, is_shape}
+use Rattle.bd_model.specs.Extents.{owner_bytes}
+use Rattle.bd_model.specs.declared.place.Place.{Place}
+use Rattle.bd_model.specs.declared.place.Place.TheVariants.{Short, Gate, Magic, Number, Shape, Padding, Room, Payload}
+use Rattle.bd_gate.specs.Superblock.{open_gate, magic, byte_at, four_at, eight_at, sizes_at}
+use Rattle.bd_gate.specs.Halves.{Half, half_at, newest_half, newest_by, newer, is_open, turn_at, payload_of}
+use Rattle.bd_catalog.specs.Catalogue.{Catalogue}
+use Rattle.bd_catalog.specs.Rules.{catalogue_of}
+use Rattle.bd_catalog.specs.Opening.{Found, opened, opened_half, opened_payload}
+use Rattle.bd_catalog.specs.Standing.{BeginWith}
+
+-- the places of superblock and halves
+abbrev pub InFront : Sizes → ℕ → Type 0
+InFront s place = place < extent_place s 0
+
+-- a place in one of these extents
+pub record InExtents (s : Sizes) (extents : List ℕ) (place : ℕ) : Type 0 where
+  pub extent : ℕ
+  pub among : Contains extents extent
+  pub within : InRange (extent_place s extent) s.extent place
+
+-- the newest half is one of the two
+newest_by-small : (open0 : Bool) (turn0 : ℕ) (open1 : Bool) (turn1 : ℕ) → IfSome (newest_by open0 turn0 open1 turn1) (λ k. k ≤ 1)
+unfolding newest_by
+newest_by-small true turn0 true turn1 =
+    elim (nat_le turn0 2 && nat_le turn1 2) as (λ t. IfSome (cond t (newer turn0 turn1) None) (λ k. k ≤ 1)) [
+      | true ↦ elim (turn1 == (turn0 + 1) % 3) as (λ t. IfSome (cond t (Some 1) (cond (turn0 == (turn1 + 1) % 3) (Some 0) None)) (λ k. k ≤ 1)) [
+        | true ↦ omega arith
+        | false ↦ elim (turn0 == (turn1 + 1) % 3) as (λ t. IfSome (cond t (Some 0) None) (λ k. k ≤ 1)) [ true ↦ omega arith | false ↦ tt ]
+      ]
+      | false ↦ tt
+    ]
+newest_by-small true turn0 false turn1 = elim (nat_le turn0 2) as (λ t. IfSome (cond t (Some 0) None) (λ k. k ≤ 1)) [ true ↦ omega arith | false ↦ tt ]
+newest_by-small false turn0 open1 turn1 = elim (open1 && nat_le turn1 2) as (λ t. IfSome (cond t (Some 1) None) (λ k. k ≤ 1)) [ true ↦ omega arith | false ↦ tt ]
+
+-- the checks of an opening, on what they read
+abbrev opened_by : Sizes → ℕ → ℕ → List ℕ → ℕ → List ℕ → Result Found Place → Result Found Place
+opened_by s long gate mark number padding half =
+    cond (nat_lt long 64) (Err Short)
+    (cond (not (gate == open_gate)) (Err Gate)
+    (cond (not (bytes_eq mark magic)) (Err Magic)
+    (cond (not (number == 1)) (Err Number)
+    (cond (not (is_shape s)) (Err Shape)
+    (cond (not (bytes_eq padding (replicate 28 0))) (Err Padding)
+    (cond (nat_lt long (disk_bytes s)) (Err Room) half))))))
+
+opened-is : (image : List ℕ) → opened image ≡ opened_by (sizes_at image) (length image) (byte_at image 0) (bytes_at 1 7 image) (four_at image 8) (bytes_at 36 28 image) (opened_half (sizes_at image) image (newest_half (sizes_at image) image))
+unfolding opened
+opened-is image = refl
+
+-- what a passed check leaves
+passed : (P : Found → Type 0) (failed : Bool) (place : Place) (rest : Result Found Place) → IfOk rest P → IfOk (cond failed (Err place) rest) P
+passed P true place rest holds = tt
+passed P false place rest holds = holds
+
+half_sizes : (s : Sizes) (image : List ℕ) (k : Option ℕ) → IfOk (opened_half s image k) (λ found. found.sizes ≡ s)
+half_sizes s image None = tt
+half_sizes s image (Some k) =
+    let half = half_at s image k in
+    elim (nat_le half.length (payload_room s)) as (λ t. IfOk (cond t (opened_payload s half image (catalogue_of s (payload_of s half image))) (Err Payload)) (λ found. found.sizes ≡ s)) [
+      | true ↦ payload (catalogue_of s (payload_of s half image))
+      | false ↦ tt
+    ]
+  where
+    payload : (c : Option Catalogue) → IfOk (opened_payload s (half_at s image k) image c) (λ found. found.sizes ≡ s)
+    payload None = tt
+    payload (Some c) = refl
+
+opened_by-finds : (P : Found → Type 0) (s : Sizes) (long gate : ℕ) (mark : List ℕ) (number : ℕ) (padding : List ℕ) (half : Result Found Place) → IfOk half P → IfOk (opened_by s long gate mark number padding half) P
+opened_by-finds P s long gate mark number padding half holds =
+    let room = cond (nat_lt long (disk_bytes s)) (Err Room) half in
+    let pad = cond (not (bytes_eq padding (replicate 28 0))) (Err Padding) room in
+    let shape = cond (not (is_shape s)) (Err Shape) pad in
+    let format = cond (not (number == 1)) (Err Number) shape in
+    let text = cond (not (bytes_eq mark magic)) (Err Magic) format in
+    let first = cond (not (gate == open_gate)) (Err Gate) text in
+    passed P (nat_lt long 64) Short first
+    (passed P (not (gate == open_gate)) Gate text
+    (passed P (not (bytes_eq mark magic)) Magic format
+    (passed P (not (number == 1)) Number shape
+    (passed P (not (is_shape s)) Shape pad
+    (passed P (not (bytes_eq padding (replicate 28 0))) Padding room
+    (passed P (nat_lt long (disk_bytes s)) Room half holds))))))
+
+-- an opening finds the sizes that the superblock names
+opened-sizes : (image : List ℕ) (found : Found) → opened image ≡ Ok found → found.sizes ≡ sizes_at image
+opened-sizes image found opens =
+    let s = sizes_at image in
+    let half = opened_half s image (newest_half s image) in
+    let finds : IfOk (opened_by s (length image) (byte_at image 0) (bytes_at 1 7 image) (four_at image 8) (bytes_at 36 28 image) half) (λ f. f.sizes ≡ s) =
+    opened_by-finds (λ f. f.sizes ≡ s) s (length image) (byte_at image 0) (bytes_at 1 7 image) (four_at image 8) (bytes_at 36 28 image) half (half_sizes s image (newest_half s image)) in
+    subst (λ r. IfOk r (λ f. f.sizes ≡ s)) (sym (opened-is image) ∙ opens) finds
+
+module _ (s : Sizes) (old new : List ℕ) (agree : Agree (InFront s) old new) where
+  same_at : (at n : ℕ) → at + n ≤ extent_place s 0 → bytes_at at n new ≡ bytes_at at n old
+  same_at at n within = same_bytes_at (InFront s) old new at n (λ place r. omega (arith, r.1, within)) agree
+
+  same_byte : (at : ℕ) → at < extent_place s 0 → byte_at new at ≡ byte_at old at
+  same_byte at within = agree.each at within
+
+  same_four : (at : ℕ) → at + 4 ≤ extent_place s 0 → four_at new at ≡ four_at old at
+  same_four at within = ap (from_be_bytes w32) (same_at at 4 within)
+
+  -- so does the whole superblock
+  same_sizes : sizes_at new ≡ sizes_at old
+  same_sizes = λ k. record {
+    extent = same_four 12 (omega arith) k;
+    extents = same_four 16 (omega arith) k;
+    retain = same_four 20 (omega arith) k;
+    min = same_four 24 (omega arith) k;
+    bits = same_four 28 (omega arith) k;
+    max = same_four 32 (omega arith) k;
+  }
+
+  half_within : (k : ℕ) → k ≤ 1 → half_place s k + half_bytes s ≤ extent_place s 0
+  half_within zero le = omega arith
+  half_within (suc zero) le = omega arith
+  half_within (suc (suc k)) le = absurd (omega arith)
+
+  same_open : (k : ℕ) → k ≤ 1 → is_open s new k ≡ is_open s old k
+  same_open k le = ap (λ b. b == open_gate) (same_byte (half_place s k) (omega (arith, half_within k le)))
+
+  same_turn : (k : ℕ) → k ≤ 1 → turn_at s new k ≡ turn_at s old k
+  same_turn k le = same_byte (half_place s k + 1) (omega (arith, half_within k le))
+
+  same_newest : newest_half s new ≡ newest_half s old
+  same_newest = λ k. newest_by (same_open 0 (omega arith) k) (same_turn 0 (omega arith) k) (same_open 1 (omega arith) k) (same_turn 1 (omega arith) k)
+
+  same_half : (k : ℕ) → k ≤ 1 → half_at s new k ≡ half_at s old k
+  same_half k le = λ i. record {
+    number = k;
+    turn = same_turn k le i;
+    length = from_be_bytes w64 (same_at (half_place s k + 2) 8 (omega (arith, half_within k le)) i);
+    other_open = same_open (1 - k) (omega arith) i;
+  }
+
+  same_payload : (half : Half) → half.number ≤ 1 → half.length ≤ payload_room s → payload_of s half new ≡ payload_of s half old
+  same_payload half le fits = same_at (half_place s half.number + 10) half.length (omega (arith, half_within half.number le))
+
+  same_opened_payload : (half : Half) (found : Option Catalogue) → opened_payload s half new found ≡ opened_payload s half old found
+  same_opened_payload half None = refl
+  same_opened_payload half (Some c) = refl
+
+  after_half : (half : Half) → half.number ≤ 1 →
+      cond (nat_le half.length (payload_room s)) (opened_payload s half new (catalogue_of s (payload_of s half new))) (Err Payload)
+      ≡ cond (nat_le half.length (payload_room s)) (opened_payload s half old (catalogue_of s (payload_of s half old))) (Err Payload)
+  after_half half le =
+      elim (nat_le half.length (payload_room s))
+      as (λ t. nat_le half.length (payload_room s) ≡ t → cond t (opened_payload s half new (catalogue_of s (payload_of s half new))) (Err Payload) ≡ cond t (opened_payload s half old (catalogue_of s (payload_of s half old))) (Err Payload)) [
+        | true ↦ λ e. same_opened_payload half (catalogue_of s (payload_of s half new)) ∙ ap (λ bytes. opened_payload s half old (catalogue_of s bytes)) (same_payload half le (leb-true half.length (payload_room s) e))
+        | false ↦ λ e. refl
+      ] refl
+
+  same_opened_half : (k : Option ℕ) → IfSome k (λ n. n ≤ 1) → opened_half s new k ≡ opened_half s old k
+  same_opened_half None small = refl
+  same_opened_half (Some k) small =
+      ap (λ half. cond (nat_le half.length (payload_room s)) (opened_payload s half new (catalogue_of s (payload_of s half new))) (Err Payload)) (same_half k small)
+      ∙ after_half (half_at s old k) small
+
+-- images that agree on superblock and halves open alike
+pub same_opened : (old new : List ℕ) → Agree (InFront (sizes_at old)) old new → opened new ≡ opened old
+same_opened old new agree =
+    let s = sizes_at old in
+    let half : opened_half (sizes_at new) new (newest_half (sizes_at new) new) ≡ opened_half s old (newest_half s old) =
+    ap (λ t. opened_half t new (newest_half t new)) (same_sizes s old new agree)
+    ∙ ap (opened_half s new) (same_newest s old new agree)
+    ∙ same_opened_half s old new agree (newest_half s old) (newest_by-small (is_open s old 0) (turn_at s old 0) (is_open s old 1) (turn_at s old 1)) in
+    opened-is new
+    ∙ (λ k. opened_by (same_sizes s old new agree k) (agree.size k) (same_byte s old new agree 0 (omega arith) k) (same_at s old new agree 1 7 (omega arith) k) (same_four s old new agree 8 (omega arith) k) (same_at s old new agree 36 28 (omega arith) k) (half k))
+    ∙ sym (opened-is old)
+
+-- so what was found is found again
+pub opens_again : (found : Found) (old new : List ℕ) → opened old ≡ Ok found → Agree (InFront found.sizes) old new → opened new ≡ Ok found
+opens_again found old new opens agree = same_opened old new (subst (λ s. Agree (InFront s) old new) (opened-sizes old found opens) agree) ∙ opens
+
+-- the bytes of an owner are the same in images that agree on its extents
+pub same_owner_bytes : (s : Sizes) (extents old new : List ℕ) → Agree (InExtents s extents) old new → owner_bytes s extents new ≡ owner_bytes s extents old
+same_owner_bytes s [] old new agree = refl
+same_owner_bytes s (e ∷ es) old new agree =
+    let first : bytes_at (extent_place s e) s.extent new ≡ bytes_at (extent_place s e) s.extent old =
+    same_bytes_at (InExtents s (e ∷ es)) old new (extent_place s e) s.extent (λ place r. record { extent = e; among = (0, omega arith, refl); within = r }) agree in
+    let rest : owner_bytes s es new ≡ owner_bytes s es old =
+    same_owner_bytes s es old new (agree_fewer (InExtents s (e ∷ es)) (InExtents s es) old new (λ place p. record { extent = p.extent; among = (suc p.among.0, omega (arith, p.among.1), p.among.2); within = p.within }) agree) in
+    λ k. first k ++ rest k
+
+-- what they begin with carries over
+pub begin_with_agrees : (s : Sizes) (extents bytes old new : List ℕ) → Agree (InExtents s extents) old new → BeginWith s extents bytes old → BeginWith s extents bytes new
+begin_with_agrees s extents bytes old new agree begins = record { front = ap (take (length bytes)) (same_owner_bytes s extents old new agree) ∙ begins.front }
