@@ -169,12 +169,12 @@ module _ (h : History) (w : List (List ℕ)) (c : Catalogue) (kept : h.expired �
           own_begins (b ∷ bs) some = begin_same s image (active_extents-own ys b bs some own has.rows) refl begins
 
   -- the closed volumes where a version was retained: those that there were stay, and an empty one comes behind them
-  module _ (some : h.expired < length h.versions) (entry : VersionEntry) (actives : List OpenEntry) where
+  module _ (some : h.expired < length h.versions) (phase : Phase) (entry : VersionEntry) (actives : List OpenEntry) where
     abbrev waiting : Phase
     waiting = Waiting (h.base + 1)
 
     abbrev with_volume : Catalogue
-    with_volume = with_entries c waiting entry (empty_volume ∷ []) actives
+    with_volume = with_entries c phase entry (empty_volume ∷ []) actives
 
     back : newest h - 1 + 1 ≡ newest h
     back = omega arith
@@ -186,7 +186,7 @@ module _ (h : History) (w : List (List ℕ)) (c : Catalogue) (kept : h.expired �
     volume_extents-earlier : (j : ℕ) → oldest h ≤ j → j < newest h → length c.volumes + oldest h ≡ newest h → volume_extents with_volume j ≡ volume_extents c j
     volume_extents-earlier j low high long =
         let f : VolumeEntry → List ℕ = λ e. e.extents in
-        (λ k. get_or (map-append f c.volumes (empty_volume ∷ []) k) (j - oldest-same waiting entry (empty_volume ∷ []) actives k) [])
+        (λ k. get_or (map-append f c.volumes (empty_volume ∷ []) k) (j - oldest-same phase entry (empty_volume ∷ []) actives k) [])
         ∙ get_or_append_left (map f c.volumes) ([] ∷ []) [] (j - oldest_in c) (omega (arith, oldest-is, length-map c.volumes f))
 
     pub volumes-more : (s : Sizes) (image : List ℕ) → HasVolumes s h Settled c image → HasVolumes s (grown h w) waiting with_volume image
