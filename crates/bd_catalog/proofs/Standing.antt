@@ -38,6 +38,24 @@ pub stands-shown : {shape : Shape} {st : VersionState} {phase : Phase} {held : �
 stands-shown {found = found} state opens shows =
     record { state = state; found = found; opens = opens; sizes = shows.sizes; at_phase = shows.at_phase; numbers = shows.numbers; versions = shows.versions; volumes = shows.volumes; actives = shows.actives; reserve = shows.reserve }
 
+-- an image stands for a state where the catalogue that is found has its parts
+pub stands_by_parts : (shape : Shape) (st : VersionState) (phase : Phase) (held : ℕ) (image : List ℕ) (found : Found) (c : Catalogue) → IsState st →
+    opened image ≡ Ok found → found.sizes ≡ sizes_of shape → found.catalogue ≡ c → c.phase ≡ phase →
+    HasNumbers (history shape st) c → HasVersions shape st c image → HasVolumes (sizes_of shape) (history shape st) phase c image → HasActives (sizes_of shape) (history shape st) phase c image →
+    HasReserve (sizes_of shape) (history shape st) phase held → StandsFor shape st phase held image
+stands_by_parts shape st phase held image found c state opens sizes is at_phase numbered versions volumes actives reserve = record {
+  state = state;
+  found = found;
+  opens = opens;
+  sizes = sizes;
+  at_phase = ap (λ d. d.phase) is ∙ at_phase;
+  numbers = subst (HasNumbers (history shape st)) (sym is) numbered;
+  versions = subst (λ d. HasVersions shape st d image) (sym is) versions;
+  volumes = subst (λ d. HasVolumes (sizes_of shape) (history shape st) phase d image) (sym is) volumes;
+  actives = subst (λ d. HasActives (sizes_of shape) (history shape st) phase d image) (sym is) actives;
+  reserve = reserve;
+}
+
 -- ---- the extents of owners are among all
 
 in_part : {X : Type 0} (f : X → List ℕ) (xs : List X) (i e : ℕ) → Contains (get_or (map f xs) i []) e → Contains (flat_map f xs) e

@@ -27,26 +27,9 @@ use Rattle.bd_catalog.specs.Catalogue.{Catalogue, VersionEntry, VolumeEntry, Ope
 use Rattle.bd_catalog.specs.Opening.{Found, opened}
 use Rattle.bd_catalog.specs.Standing.{BeginWith, HasNumbers, HasVersions, HasVolumes, HasActives, HasReserve, StandsFor, lines_from, open_rows}
 use Rattle.bd_catalog.proofs.Agreeing.{InExtents}
-use Rattle.bd_catalog.proofs.Standing.{Shows, stands-shows, shows_agrees}
+use Rattle.bd_catalog.proofs.Standing.{Shows, stands-shows, shows_agrees, stands_by_parts}
+use Rattle.bd_catalog.proofs.StandingEmpty.{nothing_from, catalogue_from, nothing-numbers, nothing-lines, nothing-actives}
 use Rattle.bd_catalog.proofs.StandingGrown.{with_entries, entry_for, empty_volume, own_category, numbers-more, recipes-more, actives-more, volumes-more, lines-more}
-
--- an image stands for a state where the catalogue that is found has its parts
-pub stands_by_parts : (shape : Shape) (st : VersionState) (phase : Phase) (held : ℕ) (image : List ℕ) (found : Found) (c : Catalogue) → IsState st →
-    opened image ≡ Ok found → found.sizes ≡ sizes_of shape → found.catalogue ≡ c → c.phase ≡ phase →
-    HasNumbers (history shape st) c → HasVersions shape st c image → HasVolumes (sizes_of shape) (history shape st) phase c image → HasActives (sizes_of shape) (history shape st) phase c image →
-    HasReserve (sizes_of shape) (history shape st) phase held → StandsFor shape st phase held image
-stands_by_parts shape st phase held image found c state opens sizes is at_phase numbered versions volumes actives reserve = record {
-  state = state;
-  found = found;
-  opens = opens;
-  sizes = sizes;
-  at_phase = ap (λ d. d.phase) is ∙ at_phase;
-  numbers = subst (HasNumbers (history shape st)) (sym is) numbered;
-  versions = subst (λ d. HasVersions shape st d image) (sym is) versions;
-  volumes = subst (λ d. HasVolumes (sizes_of shape) (history shape st) phase d image) (sym is) volumes;
-  actives = subst (λ d. HasActives (sizes_of shape) (history shape st) phase d image) (sym is) actives;
-  reserve = reserve;
-}
 
 -- a version more is a legal state where a number is left
 pub with_version-state : (shape : Shape) (st : VersionState) (stream : List ℕ) → IsState st → newest (history shape st) < last_number → IsState (with_version st stream)
@@ -84,14 +67,6 @@ module _ (shape : Shape) (st : VersionState) (stream : List ℕ) where
 
 -- ---- the first version
 
--- the state where nothing is retained and the last number was `base`
-abbrev pub nothing_from : ℕ → VersionState
-nothing_from base = record { base = base; versions = []; expired = 0 }
-
--- its catalogue
-abbrev pub catalogue_from : ℕ → Catalogue
-catalogue_from base = record { base = base; newest = base; phase = Settled; versions = []; volumes = []; actives = [] }
-
 -- the catalogue after the first version: these extents have its recipe, and those its different chunks
 abbrev pub first_catalogue : ℕ → List ℕ → List (List ℕ) → List (List ℕ) → List ℕ → List ℕ → Catalogue
 first_catalogue base stream parts begun xs ys = record {
@@ -102,32 +77,6 @@ first_catalogue base stream parts begun xs ys = record {
   volumes = [];
   actives = own_category (base + 1) begun ys;
 }
-
-module _ (base : ℕ) where
-  abbrev none : History
-  none = record { base = base; versions = []; expired = 0 }
-
-  no_chunks : version none (newest none) ≡ []
-  no_chunks = version-base none (newest none) (omega arith)
-
-  -- each different chunk of a first version is fresh
-  pub fresh-first : (w : List (List ℕ)) → fresh none w ≡ distinct w
-  fresh-first w = ap (λ v. filter (λ c. not (contains v c)) (distinct w)) no_chunks ∙ filter-all _ (λ c. refl) (distinct w)
-
-  -- and each chunk begins there
-  pub recipe-first : (w : List (List ℕ)) → recipe (grown none w) (base + 1) ≡ entries_in [] (base + 1) w
-  recipe-first w = λ k. map (λ c. record { mark = record { 0 = mark c }; length = length c; start = start c k }) (own k)
-    where
-      own : version (grown none w) (base + 1) ≡ w
-      own = let last : base + 1 ≡ newest none + 1 = omega arith in ap (version (grown none w)) last ∙ version-newest none w
-
-      start : (c : List ℕ) → start_of (grown none w) (base + 1) c ≡ base + 1
-      start c =
-          let next : base + 1 ≡ suc base = omega arith in
-          let before : version (grown none w) base ≡ [] = version-grown none w base (omega arith) ∙ version-base none base (omega arith) in
-          ap (λ n. start_of (grown none w) n c) next
-          ∙ ap (λ cs. elim (contains cs c) as (λ _. ℕ) [ true ↦ start_of (grown none w) base c | false ↦ suc base ]) before
-          ∙ sym next
 
 -- where nothing was retained the image after a backup stands for its one version
 pub first_version_stands : (shape : Shape) (base held : ℕ) (stream xs ys new : List ℕ) (found : Found) →
@@ -148,21 +97,18 @@ first_version_stands shape base held stream xs ys new found below fits opens siz
     let entry : VersionEntry = entry_for stream w (fresh h w) xs in
     let last : newest h + 1 ≡ base + 1 = omega arith in
     let kept : h.expired ≤ length h.versions = omega arith in
-    let numbered : HasNumbers h c = record { base = refl; newest = omega arith; retained = refl } in
+    let numbered : HasNumbers h c = nothing-numbers shape base in
     let actives : List OpenEntry = own_category (base + 1) (fresh h w) ys in
-    let no_rows : [] ≡ open_rows h Settled = sym (ap (rows_over (open_category h Settled)) (numbers-none (base + 1) (base + 0) (omega arith))) in
-    let no_actives : HasActives s h Settled c new = record { rows = no_rows; records = λ i low high. absurd (omega arith) } in
-    let no_lines : [] ≡ version_lines st h = sym (ap (map (version_line st h)) (numbers-none (base + 0 + 1) (base + 0) (omega arith))) in
     stands_grown shape st stream Settled held new found (first_catalogue base stream w (fresh h w) xs ys)
     (record { some = inr (refl, refl); numbered = omega arith }) (omega arith) opens sizes is refl
     (numbers-more h w c kept numbered Settled entry [] actives)
-    (lines-more shape st stream c (omega arith) numbered Settled xs [] actives no_lines)
+    (lines-more shape st stream c (omega arith) numbered Settled xs [] actives (nothing-lines shape base))
     (recipes-more h w c kept numbered Settled entry [] actives s new (λ v low high. absurd (omega arith)) (subst (λ n. BeginWith s xs (spelled_recipe (recipe (grown h w) n)) new) (sym last) recipe_there))
     (record {
       rows = sym (ap (map (rows (grown h w) Settled)) (numbers-none (base + 0 + 1) (newest (grown h w) - 1) (omega arith)));
       records = λ j low high. absurd (omega arith);
     })
-    (actives-more h w c kept numbered Settled entry [] actives s Settled (λ i low high. absurd (omega arith)) new ys (ap (λ n. own_category n (fresh h w) ys) (sym last)) no_actives records_there)
+    (actives-more h w c kept numbered Settled entry [] actives s Settled (λ i low high. absurd (omega arith)) new ys (ap (λ n. own_category n (fresh h w) ys) (sym last)) (nothing-actives shape base new) records_there)
     (record { fits = omega (arith, fits, a_backup_leaves_its_reserve.first shape.extent base w (omega (arith, shape.in_range.extent_low))) })
 
 -- ---- a later version

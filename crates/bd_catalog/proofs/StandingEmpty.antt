@@ -1,0 +1,152 @@
+-- Images in which nothing is retained, and the first version.
+use Rattle.std.proofs.Common.{◌≡◌, ◌≢◌, ◌⊎◌, inl, inr, ⊎_elim, ℕ, zero, suc, ◌+◌, ◌-◌, ◌<◌, ◌≤◌, Bool, true, false, cond, not, List, [], ◌∷◌, ◌++◌, length, refl, sym, ◌∙◌, ap, subst, arith, filter, map, nat_eq, eq-eqb}
+use Rattle.std.specs.Prelude.{Ok}
+use Rattle.std.proofs.lemmas.List.{length_push, length-map}
+use Rattle.bd_disk.specs.Images.{Agree}
+use Rattle.bd_model.specs.declared.shape.Shape.{Shape}
+use Rattle.bd_model.specs.declared.layout.RecipeEntry.{RecipeEntry}
+use Rattle.bd_model.specs.declared.layout.Phase.{Phase}
+use Rattle.bd_model.specs.declared.layout.Phase.TheVariants.{Settled, Waiting}
+use Rattle.bd_model.specs.Sizes.{Sizes, sizes_of}
+use Rattle.bd_model.specs.Chunks.{chunks, numbers}
+use Rattle.bd_model.specs.History.{History, version, newest, oldest, retained, distinct, contains}
+use Rattle.bd_model.specs.Layout.{open_category, rows}
+use Rattle.bd_model.specs.Laws.{grown, entries_in}
+use Rattle.bd_model.specs.Marks.{mark}
+use Rattle.bd_model.specs.Recipe.{recipe, start_of, entry_of}
+use Rattle.bd_model.specs.Room.{fresh, need, owned, reserve_left}
+use Rattle.bd_model.specs.State.{VersionState, IsState, history, cut_of, last_number}
+use Rattle.bd_model.specs.Step.{with_version, version_line, version_lines, free_extents}
+use Rattle.bd_model.specs.Records.{records_of, spelled_recipe}
+use Rattle.bd_model.proofs.HistoryLemmas.{newest-grown, version-newest, version-grown, version-base}
+use Rattle.bd_model.proofs.ListLemmas.{numbers-none, filter-all}
+use Rattle.bd_model.proofs.LawLemmas.{a_backup_leaves_its_reserve, closed_volumes_grow}
+use Rattle.bd_model.proofs.RowLemmas.{rows_over}
+use Rattle.bd_model.proofs.StepLemmas.{length-history, history-grown}
+use Rattle.bd_catalog.specs.Catalogue.{Catalogue, VersionEntry, VolumeEntry, OpenEntry, oldest_in, recipe_extents, all_extents}
+use Rattle.bd_catalog.specs.Opening.{Found, opened}
+use Rattle.bd_catalog.specs.Standing.{BeginWith, HasNumbers, HasVersions, HasVolumes, HasActives, HasReserve, StandsFor, lines_from, open_rows}
+use Rattle.bd_catalog.proofs.Agreeing.{InExtents}
+use Rattle.bd_catalog.proofs.Standing.{Shows, stands-shows, shows_agrees, stands_by_parts}
+use Rattle.bd_model.proofs.ExpiryLemmas.{nothing_owned}
+use Rattle.bd_model.specs.State.{empty}
+use Rattle.bd_catalog.specs.Catalogue.{retained_in, empty_catalogue}
+
+-- the state where nothing is retained and the last number was `base`
+abbrev pub nothing_from : ℕ → VersionState
+nothing_from base = record { base = base; versions = []; expired = 0 }
+
+-- its catalogue
+abbrev pub catalogue_from : ℕ → Catalogue
+catalogue_from base = record { base = base; newest = base; phase = Settled; versions = []; volumes = []; actives = [] }
+
+module _ (shape : Shape) (base : ℕ) where
+  abbrev nothing : History
+  nothing = history shape (nothing_from base)
+
+  pub nothing-numbers : HasNumbers nothing (catalogue_from base)
+  nothing-numbers = record { base = refl; newest = omega arith; retained = refl }
+
+  pub nothing-lines : [] ≡ version_lines (nothing_from base) nothing
+  nothing-lines = sym (ap (map (version_line (nothing_from base) nothing)) (numbers-none (base + 0 + 1) (base + 0) (omega arith)))
+
+  nothing-versions : (image : List ℕ) → HasVersions shape (nothing_from base) (catalogue_from base) image
+  nothing-versions image = record { lines = nothing-lines; recipes = λ v low high. absurd (omega arith) }
+
+  nothing-volumes : (image : List ℕ) → HasVolumes (sizes_of shape) nothing Settled (catalogue_from base) image
+  nothing-volumes image = record {
+    rows = sym (ap (map (rows nothing Settled)) (numbers-none (base + 0 + 1) (base + 0 - 1) (omega arith)));
+    records = λ j low high. absurd (omega arith);
+  }
+
+  pub nothing-actives : (image : List ℕ) → HasActives (sizes_of shape) nothing Settled (catalogue_from base) image
+  nothing-actives image = record {
+    rows = sym (ap (rows_over (open_category nothing Settled)) (numbers-none (base + 1) (base + 0) (omega arith)));
+    records = λ i low high. absurd (omega arith);
+  }
+
+  -- a settled image in which no version is found stands for the state where nothing is retained
+  pub nothing_stands : (held : ℕ) (image : List ℕ) (found : Found) → base ≤ last_number → held ≤ shape.extents →
+      opened image ≡ Ok found → found.sizes ≡ sizes_of shape → found.catalogue ≡ catalogue_from base → StandsFor shape (nothing_from base) Settled held image
+  unfolding reserve_left
+  nothing_stands held image found numbered room opens sizes is =
+      stands_by_parts shape (nothing_from base) Settled held image found (catalogue_from base)
+      (record { some = inr (refl, refl); numbered = omega arith }) opens sizes is refl
+      nothing-numbers (nothing-versions image) (nothing-volumes image) (nothing-actives image)
+      (record { fits = omega (arith, nothing_owned shape.extent base) })
+
+-- an image with the empty catalogue stands for the empty state
+pub empty_stands : (shape : Shape) (image : List ℕ) (found : Found) → opened image ≡ Ok found → found.sizes ≡ sizes_of shape → found.catalogue ≡ empty_catalogue → StandsFor shape empty Settled 0 image
+empty_stands shape image found opens sizes is = nothing_stands shape 0 0 image found (omega arith) (omega arith) opens sizes is
+
+no_elements : {X : Type 0} (xs : List X) → length xs ≡ 0 → xs ≡ []
+no_elements [] e = refl
+no_elements (x ∷ xs) e = absurd (omega (arith, e))
+
+-- a state of which nothing is retained has no version
+pub nothing-state : (shape : Shape) (st : VersionState) → IsState st → retained (history shape st) ≡ 0 → st ≡ nothing_from st.base
+nothing-state shape st state none =
+    ⊎_elim
+    (λ some. absurd (omega (arith, length-history shape st)))
+    (λ all k. record { base = st.base; versions = all.0 k; expired = all.1 k })
+    state.some
+
+-- a state whose newest number is 0 is the empty one
+pub empty-state : (shape : Shape) (st : VersionState) → IsState st → newest (history shape st) ≡ 0 → st ≡ empty
+empty-state shape st state zero_newest =
+    let from : st.base ≡ 0 = omega arith in
+    nothing-state shape st state (omega arith) ∙ ap nothing_from from
+
+module _ {shape : Shape} {st : VersionState} {phase : Phase} {held : ℕ} {image : List ℕ} {found : Found} (stands : StandsFor shape st phase held image) (opens : opened image ≡ Ok found) where
+  shows : Shows shape st phase held found image
+  shows = stands-shows stands opens
+
+  -- an image whose newest number is 0 stands for the empty state
+  pub found-empty : found.catalogue.newest ≡ 0 → st ≡ empty
+  found-empty none = empty-state shape st stands.state (sym shows.numbers.newest ∙ none)
+
+  -- one that retains no version stands for the state without versions
+  pub found-nothing : retained_in found.catalogue ≡ 0 → st ≡ nothing_from found.catalogue.base
+  found-nothing none = nothing-state shape st stands.state (sym shows.numbers.retained ∙ none) ∙ ap nothing_from (sym shows.numbers.base)
+
+  -- and its catalogue has no entries
+  pub found-catalogue : phase ≡ Settled → retained_in found.catalogue ≡ 0 → found.catalogue ≡ catalogue_from found.catalogue.base
+  found-catalogue settled none =
+      let c = found.catalogue in
+      let h : History = history shape st in
+      let state : st ≡ nothing_from st.base = nothing-state shape st stands.state (sym shows.numbers.retained ∙ none) in
+      let empty_versions : length h.versions ≡ 0 = ap (λ s. length (history shape s).versions) state in
+      let kept : h.expired ≡ 0 = ap (λ s. s.expired) state in
+      let volumes : c.volumes ≡ [] =
+      no_elements c.volumes (sym (length-map c.volumes (λ e. e.rows)) ∙ ap length (shows.volumes.rows ∙ ap (map (rows h phase)) (numbers-none (oldest h) (newest h - 1) (omega arith)))) in
+      let actives : c.actives ≡ [] =
+      no_elements c.actives (sym (length-map c.actives (λ e. e.row)) ∙ ap length (shows.actives.rows ∙ ap (rows_over (open_category h phase)) (numbers-none (h.base + 1) (newest h) (omega arith)))) in
+      let versions : c.versions ≡ [] = no_elements c.versions none in
+      let last : c.newest ≡ c.base = omega (arith, shows.numbers.newest, shows.numbers.base) in
+      λ k. record { base = c.base; newest = last k; phase = (shows.at_phase ∙ settled) k; versions = versions k; volumes = volumes k; actives = actives k }
+
+module _ (base : ℕ) where
+  abbrev none : History
+  none = record { base = base; versions = []; expired = 0 }
+
+  no_chunks : version none (newest none) ≡ []
+  no_chunks = version-base none (newest none) (omega arith)
+
+  -- each different chunk of a first version is fresh
+  pub fresh-first : (w : List (List ℕ)) → fresh none w ≡ distinct w
+  fresh-first w = ap (λ v. filter (λ c. not (contains v c)) (distinct w)) no_chunks ∙ filter-all _ (λ c. refl) (distinct w)
+
+  -- and each chunk begins there
+  pub recipe-first : (w : List (List ℕ)) → recipe (grown none w) (base + 1) ≡ entries_in [] (base + 1) w
+  recipe-first w = λ k. map (λ c. record { mark = record { 0 = mark c }; length = length c; start = start c k }) (own k)
+    where
+      own : version (grown none w) (base + 1) ≡ w
+      own = let last : base + 1 ≡ newest none + 1 = omega arith in ap (version (grown none w)) last ∙ version-newest none w
+
+      start : (c : List ℕ) → start_of (grown none w) (base + 1) c ≡ base + 1
+      start c =
+          let next : base + 1 ≡ suc base = omega arith in
+          let before : version (grown none w) base ≡ [] = version-grown none w base (omega arith) ∙ version-base none base (omega arith) in
+          ap (λ n. start_of (grown none w) n c) next
+          ∙ ap (λ cs. elim (contains cs c) as (λ _. ℕ) [ true ↦ start_of (grown none w) base c | false ↦ suc base ]) before
+          ∙ sym next
