@@ -2,6 +2,7 @@
 use Rattle.std.proofs.Common.{◌≡◌, ◌≢◌, ◌⊎◌, inl, inr, ⊎_elim, ℕ, zero, suc, ◌+◌, ◌-◌, ◌<◌, ◌≤◌, Bool, true, false, cond, not, List, [], ◌∷◌, ◌++◌, length, refl, sym, ◌∙◌, ap, subst, arith, filter, map, nat_eq, eq-eqb}
 use Rattle.std.specs.Prelude.{Ok}
 use Rattle.std.proofs.lemmas.List.{length_push}
+use Rattle.std.proofs.lemmas.Bool.{ne_eqb, cases_lt}
 use Rattle.bd_disk.specs.Images.{Agree}
 use Rattle.bd_model.specs.declared.shape.Shape.{Shape}
 use Rattle.bd_model.specs.declared.layout.RecipeEntry.{RecipeEntry}
@@ -23,12 +24,12 @@ use Rattle.bd_model.proofs.ListLemmas.{numbers-none, filter-all}
 use Rattle.bd_model.proofs.LawLemmas.{a_backup_leaves_its_reserve, closed_volumes_grow}
 use Rattle.bd_model.proofs.RowLemmas.{rows_over}
 use Rattle.bd_model.proofs.StepLemmas.{length-history, history-grown}
-use Rattle.bd_catalog.specs.Catalogue.{Catalogue, VersionEntry, VolumeEntry, OpenEntry, oldest_in, recipe_extents, all_extents}
+use Rattle.bd_catalog.specs.Catalogue.{Catalogue, VersionEntry, VolumeEntry, OpenEntry, oldest_in, retained_in, recipe_extents, all_extents}
 use Rattle.bd_catalog.specs.Opening.{Found, opened}
 use Rattle.bd_catalog.specs.Standing.{BeginWith, HasNumbers, HasVersions, HasVolumes, HasActives, HasReserve, StandsFor, lines_from, open_rows}
 use Rattle.bd_catalog.proofs.Agreeing.{InExtents}
 use Rattle.bd_catalog.proofs.Standing.{Shows, stands-shows, shows_agrees, stands_by_parts}
-use Rattle.bd_catalog.proofs.StandingEmpty.{nothing_from, catalogue_from, nothing-numbers, nothing-lines, nothing-actives}
+use Rattle.bd_catalog.proofs.StandingEmpty.{nothing_from, nothing-state, catalogue_from, nothing-numbers, nothing-lines, nothing-actives}
 use Rattle.bd_catalog.proofs.StandingGrown.{with_entries, entry_for, empty_volume, own_category, numbers-more, recipes-more, actives-more, volumes-more, lines-more}
 
 -- a version more is a legal state where a number is left
@@ -150,3 +151,64 @@ next_version_stands shape st held stream xs ys old new before after stands opene
     (volumes-more h w c kept shows.numbers kept_some (Waiting (c.base + 1)) entry actives s new shows.volumes)
     (actives-more h w c kept shows.numbers (Waiting (c.base + 1)) entry (empty_volume ∷ []) actives s phase (λ i low high. closed_volumes_grow.waiting h w (h.base + 1) i (omega arith) high) new ys own shows.actives records_there)
     (record { fits = omega (arith, fits, shows.reserve.fits, a_backup_leaves_its_reserve.needed shape.extent h w one, a_backup_leaves_its_reserve.taken shape.extent h w one kept_some) })
+
+-- ---- any settled state
+
+module _ (shape : Shape) (held : ℕ) (stream xs ys new : List ℕ) (after : Found) (opens : opened new ≡ Ok after) (sizes : after.sizes ≡ sizes_of shape) where
+  -- what a first version in this state needs, and what it gives
+  abbrev FirstStands : VersionState → Type 0
+  FirstStands st =
+      let h : History = history shape st in
+      let w : List (List ℕ) = chunks (cut_of shape) stream in
+      st.base < last_number → need shape.extent h w + held ≤ shape.extents → after.catalogue ≡ first_catalogue st.base stream w (fresh h w) xs ys →
+      BeginWith (sizes_of shape) xs (spelled_recipe (recipe (grown h w) (newest h + 1))) new → BeginWith (sizes_of shape) ys (records_of (fresh h w)) new →
+      StandsFor shape (with_version st stream) Settled held new
+
+  first_from : (st : VersionState) → st ≡ nothing_from st.base → FirstStands st
+  first_from st same =
+      let h : History = history shape (nothing_from st.base) in
+      let last : newest h + 1 ≡ st.base + 1 = omega arith in
+      subst FirstStands (sym same)
+      (λ below fits is recipe_there records_there. first_version_stands shape st.base held stream xs ys new after below fits opens sizes is
+      (subst (λ n. BeginWith (sizes_of shape) xs (spelled_recipe (recipe (grown h (chunks (cut_of shape) stream)) n)) new) last recipe_there) records_there)
+
+-- the catalogue after a backup
+abbrev pub backup_catalogue : Catalogue → List ℕ → List (List ℕ) → List (List ℕ) → List ℕ → List ℕ → Catalogue
+backup_catalogue c stream parts begun xs ys =
+    cond (nat_eq (retained_in c) 0) (first_catalogue c.base stream parts begun xs ys) (next_catalogue c stream parts begun xs ys)
+
+-- The image after a backup stands for the versions with the new one, at the phase that the backup leaves. The extents `xs`
+-- begin with its recipe and `ys` with its fresh chunks, and nothing changed in the extents that were owned.
+pub backup_stands : (shape : Shape) (st : VersionState) (held : ℕ) (stream xs ys old new : List ℕ) (before after : Found) →
+    let h : History = history shape st in
+    let w : List (List ℕ) = chunks (cut_of shape) stream in
+    StandsFor shape st Settled held old → opened old ≡ Ok before →
+    newest h < last_number → need shape.extent h w ≤ free_extents shape held st →
+    Agree (InExtents before.sizes (all_extents before.catalogue)) old new →
+    opened new ≡ Ok after → after.sizes ≡ sizes_of shape → after.catalogue ≡ backup_catalogue before.catalogue stream w (fresh h w) xs ys →
+    BeginWith (sizes_of shape) xs (spelled_recipe (recipe (grown h w) (newest h + 1))) new → BeginWith (sizes_of shape) ys (records_of (fresh h w)) new →
+    StandsFor shape (with_version st stream) (cond (nat_eq (length (with_version st stream).versions - st.expired) 1) Settled (Waiting (st.base + 1))) held new
+unfolding reserve_left
+backup_stands shape st held stream xs ys old new before after stands opened_old below fits agree opens sizes is recipe_there records_there =
+    let h : History = history shape st in
+    let w : List (List ℕ) = chunks (cut_of shape) stream in
+    let c : Catalogue = before.catalogue in
+    let long : length (with_version st stream).versions ≡ length st.versions + 1 = length_push st.versions (record { stream = stream }) in
+    let shown : Shows shape st Settled held before old = stands-shows stands opened_old in
+    let count : retained_in c ≡ retained h = shown.numbers.retained in
+    let at : Phase → Type 0 = λ phase. StandsFor shape (with_version st stream) phase held new in
+    ⊎_elim
+    (λ none.
+    let last : nat_eq (length (with_version st stream).versions - st.expired) 1 ≡ true = eq-eqb _ 1 (⊎_elim (λ some. absurd (omega (arith, length-history shape st))) (λ all. omega (arith, ap length all.0, all.1)) stands.state.some) in
+    let nothing : retained h ≡ 0 = omega arith in
+    let first : after.catalogue ≡ first_catalogue c.base stream w (fresh h w) xs ys =
+    is ∙ ap (λ t. cond t (first_catalogue c.base stream w (fresh h w) xs ys) (next_catalogue c stream w (fresh h w) xs ys)) (eq-eqb (retained_in c) 0 (count ∙ nothing)) in
+    subst (λ t. at (cond t Settled (Waiting (st.base + 1)))) (sym last)
+    (first_from shape held stream xs ys new after opens sizes st (nothing-state shape st stands.state nothing) (omega (arith, below)) (omega (arith, fits, shown.reserve.fits)) (first ∙ ap (λ n. first_catalogue n stream w (fresh h w) xs ys) shown.numbers.base) recipe_there records_there))
+    (λ some.
+    let others : nat_eq (length (with_version st stream).versions - st.expired) 1 ≡ false = ne_eqb _ 1 (λ e. absurd (omega (arith, length-history shape st))) in
+    let later : after.catalogue ≡ next_catalogue c stream w (fresh h w) xs ys =
+    is ∙ ap (λ t. cond t (first_catalogue c.base stream w (fresh h w) xs ys) (next_catalogue c stream w (fresh h w) xs ys)) (ne_eqb (retained_in c) 0 (λ e. absurd (omega arith))) in
+    subst (λ t. at (cond t Settled (Waiting (st.base + 1)))) (sym others)
+    (next_version_stands shape st held stream xs ys old new before after stands opened_old some below fits agree opens sizes later recipe_there records_there))
+    (cases_lt (retained h) 1)
