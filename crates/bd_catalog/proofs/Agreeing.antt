@@ -1,8 +1,9 @@
 -- Images that agree where a store reads them open alike, and owners have the same bytes in them.
-use Rattle.std.proofs.Common.{◌≡◌, ℕ, zero, suc, ◌+◌, ◌-◌, ◌*◌, ◌%◌, ◌<◌, ◌≤◌, Bool, true, false, cond, ◌&&◌, not, List, [], ◌∷◌, ◌++◌, length, take, refl, sym, ◌∙◌, ap, subst, arith, Option, Some, None, IfSome, nat_le, nat_lt, flat_map, filter, map, get_or, replicate}
+use Rattle.std.proofs.Common.{◌≡◌, ⊎_elim, ℕ, zero, suc, ◌+◌, ◌-◌, ◌*◌, ◌%◌, ◌<◌, ◌≤◌, Bool, true, false, cond, ◌&&◌, not, List, [], ◌∷◌, ◌++◌, length, take, refl, sym, ◌∙◌, ap, subst, arith, Option, Some, None, IfSome, nat_le, nat_lt, flat_map, filter, map, get_or, replicate}
 use Rattle.std.specs.Prelude.{Result, Ok, Err, IfOk, Contains, bytes_eq, ◌==◌}
 use Rattle.std.specs.Int.{w32, w64, from_be_bytes}
-use Rattle.std.proofs.lemmas.Bool.{leb-true}
+use Rattle.std.proofs.lemmas.Bool.{leb-true, cases_lt}
+use Rattle.std.proofs.Math.Nat.{mul-le-mul_right}
 use Rattle.bd_disk.specs.Images.{InRange, Agree, bytes_at}
 use Rattle.bd_disk.proofs.Agreeing.{same_bytes_at, agree_fewer}
 use Rattle.bd_model.specs.Sizes.{Sizes, half_bytes, half_place, payload_room, extent_place, disk_bytes, is_shape}
@@ -25,6 +26,26 @@ pub record InExtents (s : Sizes) (extents : List ℕ) (place : ℕ) : Type 0 whe
   pub extent : ℕ
   pub among : Contains extents extent
   pub within : InRange (extent_place s extent) s.extent place
+
+before_next : (s : Sizes) (a b : ℕ) → a < b → extent_place s a + s.extent ≤ extent_place s b
+before_next s a b lt = omega (arith, mul-le-mul_right {m = a + 1} {n = b} s.extent (omega arith))
+
+-- a place lies in one extent
+one_extent : (s : Sizes) (a b place : ℕ) → InRange (extent_place s a) s.extent place → InRange (extent_place s b) s.extent place → a ≡ b
+one_extent s a b place in_a in_b =
+    ⊎_elim
+    (λ less. absurd (omega (arith, before_next s a b less, in_a.1, in_b.0)))
+    (λ le. ⊎_elim (λ more. absurd (omega (arith, before_next s b a more, in_b.1, in_a.0))) (λ back. omega arith) (cases_lt b a))
+    (cases_lt a b)
+
+-- owners with different extents have no place in common
+pub extents_apart : (s : Sizes) (one other : List ℕ) → ((e : ℕ) → Contains one e → Contains other e → ⊥) → (place : ℕ) → InExtents s one place → InExtents s other place → ⊥
+extents_apart s one other apart place in_one in_other =
+    apart in_one.extent in_one.among (subst (Contains other) (one_extent s in_other.extent in_one.extent place in_other.within in_one.within) in_other.among)
+
+-- superblock and halves lie before every extent
+pub front_apart : (s : Sizes) (extents : List ℕ) (place : ℕ) → InFront s place → InExtents s extents place → ⊥
+front_apart s extents place front inside = omega (arith, front, inside.within.0)
 
 -- the newest half is one of the two
 newest_by-small : (open0 : Bool) (turn0 : ℕ) (open1 : Bool) (turn1 : ℕ) → IfSome (newest_by open0 turn0 open1 turn1) (λ k. k ≤ 1)

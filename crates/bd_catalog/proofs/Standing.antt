@@ -2,7 +2,7 @@
 use Rattle.std.proofs.Common.{◌≡◌, ◌⊎◌, inl, inr, ⊎_elim, ℕ, zero, suc, ◌+◌, ◌-◌, ◌<◌, ◌≤◌, Bool, true, false, cond, List, [], ◌∷◌, ◌++◌, length, refl, sym, ◌∙◌, ap, subst, arith, filter, flat_map, map, get_or}
 use Rattle.std.specs.Prelude.{Ok, Contains}
 use Rattle.std.proofs.lemmas.List.Elements.{Contains-append_left, Contains-append_right, Contains-append_cases}
-use Rattle.bd_disk.specs.Images.{InRange, Agree}
+use Rattle.bd_disk.specs.Images.{InRange, Agree, AgreeBut}
 use Rattle.bd_disk.proofs.Agreeing.{agree_fewer}
 use Rattle.bd_model.specs.declared.shape.Shape.{Shape}
 use Rattle.bd_model.specs.declared.layout.Phase.{Phase}
@@ -11,7 +11,7 @@ use Rattle.bd_model.specs.State.{VersionState, IsState, history}
 use Rattle.bd_catalog.specs.Catalogue.{Catalogue, recipe_extents, volume_extents, active_extents, all_extents}
 use Rattle.bd_catalog.specs.Opening.{Found, opened}
 use Rattle.bd_catalog.specs.Standing.{BeginWith, HasNumbers, HasVersions, HasVolumes, HasActives, HasReserve, StandsFor, Stands}
-use Rattle.bd_catalog.proofs.Agreeing.{InFront, InExtents, opens_again, begin_with_agrees}
+use Rattle.bd_catalog.proofs.Agreeing.{InFront, InExtents, opens_again, begin_with_agrees, extents_apart, front_apart}
 
 -- what was found shows the state: all of `StandsFor` but the state's own rules and the opening
 pub record Shows (shape : Shape) (st : VersionState) (phase : Phase) (held : ℕ) (found : Found) (image : List ℕ) : Type 0 where
@@ -118,15 +118,33 @@ module _ {shape : Shape} {st : VersionState} {phase : Phase} {held : ℕ} {found
 abbrev pub InStore : Found → ℕ → Type 0
 InStore found place = InFront found.sizes place ⊎ InExtents found.sizes (all_extents found.catalogue) place
 
+-- an image stands for what another one does that opens alike and agrees on every extent that is owned
+pub stands_for_opened : {shape : Shape} {st : VersionState} {phase : Phase} {held : ℕ} {found : Found} {old new : List ℕ} →
+    opened old ≡ Ok found → opened new ≡ Ok found → Agree (InExtents found.sizes (all_extents found.catalogue)) old new → StandsFor shape st phase held old → StandsFor shape st phase held new
+stands_for_opened opens again agree stands = stands-shown stands.state again (shows_agrees agree (stands-shows stands opens))
+
 -- an image stands for what another one does that agrees with it where the store reads
 pub stands_for_agrees : {shape : Shape} {st : VersionState} {phase : Phase} {held : ℕ} {found : Found} {old new : List ℕ} →
     opened old ≡ Ok found → Agree (InStore found) old new → StandsFor shape st phase held old → StandsFor shape st phase held new
-stands_for_agrees {found = found} {old = old} {new = new} opens agree stands =
-    stands-shown stands.state
+stands_for_agrees {found = found} {old = old} {new = new} opens agree =
+    stands_for_opened opens
     (opens_again found old new opens (agree_fewer (InStore found) (InFront found.sizes) old new (λ place front. inl front) agree))
-    (shows_agrees (agree_fewer (InStore found) (InExtents found.sizes (all_extents found.catalogue)) old new (λ place owned. inr owned) agree) (stands-shows stands opens))
+    (agree_fewer (InStore found) (InExtents found.sizes (all_extents found.catalogue)) old new (λ place owned. inr owned) agree)
 
 -- the same at some phase
 pub stands_agrees : {shape : Shape} {held : ℕ} {st : VersionState} {found : Found} {old new : List ℕ} →
     opened old ≡ Ok found → Agree (InStore found) old new → Stands shape held st old → Stands shape held st new
 stands_agrees opens agree stands = record { phase = stands.phase; so = stands_for_agrees opens agree stands.so }
+
+-- ---- writes in free extents
+
+-- a write in extents that nobody owns changes no place that the store reads
+pub free_agrees : (found : Found) (extents old new : List ℕ) → ((e : ℕ) → Contains extents e → Contains (all_extents found.catalogue) e → ⊥) →
+    AgreeBut (InExtents found.sizes extents) old new → Agree (InStore found) old new
+free_agrees found extents old new free agree =
+    agree_fewer _ (InStore found) old new (λ place store written. ⊎_elim (λ front. front_apart found.sizes extents place front written) (λ owned. extents_apart found.sizes extents (all_extents found.catalogue) free place written owned) store) agree
+
+-- so the image stands for what it did
+pub free_stands : {shape : Shape} {held : ℕ} {st : VersionState} {found : Found} {extents old new : List ℕ} → opened old ≡ Ok found →
+    ((e : ℕ) → Contains extents e → Contains (all_extents found.catalogue) e → ⊥) → AgreeBut (InExtents found.sizes extents) old new → Stands shape held st old → Stands shape held st new
+free_stands {found = found} {extents = extents} {old = old} {new = new} opens free agree = stands_agrees opens (free_agrees found extents old new free agree)
