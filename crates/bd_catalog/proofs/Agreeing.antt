@@ -1,5 +1,5 @@
 -- Images that agree where a store reads them open alike, and owners have the same bytes in them.
-use Rattle.std.proofs.Common.{◌≡◌, ⊎_elim, ℕ, zero, suc, ◌+◌, ◌-◌, ◌*◌, ◌%◌, ◌<◌, ◌≤◌, Bool, true, false, cond, ◌&&◌, not, List, [], ◌∷◌, ◌++◌, length, take, refl, sym, ◌∙◌, ap, subst, arith, Option, Some, None, IfSome, nat_le, nat_lt, flat_map, filter, map, get_or, replicate}
+use Rattle.std.proofs.Common.{◌≡◌, ⊎_elim, ℕ, zero, suc, ◌+◌, ◌-◌, ◌%◌, ◌<◌, ◌≤◌, Bool, true, false, cond, ◌&&◌, not, List, [], ◌∷◌, ◌++◌, length, take, refl, sym, ◌∙◌, ap, subst, arith, Option, Some, None, IfSome, nat_le, nat_lt, replicate}
 use Rattle.std.specs.Prelude.{Result, Ok, Err, IfOk, Contains, bytes_eq, ◌==◌}
 use Rattle.std.specs.Int.{w32, w64, from_be_bytes}
 use Rattle.std.proofs.lemmas.Bool.{leb-true, cases_lt}
@@ -10,7 +10,7 @@ use Rattle.bd_model.specs.Sizes.{Sizes, half_bytes, half_place, payload_room, ex
 use Rattle.bd_model.specs.Extents.{owner_bytes}
 use Rattle.bd_model.specs.declared.place.Place.{Place}
 use Rattle.bd_model.specs.declared.place.Place.TheVariants.{Short, Gate, Magic, Number, Shape, Padding, Room, Payload}
-use Rattle.bd_gate.specs.Superblock.{open_gate, magic, byte_at, four_at, eight_at, sizes_at}
+use Rattle.bd_gate.specs.Superblock.{open_gate, magic, byte_at, four_at, sizes_at}
 use Rattle.bd_gate.specs.Halves.{Half, half_at, newest_half, newest_by, newer, is_open, turn_at, payload_of}
 use Rattle.bd_catalog.specs.Catalogue.{Catalogue}
 use Rattle.bd_catalog.specs.Rules.{catalogue_of}

@@ -1,5 +1,5 @@
 -- What a backup answers, and that the image it leaves is the one of its step.
-use Rattle.std.proofs.Common.{◌≡◌, ◌≢◌, ⊎_elim, ℕ, ◌+◌, ◌-◌, ◌<◌, ◌≤◌, true, false, cond, List, length, refl, sym, ◌∙◌, ap, subst, arith, nat_eq, nat_lt, lt-ltb, le-ltb, eq-eqb, Option, Some, option_map}
+use Rattle.std.proofs.Common.{◌≡◌, ⊎_elim, ℕ, ◌+◌, ◌<◌, ◌≤◌, cond, List, length, refl, ◌∙◌, ap, arith, nat_eq, lt-ltb, le-ltb, eq-eqb, Option, Some, option_map}
 use Rattle.std.specs.Prelude.{Ok}
 use Rattle.std.proofs.lemmas.Bool.{ne_eqb, cases_lt}
 use Rattle.std.specs.FinMap as map
@@ -14,14 +14,13 @@ use Rattle.bd_model.specs.declared.layout.Phase.{Phase}
 use Rattle.bd_model.specs.declared.layout.Phase.TheVariants.{Settled}
 use Rattle.bd_model.specs.Sizes.{sizes_of}
 use Rattle.bd_model.specs.Chunks.{chunks}
-use Rattle.bd_model.specs.History.{History, newest, retained, distinct}
+use Rattle.bd_model.specs.History.{History, newest, retained}
 use Rattle.bd_model.specs.Laws.{grown}
 use Rattle.bd_model.specs.Recipe.{recipe}
-use Rattle.bd_model.specs.Room.{fresh, need, counted, owned}
-use Rattle.bd_model.specs.State.{VersionState, empty, history, cut_of, last_number}
+use Rattle.bd_model.specs.Room.{fresh, need, counted}
+use Rattle.bd_model.specs.State.{VersionState, history, cut_of, last_number}
 use Rattle.bd_model.specs.Step.{Outcome, unchanged, backup, step, with_version, free_extents, phase_after, without_room}
 use Rattle.bd_model.specs.Records.{records_of, spelled_recipe}
-use Rattle.bd_model.proofs.ExpiryLemmas.{nothing_owned}
 use Rattle.bd_model.proofs.LawLemmas.{refusal_is_exact}
 use Rattle.bd_catalog.specs.Catalogue.{all_extents}
 use Rattle.bd_catalog.specs.Opening.{Found, opened}

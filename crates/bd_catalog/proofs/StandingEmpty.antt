@@ -1,33 +1,27 @@
 -- Images in which nothing is retained, and the first version.
-use Rattle.std.proofs.Common.{◌≡◌, ◌≢◌, ◌⊎◌, inl, inr, ⊎_elim, ℕ, zero, suc, ◌+◌, ◌-◌, ◌<◌, ◌≤◌, Bool, true, false, cond, not, List, [], ◌∷◌, ◌++◌, length, refl, sym, ◌∙◌, ap, subst, arith, filter, map, nat_eq, eq-eqb}
+use Rattle.std.proofs.Common.{◌≡◌, inr, ⊎_elim, ℕ, suc, ◌+◌, ◌-◌, ◌≤◌, true, false, not, List, [], ◌∷◌, length, refl, sym, ◌∙◌, ap, arith, filter, map}
 use Rattle.std.specs.Prelude.{Ok}
-use Rattle.std.proofs.lemmas.List.{length_push, length-map}
-use Rattle.bd_disk.specs.Images.{Agree}
+use Rattle.std.proofs.lemmas.List.{length-map}
 use Rattle.bd_model.specs.declared.shape.Shape.{Shape}
-use Rattle.bd_model.specs.declared.layout.RecipeEntry.{RecipeEntry}
 use Rattle.bd_model.specs.declared.layout.Phase.{Phase}
-use Rattle.bd_model.specs.declared.layout.Phase.TheVariants.{Settled, Waiting}
-use Rattle.bd_model.specs.Sizes.{Sizes, sizes_of}
-use Rattle.bd_model.specs.Chunks.{chunks, numbers}
+use Rattle.bd_model.specs.declared.layout.Phase.TheVariants.{Settled}
+use Rattle.bd_model.specs.Sizes.{sizes_of}
 use Rattle.bd_model.specs.History.{History, version, newest, oldest, retained, distinct, contains}
 use Rattle.bd_model.specs.Layout.{open_category, rows}
 use Rattle.bd_model.specs.Laws.{grown, entries_in}
 use Rattle.bd_model.specs.Marks.{mark}
-use Rattle.bd_model.specs.Recipe.{recipe, start_of, entry_of}
-use Rattle.bd_model.specs.Room.{fresh, need, owned, reserve_left}
-use Rattle.bd_model.specs.State.{VersionState, IsState, history, cut_of, last_number}
-use Rattle.bd_model.specs.Step.{with_version, version_line, version_lines, free_extents}
-use Rattle.bd_model.specs.Records.{records_of, spelled_recipe}
-use Rattle.bd_model.proofs.HistoryLemmas.{newest-grown, version-newest, version-grown, version-base}
+use Rattle.bd_model.specs.Recipe.{recipe, start_of}
+use Rattle.bd_model.specs.Room.{fresh, reserve_left}
+use Rattle.bd_model.specs.State.{VersionState, IsState, history, last_number}
+use Rattle.bd_model.specs.Step.{version_line, version_lines}
+use Rattle.bd_model.proofs.HistoryLemmas.{version-newest, version-grown, version-base}
 use Rattle.bd_model.proofs.ListLemmas.{numbers-none, filter-all}
-use Rattle.bd_model.proofs.LawLemmas.{a_backup_leaves_its_reserve, closed_volumes_grow}
 use Rattle.bd_model.proofs.RowLemmas.{rows_over}
-use Rattle.bd_model.proofs.StepLemmas.{length-history, history-grown}
-use Rattle.bd_catalog.specs.Catalogue.{Catalogue, VersionEntry, VolumeEntry, OpenEntry, oldest_in, recipe_extents, all_extents}
+use Rattle.bd_model.proofs.StepLemmas.{length-history}
+use Rattle.bd_catalog.specs.Catalogue.{Catalogue}
 use Rattle.bd_catalog.specs.Opening.{Found, opened}
-use Rattle.bd_catalog.specs.Standing.{BeginWith, HasNumbers, HasVersions, HasVolumes, HasActives, HasReserve, StandsFor, lines_from, open_rows}
-use Rattle.bd_catalog.proofs.Agreeing.{InExtents}
-use Rattle.bd_catalog.proofs.Standing.{Shows, stands-shows, shows_agrees, stands_by_parts}
+use Rattle.bd_catalog.specs.Standing.{HasNumbers, HasVersions, HasVolumes, HasActives, StandsFor}
+use Rattle.bd_catalog.proofs.Standing.{Shows, stands-shows, stands_by_parts}
 use Rattle.bd_model.proofs.ExpiryLemmas.{nothing_owned}
 use Rattle.bd_model.specs.State.{empty}
 use Rattle.bd_catalog.specs.Catalogue.{retained_in, empty_catalogue}

@@ -1,5 +1,5 @@
 -- A backup into an empty store.
-use Rattle.std.proofs.Common.{◌≡◌, ℕ, ◌+◌, ◌-◌, ◌<◌, ◌≤◌, List, [], ◌∷◌, length, refl, sym, ◌∙◌, ap, subst, arith, Some, flat_map, filter, sum_by}
+use Rattle.std.proofs.Common.{◌≡◌, ℕ, ◌+◌, ◌-◌, ◌<◌, ◌≤◌, List, [], length, refl, sym, ◌∙◌, ap, subst, arith, Some}
 use Rattle.std.specs.Prelude.{Ok}
 use Rattle.std.specs.FinMap as map
 use Rattle.bd_model.specs.FileMap.{FileMap}
@@ -9,19 +9,17 @@ use Rattle.bd_model.specs.declared.command.Command.TheVariants.{Backup}
 use Rattle.bd_model.specs.declared.layout.Phase.{Phase}
 use Rattle.bd_model.specs.declared.layout.Phase.TheVariants.{Settled}
 use Rattle.bd_model.specs.Sizes.{sizes_of}
-use Rattle.bd_model.specs.Chunks.{chunks, numbers}
-use Rattle.bd_model.specs.History.{History, newest, distinct}
-use Rattle.bd_model.specs.Layout.{open_category, record_bytes}
-use Rattle.bd_model.specs.Laws.{grown, entries_in}
-use Rattle.bd_model.specs.Recipe.{recipe}
-use Rattle.bd_model.specs.Room.{up, recipe_bytes, fresh, kept, archived, lacks_some, need, counted, owned}
-use Rattle.bd_model.specs.State.{VersionState, empty, history, cut_of, last_number}
-use Rattle.bd_model.specs.Step.{unchanged, backup, step, with_version, free_extents}
+use Rattle.bd_model.specs.Chunks.{chunks}
+use Rattle.bd_model.specs.History.{History, distinct}
+use Rattle.bd_model.specs.Layout.{record_bytes}
+use Rattle.bd_model.specs.Laws.{entries_in}
+use Rattle.bd_model.specs.Room.{up, recipe_bytes, need, counted}
+use Rattle.bd_model.specs.State.{VersionState, empty, cut_of}
+use Rattle.bd_model.specs.Step.{unchanged, step, with_version, free_extents}
 use Rattle.bd_model.specs.Records.{records_of, spelled_recipe}
 use Rattle.bd_model.proofs.ExpiryLemmas.{nothing_owned}
-use Rattle.bd_model.proofs.ListLemmas.{numbers-none}
 use Rattle.bd_model.proofs.RoomLemmas.{up-zero}
-use Rattle.bd_catalog.specs.Catalogue.{Catalogue, empty_catalogue}
+use Rattle.bd_catalog.specs.Catalogue.{empty_catalogue}
 use Rattle.bd_catalog.specs.Opening.{Found, opened}
 use Rattle.bd_catalog.specs.Standing.{BeginWith, StandsFor}
 use Rattle.bd_catalog.proofs.Standing.{Shows, stands-shows}

@@ -1,19 +1,18 @@
 -- What an image stands for where its catalogue has a version more.
-use Rattle.std.proofs.Common.{◌≡◌, ◌≢◌, ◌⊎◌, ⊎_elim, ℕ, zero, suc, ◌+◌, ◌-◌, ◌<◌, ◌≤◌, Bool, true, false, cond, not, ◌&&◌, List, [], ◌∷◌, ◌++◌, length, take, refl, sym, ◌∙◌, ap, subst, arith, filter, flat_map, map, get_or, nat_eq, nat_lt, lt-ltb, eq-eqb, length-append}
+use Rattle.std.proofs.Common.{◌≡◌, ⊎_elim, ℕ, ◌+◌, ◌-◌, ◌<◌, ◌≤◌, Bool, true, false, cond, List, [], ◌∷◌, ◌++◌, length, take, refl, sym, ◌∙◌, ap, subst, arith, filter, flat_map, map, get_or, nat_eq, nat_lt, lt-ltb, eq-eqb}
 use Rattle.std.proofs.lemmas.Bool.{ne_eqb, cases_lt}
 use Rattle.std.proofs.lemmas.List.{map-append, append-nil, length-map, length_push, get_or_at, get_or_append_left}
 use Rattle.std.proofs.lemmas.List.FromFn.{length-map-range_with_len}
 use Rattle.std.proofs.lemmas.List.Elements.{filter-append}
-use Rattle.std.proofs.lemmas.Grind.{flat_map-append}
 use Rattle.bd_model.specs.declared.shape.Shape.{Shape}
 use Rattle.bd_model.specs.declared.answer.VersionLine.{VersionLine}
 use Rattle.bd_model.specs.declared.layout.CategoryRow.{CategoryRow}
 use Rattle.bd_model.specs.declared.layout.Phase.{Phase}
 use Rattle.bd_model.specs.declared.layout.Phase.TheVariants.{Settled, Waiting}
-use Rattle.bd_model.specs.Sizes.{Sizes, sizes_of}
+use Rattle.bd_model.specs.Sizes.{Sizes}
 use Rattle.bd_model.specs.Extents.{owner_bytes}
 use Rattle.bd_model.specs.Chunks.{chunks, numbers}
-use Rattle.bd_model.specs.History.{History, version, newest, oldest, retained}
+use Rattle.bd_model.specs.History.{History, newest, oldest}
 use Rattle.bd_model.specs.Layout.{closed_volume, open_category, row_of, rows}
 use Rattle.bd_model.specs.Laws.{grown}
 use Rattle.bd_model.specs.Recipe.{recipe}
@@ -22,13 +21,13 @@ use Rattle.bd_model.specs.State.{VersionState, history, cut_of}
 use Rattle.bd_model.specs.Step.{with_version, version_line, version_lines}
 use Rattle.bd_model.specs.Records.{records_of, spelled_recipe}
 use Rattle.bd_model.proofs.HistoryLemmas.{newest-grown}
-use Rattle.bd_model.proofs.ListLemmas.{numbers-suc, numbers-none}
+use Rattle.bd_model.proofs.ListLemmas.{numbers-suc}
 use Rattle.bd_model.proofs.LawLemmas.{closed_volumes_grow}
 use Rattle.bd_model.proofs.GrownLemmas.{recipes_stay, lines_stay}
-use Rattle.bd_model.proofs.RowLemmas.{rows_over, rows_over-same, no_chunks}
+use Rattle.bd_model.proofs.RowLemmas.{rows_over, rows_over-same}
 use Rattle.bd_model.proofs.StepLemmas.{length-history, history-grown}
-use Rattle.bd_catalog.specs.Catalogue.{Catalogue, VersionEntry, VolumeEntry, OpenEntry, retained_in, oldest_in, recipe_extents, volume_extents, active_extents}
-use Rattle.bd_catalog.specs.Standing.{BeginWith, HasNumbers, HasVersions, HasVolumes, HasActives, lines_from, open_rows}
+use Rattle.bd_catalog.specs.Catalogue.{Catalogue, VersionEntry, VolumeEntry, OpenEntry, oldest_in, recipe_extents, volume_extents, active_extents}
+use Rattle.bd_catalog.specs.Standing.{BeginWith, HasNumbers, HasVolumes, HasActives, lines_from, open_rows}
 use Rattle.bd_catalog.proofs.StandingLists.{line_of, lines_from-push, map-numbers, rows_over-push, rows_over-past, filter-map_none, rows-earlier, newest_rows-empty, newest_volume-empty}
 
 -- the catalogue with a version more, and with more volumes and open categories
@@ -198,11 +197,11 @@ module _ (h : History) (w : List (List ℕ)) (c : Catalogue) (kept : h.expired �
               map-append (λ e. e.rows) c.volumes (empty_volume ∷ [])
               ∙ (λ k. has.rows k ++ [] ∷ [])
               ∙ sym (
-                ap (λ n. map f (numbers (oldest h) n)) last
-                ∙ ap (map f) (numbers-suc (oldest h) (newest h - 1) (omega arith))
-                ∙ map-append f (numbers (oldest h) (newest h - 1)) ((newest h - 1 + 1) ∷ [])
-                ∙ (λ k. map-numbers f (rows h Settled) (oldest h) (newest h - 1) (λ j low high. rows-earlier h w waiting j low (omega arith)) k
-                ++ (ap f back ∙ newest_rows-empty h w (omega arith)) k ∷ [])
+              ap (λ n. map f (numbers (oldest h) n)) last
+              ∙ ap (map f) (numbers-suc (oldest h) (newest h - 1) (omega arith))
+              ∙ map-append f (numbers (oldest h) (newest h - 1)) ((newest h - 1 + 1) ∷ [])
+              ∙ (λ k. map-numbers f (rows h Settled) (oldest h) (newest h - 1) (λ j low high. rows-earlier h w waiting j low (omega arith)) k
+              ++ (ap f back ∙ newest_rows-empty h w (omega arith)) k ∷ [])
               );
           records = λ j low high.
               ⊎_elim
@@ -236,8 +235,8 @@ module _ (shape : Shape) (st : VersionState) (stream : List ℕ) (c : Catalogue)
       ∙ lines_from-push (oldest_in c) c.versions entry
       ∙ (λ k. lines k ++ line_of (first k) entry ∷ [])
       ∙ sym (
-        ap (λ n. map f (numbers (oldest h) n)) last
-        ∙ ap (map f) (numbers-suc (oldest h) (newest h) (omega arith))
-        ∙ map-append f (numbers (oldest h) (newest h)) ((newest h + 1) ∷ [])
-        ∙ (λ k. map-numbers f (version_line st h) (oldest h) (newest h) (λ v low high. lines_stay.earlier shape st stream v high) k ++ lines_stay.own shape st stream k ∷ [])
+      ap (λ n. map f (numbers (oldest h) n)) last
+      ∙ ap (map f) (numbers-suc (oldest h) (newest h) (omega arith))
+      ∙ map-append f (numbers (oldest h) (newest h)) ((newest h + 1) ∷ [])
+      ∙ (λ k. map-numbers f (version_line st h) (oldest h) (newest h) (λ v low high. lines_stay.earlier shape st stream v high) k ++ lines_stay.own shape st stream k ∷ [])
       )

@@ -1,15 +1,15 @@
 -- Lists of entries and rows with one more at the end, and the rows of a history with a version more.
-use Rattle.std.proofs.Common.{◌≡◌, ◌≢◌, ◌⊎◌, ⊎_elim, ℕ, zero, suc, ◌+◌, ◌-◌, ◌<◌, ◌≤◌, Bool, true, false, cond, not, ◌||◌, ◌&&◌, List, [], ◌∷◌, ◌++◌, length, refl, sym, ◌∙◌, ap, arith, filter, map, nat_eq, nat_lt, lt-ltb, le-ltb, eq-eqb, sum_by, flat_map, add-zero}
+use Rattle.std.proofs.Common.{◌≡◌, ⊎_elim, ℕ, zero, suc, ◌+◌, ◌-◌, ◌<◌, ◌≤◌, Bool, true, false, cond, ◌||◌, ◌&&◌, List, [], ◌∷◌, ◌++◌, length, refl, sym, ◌∙◌, ap, arith, filter, map, nat_eq, nat_lt, lt-ltb, le-ltb, eq-eqb, sum_by, flat_map, add-zero}
 use Rattle.std.specs.List.{range_with_len}
-use Rattle.std.proofs.lemmas.Bool.{ne_eqb, cases_lt, ltb-true, ltb-false}
-use Rattle.std.proofs.lemmas.List.{map-append, append-nil}
+use Rattle.std.proofs.lemmas.Bool.{ne_eqb, cases_lt, ltb-true}
+use Rattle.std.proofs.lemmas.List.{map-append}
 use Rattle.std.proofs.lemmas.List.Sums.{sum_by-cons}
 use Rattle.std.proofs.lemmas.List.Elements.{filter-append}
 use Rattle.bd_model.specs.Chunks.{numbers}
 use Rattle.bd_model.specs.History.{History, newest, oldest}
 use Rattle.bd_model.specs.Category.{category}
 use Rattle.bd_model.specs.Layout.{closed_volume, is_closed, is_arranged, row_chunks, row_of, rows}
-use Rattle.bd_model.specs.Laws.{grown, RowsDescribeTheVolume, ClosedVolumesGrow}
+use Rattle.bd_model.specs.Laws.{grown}
 use Rattle.bd_model.specs.Room.{archived}
 use Rattle.bd_model.specs.declared.answer.VersionLine.{VersionLine}
 use Rattle.bd_model.specs.declared.layout.CategoryRow.{CategoryRow}
