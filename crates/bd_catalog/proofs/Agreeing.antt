@@ -1,9 +1,10 @@
 -- Images that agree where a store reads them open alike, and owners have the same bytes in them.
-use Rattle.std.proofs.Common.{◌≡◌, ⊎_elim, ℕ, zero, suc, ◌+◌, ◌-◌, ◌%◌, ◌<◌, ◌≤◌, Bool, true, false, cond, ◌&&◌, not, List, [], ◌∷◌, ◌++◌, length, take, refl, sym, ◌∙◌, ap, subst, arith, Option, Some, None, IfSome, nat_le, nat_lt, replicate}
+use Rattle.std.proofs.Common.{◌≡◌, ⊎_elim, ℕ, zero, suc, ◌+◌, ◌-◌, ◌*◌, ◌/◌, ◌%◌, get_or, ◌<◌, ◌≤◌, Bool, true, false, cond, ◌&&◌, not, List, [], ◌∷◌, ◌++◌, length, take, refl, sym, ◌∙◌, ap, subst, arith, Option, Some, None, IfSome, nat_le, nat_lt, replicate}
 use Rattle.std.specs.Prelude.{Result, Ok, Err, IfOk, Contains, bytes_eq, ◌==◌}
 use Rattle.std.specs.Int.{w32, w64, from_be_bytes}
 use Rattle.std.proofs.lemmas.Bool.{leb-true, cases_lt}
-use Rattle.std.proofs.Math.Nat.{mul-le-mul_right}
+use Rattle.std.proofs.Math.Nat.{mul-le-mul_right, div-lt_iff_lt-mul, mod-lt}
+use Rattle.std.proofs.lemmas.List.Elements.{Contains-get_or}
 use Rattle.bd_disk.specs.Images.{InRange, Agree, bytes_at}
 use Rattle.bd_disk.proofs.Agreeing.{same_bytes_at, agree_fewer}
 use Rattle.bd_model.specs.Sizes.{Sizes, half_bytes, half_place, payload_room, extent_place, disk_bytes, is_shape}
@@ -16,6 +17,7 @@ use Rattle.bd_catalog.specs.Catalogue.{Catalogue}
 use Rattle.bd_catalog.specs.Rules.{catalogue_of}
 use Rattle.bd_catalog.specs.Opening.{Found, opened, opened_half, opened_payload}
 use Rattle.bd_catalog.specs.Standing.{BeginWith}
+use Rattle.bd_catalog.proofs.StandingFound.{newest_by-small, opened_by, opened-is, opened-found}
 
 -- the places of superblock and halves
 abbrev pub InFront : Sizes → ℕ → Type 0
@@ -26,6 +28,16 @@ pub record InExtents (s : Sizes) (extents : List ℕ) (place : ℕ) : Type 0 whe
   pub extent : ℕ
   pub among : Contains extents extent
   pub within : InRange (extent_place s extent) s.extent place
+
+-- a byte of an owner lies in its extents
+pub in_extents : (s : Sizes) (extents : List ℕ) → 1 ≤ s.extent → (at : ℕ) → at < length extents * s.extent → InExtents s extents (extent_place s (get_or extents (at / s.extent) 0) + at % s.extent)
+in_extents s extents some at lt =
+    let positive : 0 < s.extent = omega arith in
+    record {
+      extent = get_or extents (at / s.extent) 0;
+      among = Contains-get_or extents (at / s.extent) 0 ((div-lt_iff_lt-mul {k = s.extent} {x = at} {y = length extents} positive).1 lt);
+      within = (omega arith, omega (arith, mod-lt at positive));
+    }
 
 before_next : (s : Sizes) (a b : ℕ) → a < b → extent_place s a + s.extent ≤ extent_place s b
 before_next s a b lt = omega (arith, mul-le-mul_right {m = a + 1} {n = b} s.extent (omega arith))
@@ -39,85 +51,13 @@ one_extent s a b place in_a in_b =
     (cases_lt a b)
 
 -- owners with different extents have no place in common
-pub extents_apart : (s : Sizes) (one other : List ℕ) → ((e : ℕ) → Contains one e → Contains other e → ⊥) → (place : ℕ) → InExtents s one place → InExtents s other place → ⊥
-extents_apart s one other apart place in_one in_other =
+pub owners_apart : (s : Sizes) (one other : List ℕ) → ((e : ℕ) → Contains one e → Contains other e → ⊥) → (place : ℕ) → InExtents s one place → InExtents s other place → ⊥
+owners_apart s one other apart place in_one in_other =
     apart in_one.extent in_one.among (subst (Contains other) (one_extent s in_other.extent in_one.extent place in_other.within in_one.within) in_other.among)
 
 -- superblock and halves lie before every extent
 pub front_apart : (s : Sizes) (extents : List ℕ) (place : ℕ) → InFront s place → InExtents s extents place → ⊥
 front_apart s extents place front inside = omega (arith, front, inside.within.0)
-
--- the newest half is one of the two
-newest_by-small : (open0 : Bool) (turn0 : ℕ) (open1 : Bool) (turn1 : ℕ) → IfSome (newest_by open0 turn0 open1 turn1) (λ k. k ≤ 1)
-unfolding newest_by
-newest_by-small true turn0 true turn1 =
-    elim (nat_le turn0 2 && nat_le turn1 2) as (λ t. IfSome (cond t (newer turn0 turn1) None) (λ k. k ≤ 1)) [
-      | true ↦ elim (turn1 == (turn0 + 1) % 3) as (λ t. IfSome (cond t (Some 1) (cond (turn0 == (turn1 + 1) % 3) (Some 0) None)) (λ k. k ≤ 1)) [
-        | true ↦ omega arith
-        | false ↦ elim (turn0 == (turn1 + 1) % 3) as (λ t. IfSome (cond t (Some 0) None) (λ k. k ≤ 1)) [ true ↦ omega arith | false ↦ tt ]
-      ]
-      | false ↦ tt
-    ]
-newest_by-small true turn0 false turn1 = elim (nat_le turn0 2) as (λ t. IfSome (cond t (Some 0) None) (λ k. k ≤ 1)) [ true ↦ omega arith | false ↦ tt ]
-newest_by-small false turn0 open1 turn1 = elim (open1 && nat_le turn1 2) as (λ t. IfSome (cond t (Some 1) None) (λ k. k ≤ 1)) [ true ↦ omega arith | false ↦ tt ]
-
--- the checks of an opening, on what they read
-abbrev opened_by : Sizes → ℕ → ℕ → List ℕ → ℕ → List ℕ → Result Found Place → Result Found Place
-opened_by s long gate mark number padding half =
-    cond (nat_lt long 64) (Err Short)
-    (cond (not (gate == open_gate)) (Err Gate)
-    (cond (not (bytes_eq mark magic)) (Err Magic)
-    (cond (not (number == 1)) (Err Number)
-    (cond (not (is_shape s)) (Err Shape)
-    (cond (not (bytes_eq padding (replicate 28 0))) (Err Padding)
-    (cond (nat_lt long (disk_bytes s)) (Err Room) half))))))
-
-opened-is : (image : List ℕ) → opened image ≡ opened_by (sizes_at image) (length image) (byte_at image 0) (bytes_at 1 7 image) (four_at image 8) (bytes_at 36 28 image) (opened_half (sizes_at image) image (newest_half (sizes_at image) image))
-unfolding opened
-opened-is image = refl
-
--- what a passed check leaves
-passed : (P : Found → Type 0) (failed : Bool) (place : Place) (rest : Result Found Place) → IfOk rest P → IfOk (cond failed (Err place) rest) P
-passed P true place rest holds = tt
-passed P false place rest holds = holds
-
-half_sizes : (s : Sizes) (image : List ℕ) (k : Option ℕ) → IfOk (opened_half s image k) (λ found. found.sizes ≡ s)
-half_sizes s image None = tt
-half_sizes s image (Some k) =
-    let half = half_at s image k in
-    elim (nat_le half.length (payload_room s)) as (λ t. IfOk (cond t (opened_payload s half image (catalogue_of s (payload_of s half image))) (Err Payload)) (λ found. found.sizes ≡ s)) [
-      | true ↦ payload (catalogue_of s (payload_of s half image))
-      | false ↦ tt
-    ]
-  where
-    payload : (c : Option Catalogue) → IfOk (opened_payload s (half_at s image k) image c) (λ found. found.sizes ≡ s)
-    payload None = tt
-    payload (Some c) = refl
-
-opened_by-finds : (P : Found → Type 0) (s : Sizes) (long gate : ℕ) (mark : List ℕ) (number : ℕ) (padding : List ℕ) (half : Result Found Place) → IfOk half P → IfOk (opened_by s long gate mark number padding half) P
-opened_by-finds P s long gate mark number padding half holds =
-    let room = cond (nat_lt long (disk_bytes s)) (Err Room) half in
-    let pad = cond (not (bytes_eq padding (replicate 28 0))) (Err Padding) room in
-    let shape = cond (not (is_shape s)) (Err Shape) pad in
-    let format = cond (not (number == 1)) (Err Number) shape in
-    let text = cond (not (bytes_eq mark magic)) (Err Magic) format in
-    let first = cond (not (gate == open_gate)) (Err Gate) text in
-    passed P (nat_lt long 64) Short first
-    (passed P (not (gate == open_gate)) Gate text
-    (passed P (not (bytes_eq mark magic)) Magic format
-    (passed P (not (number == 1)) Number shape
-    (passed P (not (is_shape s)) Shape pad
-    (passed P (not (bytes_eq padding (replicate 28 0))) Padding room
-    (passed P (nat_lt long (disk_bytes s)) Room half holds))))))
-
--- an opening finds the sizes that the superblock names
-opened-sizes : (image : List ℕ) (found : Found) → opened image ≡ Ok found → found.sizes ≡ sizes_at image
-opened-sizes image found opens =
-    let s = sizes_at image in
-    let half = opened_half s image (newest_half s image) in
-    let finds : IfOk (opened_by s (length image) (byte_at image 0) (bytes_at 1 7 image) (four_at image 8) (bytes_at 36 28 image) half) (λ f. f.sizes ≡ s) =
-    opened_by-finds (λ f. f.sizes ≡ s) s (length image) (byte_at image 0) (bytes_at 1 7 image) (four_at image 8) (bytes_at 36 28 image) half (half_sizes s image (newest_half s image)) in
-    subst (λ r. IfOk r (λ f. f.sizes ≡ s)) (sym (opened-is image) ∙ opens) finds
 
 module _ (s : Sizes) (old new : List ℕ) (agree : Agree (InFront s) old new) where
   same_at : (at n : ℕ) → at + n ≤ extent_place s 0 → bytes_at at n new ≡ bytes_at at n old
@@ -199,7 +139,7 @@ same_opened old new agree =
 
 -- so what was found is found again
 pub opens_again : (found : Found) (old new : List ℕ) → opened old ≡ Ok found → Agree (InFront found.sizes) old new → opened new ≡ Ok found
-opens_again found old new opens agree = same_opened old new (subst (λ s. Agree (InFront s) old new) (opened-sizes old found opens) agree) ∙ opens
+opens_again found old new opens agree = same_opened old new (subst (λ s. Agree (InFront s) old new) (opened-found old found opens).sizes agree) ∙ opens
 
 -- the bytes of an owner are the same in images that agree on its extents
 pub same_owner_bytes : (s : Sizes) (extents old new : List ℕ) → Agree (InExtents s extents) old new → owner_bytes s extents new ≡ owner_bytes s extents old

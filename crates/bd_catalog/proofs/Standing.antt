@@ -11,7 +11,7 @@ use Rattle.bd_model.specs.State.{VersionState, IsState, history}
 use Rattle.bd_catalog.specs.Catalogue.{Catalogue, recipe_extents, volume_extents, active_extents, all_extents}
 use Rattle.bd_catalog.specs.Opening.{Found, opened}
 use Rattle.bd_catalog.specs.Standing.{BeginWith, HasNumbers, HasVersions, HasVolumes, HasActives, HasReserve, StandsFor, Stands}
-use Rattle.bd_catalog.proofs.Agreeing.{InFront, InExtents, opens_again, begin_with_agrees, extents_apart, front_apart}
+use Rattle.bd_catalog.proofs.Agreeing.{InFront, InExtents, opens_again, begin_with_agrees, owners_apart, front_apart}
 
 -- what was found shows the state: all of `StandsFor` but the state's own rules and the opening
 pub record Shows (shape : Shape) (st : VersionState) (phase : Phase) (held : ℕ) (found : Found) (image : List ℕ) : Type 0 where
@@ -142,7 +142,7 @@ stands_agrees opens agree stands = record { phase = stands.phase; so = stands_fo
 pub free_agrees : (found : Found) (extents old new : List ℕ) → ((e : ℕ) → Contains extents e → Contains (all_extents found.catalogue) e → ⊥) →
     AgreeBut (InExtents found.sizes extents) old new → Agree (InStore found) old new
 free_agrees found extents old new free agree =
-    agree_fewer _ (InStore found) old new (λ place store written. ⊎_elim (λ front. front_apart found.sizes extents place front written) (λ owned. extents_apart found.sizes extents (all_extents found.catalogue) free place written owned) store) agree
+    agree_fewer _ (InStore found) old new (λ place store written. ⊎_elim (λ front. front_apart found.sizes extents place front written) (λ owned. owners_apart found.sizes extents (all_extents found.catalogue) free place written owned) store) agree
 
 -- so the image stands for what it did
 pub free_stands : {shape : Shape} {held : ℕ} {st : VersionState} {found : Found} {extents old new : List ℕ} → opened old ≡ Ok found →
