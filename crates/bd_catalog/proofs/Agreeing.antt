@@ -17,7 +17,7 @@ use Rattle.bd_catalog.specs.Catalogue.{Catalogue}
 use Rattle.bd_catalog.specs.Rules.{catalogue_of}
 use Rattle.bd_catalog.specs.Opening.{Found, opened, opened_half, opened_payload}
 use Rattle.bd_catalog.specs.Standing.{BeginWith}
-use Rattle.bd_catalog.proofs.StandingFound.{newest_by-small, opened_by, opened-is, opened-found}
+use Rattle.bd_catalog.proofs.StandingFound.{newest_by-small, opened_by, opened-is, opened-found, checks_passed}
 
 -- the places of superblock and halves
 abbrev pub InFront : Sizes → ℕ → Type 0
@@ -59,26 +59,51 @@ owners_apart s one other apart place in_one in_other =
 pub front_apart : (s : Sizes) (extents : List ℕ) (place : ℕ) → InFront s place → InExtents s extents place → ⊥
 front_apart s extents place front inside = omega (arith, front, inside.within.0)
 
+-- the places of the superblock
+abbrev pub InSuperblock : ℕ → Type 0
+InSuperblock place = place < 64
+
+module _ (old new : List ℕ) (agree : Agree InSuperblock old new) where
+  super_at : (at n : ℕ) → at + n ≤ 64 → bytes_at at n new ≡ bytes_at at n old
+  super_at at n within = same_bytes_at InSuperblock old new at n (λ place r. omega (arith, r.1, within)) agree
+
+  super_four : (at : ℕ) → at + 4 ≤ 64 → four_at new at ≡ four_at old at
+  super_four at within = ap (from_be_bytes w32) (super_at at 4 within)
+
+  -- images that agree on the superblock name the same sizes
+  pub same_sizes : sizes_at new ≡ sizes_at old
+  same_sizes = λ k. record {
+    extent = super_four 12 (omega arith) k;
+    extents = super_four 16 (omega arith) k;
+    retain = super_four 20 (omega arith) k;
+    min = super_four 24 (omega arith) k;
+    bits = super_four 28 (omega arith) k;
+    max = super_four 32 (omega arith) k;
+  }
+
+  -- and pass the same checks
+  same_checks : (half : Result Found Place) →
+      opened_by (sizes_at new) (length new) (byte_at new 0) (bytes_at 1 7 new) (four_at new 8) (bytes_at 36 28 new) half
+      ≡ opened_by (sizes_at old) (length old) (byte_at old 0) (bytes_at 1 7 old) (four_at old 8) (bytes_at 36 28 old) half
+  same_checks half = λ k. opened_by (same_sizes k) (agree.size k) (agree.each 0 (omega arith) k) (super_at 1 7 (omega arith) k) (super_four 8 (omega arith) k) (super_at 36 28 (omega arith) k) half
+
+  -- an image opens by its newest half, where it has the superblock of one that opens
+  pub opens_by_half : (before found : Found) → opened old ≡ Ok before → opened_half before.sizes new (newest_half before.sizes new) ≡ Ok found → opened new ≡ Ok found
+  opens_by_half before found opens half =
+      let s : before.sizes ≡ sizes_at old = (opened-found old before opens).sizes in
+      let same : sizes_at new ≡ before.sizes = same_sizes ∙ sym s in
+      let here : opened_half (sizes_at new) new (newest_half (sizes_at new) new) ≡ Ok found = ap (λ t. opened_half t new (newest_half t new)) same ∙ half in
+      opened-is new ∙ same_checks (opened_half (sizes_at new) new (newest_half (sizes_at new) new))
+      ∙ checks_passed (sizes_at old) (length old) (byte_at old 0) (bytes_at 1 7 old) (four_at old 8) (bytes_at 36 28 old)
+      (opened_half (sizes_at old) old (newest_half (sizes_at old) old)) (opened_half (sizes_at new) new (newest_half (sizes_at new) new)) before (sym (opened-is old) ∙ opens)
+      ∙ here
+
 module _ (s : Sizes) (old new : List ℕ) (agree : Agree (InFront s) old new) where
   same_at : (at n : ℕ) → at + n ≤ extent_place s 0 → bytes_at at n new ≡ bytes_at at n old
   same_at at n within = same_bytes_at (InFront s) old new at n (λ place r. omega (arith, r.1, within)) agree
 
   same_byte : (at : ℕ) → at < extent_place s 0 → byte_at new at ≡ byte_at old at
   same_byte at within = agree.each at within
-
-  same_four : (at : ℕ) → at + 4 ≤ extent_place s 0 → four_at new at ≡ four_at old at
-  same_four at within = ap (from_be_bytes w32) (same_at at 4 within)
-
-  -- so does the whole superblock
-  same_sizes : sizes_at new ≡ sizes_at old
-  same_sizes = λ k. record {
-    extent = same_four 12 (omega arith) k;
-    extents = same_four 16 (omega arith) k;
-    retain = same_four 20 (omega arith) k;
-    min = same_four 24 (omega arith) k;
-    bits = same_four 28 (omega arith) k;
-    max = same_four 32 (omega arith) k;
-  }
 
   half_within : (k : ℕ) → k ≤ 1 → half_place s k + half_bytes s ≤ extent_place s 0
   half_within zero le = omega arith
@@ -129,12 +154,14 @@ module _ (s : Sizes) (old new : List ℕ) (agree : Agree (InFront s) old new) wh
 pub same_opened : (old new : List ℕ) → Agree (InFront (sizes_at old)) old new → opened new ≡ opened old
 same_opened old new agree =
     let s = sizes_at old in
+    let super : Agree InSuperblock old new = agree_fewer (InFront s) InSuperblock old new (λ place lt. omega (arith, lt)) agree in
     let half : opened_half (sizes_at new) new (newest_half (sizes_at new) new) ≡ opened_half s old (newest_half s old) =
-    ap (λ t. opened_half t new (newest_half t new)) (same_sizes s old new agree)
+    ap (λ t. opened_half t new (newest_half t new)) (same_sizes old new super)
     ∙ ap (opened_half s new) (same_newest s old new agree)
     ∙ same_opened_half s old new agree (newest_half s old) (newest_by-small (is_open s old 0) (turn_at s old 0) (is_open s old 1) (turn_at s old 1)) in
     opened-is new
-    ∙ (λ k. opened_by (same_sizes s old new agree k) (agree.size k) (same_byte s old new agree 0 (omega arith) k) (same_at s old new agree 1 7 (omega arith) k) (same_four s old new agree 8 (omega arith) k) (same_at s old new agree 36 28 (omega arith) k) (half k))
+    ∙ same_checks old new super (opened_half (sizes_at new) new (newest_half (sizes_at new) new))
+    ∙ ap (opened_by s (length old) (byte_at old 0) (bytes_at 1 7 old) (four_at old 8) (bytes_at 36 28 old)) half
     ∙ sym (opened-is old)
 
 -- so what was found is found again

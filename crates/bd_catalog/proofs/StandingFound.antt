@@ -1,5 +1,5 @@
 -- What is known of an image that opens.
-use Rattle.std.proofs.Common.{◌≡◌, ℕ, ◌+◌, ◌%◌, ◌≤◌, Bool, true, false, cond, ◌&&◌, not, List, length, refl, sym, ◌∙◌, ap, subst, arith, Option, Some, None, IfSome, nat_le, nat_lt, replicate}
+use Rattle.std.proofs.Common.{◌≡◌, ℕ, ◌+◌, ◌%◌, ◌≤◌, Bool, true, false, cond, ◌&&◌, not, List, [], ◌∷◌, length, refl, sym, ◌∙◌, ap, subst, arith, Option, Some, None, IfSome, nat_le, nat_lt, replicate}
 use Rattle.std.specs.Prelude.{Result, Ok, Err, IfOk, IsTrue, bytes_eq, ◌==◌}
 use Rattle.std.proofs.lemmas.Bool.{leb-true, ltb-false}
 use Rattle.bd_disk.specs.Images.{bytes_at}
@@ -125,3 +125,30 @@ opened-found image found opens =
     opened_by-finds (IsFound image) s (length image) (byte_at image 0) (bytes_at 1 7 image) (four_at image 8) (bytes_at 36 28 image) half
     (λ shaped room. found_half image shaped room (newest_half s image) refl) in
     subst (λ r. IfOk r (IsFound image)) (sym (opened-is image) ∙ opens) finds
+
+-- ---- the checks before the halves
+
+-- the checks that fail with these places, one after the other
+abbrev checks : List (Bool × Place) → Result Found Place → Result Found Place
+checks [] half = half
+checks (c ∷ cs) half = cond c.0 (Err c.1) (checks cs half)
+
+all_passed : (cs : List (Bool × Place)) (half other : Result Found Place) (found : Found) → checks cs half ≡ Ok found → checks cs other ≡ other
+all_passed [] half other found = λ e. refl
+all_passed (c ∷ cs) half other found =
+    elim c.0 as (λ t. cond t (Err c.1) (checks cs half) ≡ Ok found → cond t (Err c.1) (checks cs other) ≡ other) [
+      | true ↦ λ e. absurd (no_ok c.1 found e)
+      | false ↦ all_passed cs half other found
+    ]
+  where
+    no_ok : (place : Place) (f : Found) → Err place ≡ Ok f → ⊥
+    no_ok place f e = cc
+
+-- checks that one image passed leave to its halves what is found, whatever they hold
+pub checks_passed : (s : Sizes) (long gate : ℕ) (mark : List ℕ) (number : ℕ) (padding : List ℕ) (half other : Result Found Place) (found : Found) →
+    opened_by s long gate mark number padding half ≡ Ok found → opened_by s long gate mark number padding other ≡ other
+checks_passed s long gate mark number padding half other found =
+    all_passed
+    ((nat_lt long 64, Short) ∷ (not (gate == open_gate), Gate) ∷ (not (bytes_eq mark magic), Magic) ∷ (not (number == 1), Number) ∷ (not (is_shape s), Shape)
+    ∷ (not (bytes_eq padding (replicate 28 0)), Padding) ∷ (nat_lt long (disk_bytes s), Room) ∷ [])
+    half other found
