@@ -1,23 +1,25 @@
 -- Images that agree where a store reads them open alike, and owners have the same bytes in them.
-use Rattle.std.proofs.Common.{◌≡◌, ⊎_elim, ℕ, zero, suc, ◌+◌, ◌-◌, ◌*◌, ◌/◌, ◌%◌, get_or, ◌<◌, ◌≤◌, Bool, true, false, cond, ◌&&◌, not, List, [], ◌∷◌, ◌++◌, length, take, refl, sym, ◌∙◌, ap, subst, arith, Option, Some, None, IfSome, nat_le, nat_lt, replicate}
+use Rattle.std.proofs.Common.{◌≡◌, ⊎_elim, ℕ, zero, suc, ◌+◌, ◌-◌, ◌*◌, ◌/◌, ◌%◌, get_or, ◌<◌, ◌≤◌, Bool, true, false, cond, ◌&&◌, not, List, [], ◌∷◌, ◌++◌, length, take, refl, sym, ◌∙◌, ap, subst, arith, Option, Some, None, IfSome, option_map, min, nat_le, nat_lt, replicate}
 use Rattle.std.specs.Prelude.{Result, Ok, Err, IfOk, Contains, bytes_eq, ◌==◌}
 use Rattle.std.specs.Int.{w32, w64, from_be_bytes}
-use Rattle.std.proofs.lemmas.Bool.{leb-true, cases_lt}
+use Rattle.std.proofs.lemmas.Bool.{leb-true, le-leb, cases_lt}
 use Rattle.std.proofs.Math.Nat.{mul-le-mul_right, div-lt_iff_lt-mul, mod-lt}
 use Rattle.std.proofs.lemmas.List.Elements.{Contains-get_or}
 use Rattle.bd_disk.specs.Images.{InRange, Agree, bytes_at}
-use Rattle.bd_disk.proofs.Agreeing.{same_bytes_at, agree_fewer}
+use Rattle.bd_disk.proofs.Agreeing.{same_bytes_at, agree_fewer, length-bytes_at, get_or-bytes_at}
 use Rattle.bd_model.specs.Sizes.{Sizes, half_bytes, half_place, payload_room, extent_place, disk_bytes, is_shape}
 use Rattle.bd_model.specs.Extents.{owner_bytes}
 use Rattle.bd_model.specs.declared.place.Place.{Place}
 use Rattle.bd_model.specs.declared.place.Place.TheVariants.{Short, Gate, Magic, Number, Shape, Padding, Room, Payload}
 use Rattle.bd_gate.specs.Superblock.{open_gate, magic, byte_at, four_at, sizes_at}
-use Rattle.bd_gate.specs.Halves.{Half, half_at, newest_half, newest_by, newer, is_open, turn_at, payload_of}
+use Rattle.bd_gate.specs.Standing.{Standing, SameStanding, behind}
+use Rattle.bd_gate.specs.Halves.{Half, half_at, newest_half, newest_by, newer, is_open, turn_at, payload_of, log_place}
 use Rattle.bd_catalog.specs.Catalogue.{Catalogue}
 use Rattle.bd_catalog.specs.Rules.{catalogue_of}
 use Rattle.bd_catalog.specs.Opening.{Found, opened, opened_half, opened_payload}
 use Rattle.bd_catalog.specs.Standing.{BeginWith}
-use Rattle.bd_catalog.proofs.StandingFound.{newest_by-small, opened_by, opened-is, opened-found, checks_passed}
+use Rattle.std.proofs.lemmas.Grind.{same_number_lists}
+use Rattle.bd_catalog.proofs.StandingFound.{IsFound, newest_by-small, opened_by, opened-is, opened-found, checks_passed}
 
 -- the places of superblock and halves
 abbrev pub InFront : Sizes → ℕ → Type 0
@@ -97,6 +99,18 @@ module _ (old new : List ℕ) (agree : Agree InSuperblock old new) where
       ∙ checks_passed (sizes_at old) (length old) (byte_at old 0) (bytes_at 1 7 old) (four_at old 8) (bytes_at 36 28 old)
       (opened_half (sizes_at old) old (newest_half (sizes_at old) old)) (opened_half (sizes_at new) new (newest_half (sizes_at new) new)) before (sym (opened-is old) ∙ opens)
       ∙ here
+
+  -- so it opens where that half has a payload that fits and spells a catalogue
+  pub opens_with : (before : Found) (k : ℕ) (c : Catalogue) → opened old ≡ Ok before → let half = half_at before.sizes new k in
+      newest_half before.sizes new ≡ Some k → half.length ≤ payload_room before.sizes → catalogue_of before.sizes (payload_of before.sizes half new) ≡ Some c →
+      opened new ≡ Ok (record { sizes = before.sizes; half = half; catalogue = c; log_end = log_place before.sizes half })
+  opens_with before k c opens newest fits spells =
+      let s = before.sizes in
+      let half : Half = half_at s new k in
+      opens_by_half before (record { sizes = s; half = half; catalogue = c; log_end = log_place s half }) opens
+      (ap (opened_half s new) newest
+      ∙ ap (λ t. cond t (opened_payload s half new (catalogue_of s (payload_of s half new))) (Err Payload)) (le-leb half.length (payload_room s) fits)
+      ∙ ap (opened_payload s half new) spells)
 
 module _ (s : Sizes) (old new : List ℕ) (agree : Agree (InFront s) old new) where
   same_at : (at n : ℕ) → at + n ≤ extent_place s 0 → bytes_at at n new ≡ bytes_at at n old
@@ -181,3 +195,66 @@ same_owner_bytes s (e ∷ es) old new agree =
 -- what they begin with carries over
 pub begin_with_agrees : (s : Sizes) (extents bytes old new : List ℕ) → Agree (InExtents s extents) old new → BeginWith s extents bytes old → BeginWith s extents bytes new
 begin_with_agrees s extents bytes old new agree begins = record { front = ap (take (length bytes)) (same_owner_bytes s extents old new agree) ∙ begins.front }
+
+-- ---- the same newest half
+
+-- bytes among other bytes
+bytes_at-within : (a m i n : ℕ) (image : List ℕ) → i + n ≤ m → bytes_at (a + i) n image ≡ bytes_at i n (bytes_at a m image)
+bytes_at-within a m i n image fits =
+    let outer : length (bytes_at a m image) ≡ min m (length image - a) = length-bytes_at a m image in
+    let one : length (bytes_at (a + i) n image) ≡ min n (length image - (a + i)) = length-bytes_at (a + i) n image in
+    let other : length (bytes_at i n (bytes_at a m image)) ≡ min n (length (bytes_at a m image) - i) = length-bytes_at i n (bytes_at a m image) in
+    same_number_lists _ _ (omega (arith, outer, one, other)) (λ k lt.
+    let in_n : k < n = omega (arith, one) in
+    let at : a + i + k ≡ a + (i + k) = omega arith in
+    get_or-bytes_at (a + i) n image k in_n ∙ ap (λ p. get_or image p 0) at ∙ sym (get_or-bytes_at a m image (i + k) (omega arith)) ∙ sym (get_or-bytes_at i n (bytes_at a m image) k in_n))
+
+module _ (s : Sizes) (old new : List ℕ) (k : ℕ) (same : behind s new k ≡ behind s old k) where
+  behind_at : (at i n : ℕ) → at ≡ half_place s k + 1 + i → i + n ≤ half_bytes s - 1 → bytes_at at n new ≡ bytes_at at n old
+  behind_at at i n e fits =
+      let place = half_place s k + 1 in
+      let long = half_bytes s - 1 in
+      ap (λ p. bytes_at p n new) e ∙ bytes_at-within place long i n new fits ∙ ap (bytes_at i n) same ∙ sym (bytes_at-within place long i n old fits) ∙ sym (ap (λ p. bytes_at p n old) e)
+
+  behind_length : (half_at s new k).length ≡ (half_at s old k).length
+  behind_length = ap (from_be_bytes w64) (behind_at (half_place s k + 2) 1 8 (omega arith) (omega arith))
+
+  behind_payload : (half_at s old k).length ≤ payload_room s → payload_of s (half_at s new k) new ≡ payload_of s (half_at s old k) old
+  behind_payload fits = ap (λ n. bytes_at (half_place s k + 10) n new) behind_length ∙ behind_at (half_place s k + 10) 9 (half_at s old k).length (omega arith) (omega (arith, fits))
+
+-- a half as it stands
+abbrev standing_at : Sizes → List ℕ → ℕ → Standing
+standing_at s image k = record { number = k; bytes = behind s image k }
+
+-- an image with the same superblock and the same newest half opens with the same catalogue
+pub same_standing_opens : (found : Found) (old new : List ℕ) → opened old ≡ Ok found → Agree InSuperblock old new → SameStanding found.sizes old new →
+    (again : Found) × (opened new ≡ Ok again) × (again.sizes ≡ found.sizes) × (again.catalogue ≡ found.catalogue)
+same_standing_opens found old new opens agree same =
+    let s = found.sizes in
+    let k = found.half.number in
+    let is : IsFound old found = opened-found old found opens in
+    let there : option_map (standing_at s new) (newest_half s new) ≡ Some (standing_at s old k) = same ∙ ap (option_map (standing_at s old)) is.newest in
+    let stands : (newest_half s new ≡ Some k) × (behind s new k ≡ behind s old k) = from_standing s k (behind s old k) (newest_half s new) refl there in
+    let half : Half = half_at s new k in
+    let size : half.length ≡ found.half.length = behind_length s old new k stands.1 ∙ sym (ap (λ h. h.length) is.half) in
+    let payload : payload_of s half new ≡ payload_of s found.half old =
+    behind_payload s old new k stands.1 (omega (arith, is.fits, ap (λ h. h.length) is.half)) ∙ sym (ap (λ h. payload_of s h old) is.half) in (
+      record { sizes = s; half = half; catalogue = found.catalogue; log_end = log_place s half },
+      opens_with old new agree found k found.catalogue opens stands.0 (omega (arith, size, is.fits)) (ap (catalogue_of s) payload ∙ is.catalogue),
+      refl,
+      refl,
+    )
+  where
+    from_standing : (s : Sizes) (k : ℕ) (bytes : List ℕ) (o : Option ℕ) → newest_half s new ≡ o → option_map (standing_at s new) o ≡ Some (record { number = k; bytes = bytes }) →
+        (newest_half s new ≡ Some k) × (behind s new k ≡ bytes)
+    from_standing s k bytes None e f = absurd (none_some f)
+      where
+        none_some : {x : Standing} → None ≡ Some x → ⊥
+        none_some g = cc
+    from_standing s k bytes (Some j) e f =
+        let both : standing_at s new j ≡ record { number = k; bytes = bytes } = some_same f in
+        let number : j ≡ k = ap (λ x. x.number) both in
+        (e ∙ ap Some number, sym (ap (behind s new) number) ∙ ap (λ x. x.bytes) both)
+      where
+        some_same : {x y : Standing} → Some x ≡ Some y → x ≡ y
+        some_same g = cc

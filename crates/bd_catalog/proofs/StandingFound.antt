@@ -23,6 +23,7 @@ pub record IsFound (image : List ℕ) (found : Found) : Type 0 where
   pub newest : newest_half found.sizes image ≡ Some found.half.number
   pub half : found.half ≡ half_at found.sizes image found.half.number
   pub fits : found.half.length ≤ payload_room found.sizes
+  pub catalogue : catalogue_of found.sizes (payload_of found.sizes found.half image) ≡ Some found.catalogue
   pub obeys : IsTrue (obeys found.sizes found.catalogue)
   pub spelled : spelled found.catalogue ≡ payload_of found.sizes found.half image
   pub log_end : found.log_end ≡ log_place found.sizes found.half
@@ -100,11 +101,11 @@ module _ (image : List ℕ) (shaped : IsTrue (is_shape (sizes_at image))) (room 
   abbrev s : Sizes
   s = sizes_at image
 
-  found_payload : (k : ℕ) (c : Option Catalogue) → newest_half s image ≡ Some k → (half_at s image k).length ≤ payload_room s → IfSome c (Spells s (payload_of s (half_at s image k) image)) →
+  found_payload : (k : ℕ) (c : Option Catalogue) → newest_half s image ≡ Some k → (half_at s image k).length ≤ payload_room s → catalogue_of s (payload_of s (half_at s image k) image) ≡ c → IfSome c (Spells s (payload_of s (half_at s image k) image)) →
       IfOk (opened_payload s (half_at s image k) image c) (IsFound image)
-  found_payload k None newest fits spells = tt
-  found_payload k (Some c) newest fits spells =
-      record { sizes = refl; shape = shaped; room = room; newest = newest; half = refl; fits = fits; obeys = spells.rules; spelled = spells.same; log_end = refl }
+  found_payload k None newest fits is spells = tt
+  found_payload k (Some c) newest fits is spells =
+      record { sizes = refl; shape = shaped; room = room; newest = newest; half = refl; fits = fits; catalogue = is; obeys = spells.rules; spelled = spells.same; log_end = refl }
 
   found_half : (k : Option ℕ) → newest_half s image ≡ k → IfOk (opened_half s image k) (IsFound image)
   found_half None newest = tt
@@ -112,7 +113,7 @@ module _ (image : List ℕ) (shaped : IsTrue (is_shape (sizes_at image))) (room 
       let half = half_at s image k in
       elim (nat_le half.length (payload_room s))
       as (λ t. nat_le half.length (payload_room s) ≡ t → IfOk (cond t (opened_payload s half image (catalogue_of s (payload_of s half image))) (Err Payload)) (IsFound image)) [
-        | true ↦ λ e. found_payload k (catalogue_of s (payload_of s half image)) newest (leb-true half.length (payload_room s) e) (catalogue_of-spells s (payload_of s half image))
+        | true ↦ λ e. found_payload k (catalogue_of s (payload_of s half image)) newest (leb-true half.length (payload_room s) e) refl (catalogue_of-spells s (payload_of s half image))
         | false ↦ λ e. tt
       ] refl
 
