@@ -1,5 +1,5 @@
 -- What an image stands for, and what keeps it.
-use Rattle.std.proofs.Common.{◌≡◌, ◌⊎◌, inl, inr, ⊎_elim, ℕ, zero, suc, Bool, true, false, cond, List, [], ◌∷◌, ◌++◌, sym, ◌∙◌, ap, subst, arith, filter, flat_map, map, get_or}
+use Rattle.std.proofs.Common.{◌≡◌, refl, ◌⊎◌, inl, inr, ⊎_elim, ℕ, zero, suc, Bool, true, false, cond, List, [], ◌∷◌, ◌++◌, sym, ◌∙◌, ap, subst, arith, filter, flat_map, map, get_or}
 use Rattle.std.specs.Prelude.{Ok, Contains}
 use Rattle.std.proofs.lemmas.List.Elements.{Contains-append_left, Contains-append_right, Contains-append_cases}
 use Rattle.bd_disk.specs.Images.{Agree, AgreeBut}
@@ -8,10 +8,12 @@ use Rattle.bd_model.specs.declared.shape.Shape.{Shape}
 use Rattle.bd_model.specs.declared.layout.Phase.{Phase}
 use Rattle.bd_model.specs.Sizes.{Sizes, sizes_of}
 use Rattle.bd_model.specs.State.{VersionState, IsState, history}
+use Rattle.bd_gate.specs.Halves.{InHalves}
+use Rattle.bd_gate.specs.Standing.{SameStanding}
 use Rattle.bd_catalog.specs.Catalogue.{Catalogue, recipe_extents, volume_extents, active_extents, all_extents}
 use Rattle.bd_catalog.specs.Opening.{Found, opened}
 use Rattle.bd_catalog.specs.Standing.{BeginWith, HasNumbers, HasVersions, HasVolumes, HasActives, HasReserve, StandsFor, Stands}
-use Rattle.bd_catalog.proofs.Agreeing.{InFront, InExtents, opens_again, begin_with_agrees, owners_apart, front_apart}
+use Rattle.bd_catalog.proofs.Agreeing.{InFront, InSuperblock, InExtents, same_standing_opens, opens_again, begin_with_agrees, owners_apart, front_apart}
 
 -- what was found shows the state: all of `StandsFor` but the state's own rules and the opening
 pub record Shows (shape : Shape) (st : VersionState) (phase : Phase) (held : ℕ) (found : Found) (image : List ℕ) : Type 0 where
@@ -118,17 +120,44 @@ module _ {shape : Shape} {st : VersionState} {phase : Phase} {held : ℕ} {found
 abbrev pub InStore : Found → ℕ → Type 0
 InStore found place = InFront found.sizes place ⊎ InExtents found.sizes (all_extents found.catalogue) place
 
--- an image stands for what another one does that opens alike and agrees on every extent that is owned
-pub stands_for_opened : {shape : Shape} {st : VersionState} {phase : Phase} {held : ℕ} {found : Found} {old new : List ℕ} →
-    opened old ≡ Ok found → opened new ≡ Ok found → Agree (InExtents found.sizes (all_extents found.catalogue)) old new → StandsFor shape st phase held old → StandsFor shape st phase held new
-stands_for_opened opens again agree stands = stands-shown stands.state again (shows_agrees agree (stands-shows stands opens))
+-- what was found shows the state by its sizes and its catalogue alone
+pub shows_same : {shape : Shape} {st : VersionState} {phase : Phase} {held : ℕ} {image : List ℕ} (found again : Found) → again.sizes ≡ found.sizes → again.catalogue ≡ found.catalogue →
+    Shows shape st phase held found image → Shows shape st phase held again image
+shows_same {shape = shape} {st = st} {phase = phase} {held = held} {image = image} found again sizes catalogue shows = record {
+  sizes = sizes ∙ shows.sizes;
+  at_phase = ap (λ c. c.phase) catalogue ∙ shows.at_phase;
+  numbers = subst (HasNumbers (history shape st)) (sym catalogue) shows.numbers;
+  versions = subst (λ c. HasVersions shape st c image) (sym catalogue) shows.versions;
+  volumes = subst (λ c. HasVolumes (sizes_of shape) (history shape st) phase c image) (sym catalogue) shows.volumes;
+  actives = subst (λ c. HasActives (sizes_of shape) (history shape st) phase c image) (sym catalogue) shows.actives;
+  reserve = shows.reserve;
+}
+
+-- an image stands for what another one does that has its catalogue and agrees on every extent that is owned
+pub stands_for_opened : {shape : Shape} {st : VersionState} {phase : Phase} {held : ℕ} {old new : List ℕ} (found again : Found) →
+    opened old ≡ Ok found → opened new ≡ Ok again → again.sizes ≡ found.sizes → again.catalogue ≡ found.catalogue → Agree (InExtents found.sizes (all_extents found.catalogue)) old new →
+    StandsFor shape st phase held old → StandsFor shape st phase held new
+stands_for_opened found again opens opens_new sizes catalogue agree stands =
+    stands-shown stands.state opens_new (shows_same found again sizes catalogue (shows_agrees agree (stands-shows stands opens)))
+
+-- the same at some phase
+pub stands_opened : {shape : Shape} {held : ℕ} {st : VersionState} {old new : List ℕ} (found again : Found) →
+    opened old ≡ Ok found → opened new ≡ Ok again → again.sizes ≡ found.sizes → again.catalogue ≡ found.catalogue → Agree (InExtents found.sizes (all_extents found.catalogue)) old new →
+    Stands shape held st old → Stands shape held st new
+stands_opened found again opens opens_new sizes catalogue agree stands = record { phase = stands.phase; so = stands_for_opened found again opens opens_new sizes catalogue agree stands.so }
+
+-- so it does where superblock and newest half are the same
+pub stands_beside : {shape : Shape} {held : ℕ} {st : VersionState} {old new : List ℕ} (found : Found) → opened old ≡ Ok found →
+    Agree InSuperblock old new → SameStanding found.sizes old new → Agree (InExtents found.sizes (all_extents found.catalogue)) old new → Stands shape held st old → Stands shape held st new
+stands_beside {old = old} {new = new} found opens super same agree stands =
+    let again = same_standing_opens found old new opens super same in stands_opened found again.0 opens again.1 again.2 again.3 agree stands
 
 -- an image stands for what another one does that agrees with it where the store reads
 pub stands_for_agrees : {shape : Shape} {st : VersionState} {phase : Phase} {held : ℕ} {found : Found} {old new : List ℕ} →
     opened old ≡ Ok found → Agree (InStore found) old new → StandsFor shape st phase held old → StandsFor shape st phase held new
 stands_for_agrees {found = found} {old = old} {new = new} opens agree =
-    stands_for_opened opens
-    (opens_again found old new opens (agree_fewer (InStore found) (InFront found.sizes) old new (λ place front. inl front) agree))
+    stands_for_opened found found opens
+    (opens_again found old new opens (agree_fewer (InStore found) (InFront found.sizes) old new (λ place front. inl front) agree)) refl refl
     (agree_fewer (InStore found) (InExtents found.sizes (all_extents found.catalogue)) old new (λ place owned. inr owned) agree)
 
 -- the same at some phase
@@ -148,3 +177,7 @@ free_agrees found extents old new free agree =
 pub free_stands : {shape : Shape} {held : ℕ} {st : VersionState} {found : Found} {extents old new : List ℕ} → opened old ≡ Ok found →
     ((e : ℕ) → Contains extents e → Contains (all_extents found.catalogue) e → ⊥) → AgreeBut (InExtents found.sizes extents) old new → Stands shape held st old → Stands shape held st new
 free_stands {found = found} {extents = extents} {old = old} {new = new} opens free agree = stands_agrees opens (free_agrees found extents old new free agree)
+
+-- a write in the halves changes no extent
+pub halves_agree : (s : Sizes) (extents old new : List ℕ) → AgreeBut (InHalves s) old new → Agree (InExtents s extents) old new
+halves_agree s extents old new agree = agree_fewer _ (InExtents s extents) old new (λ place owned written. front_apart s extents place (omega (arith, written.1)) owned) agree
