@@ -21,6 +21,7 @@ use Rattle.bd_model.proofs.StepLemmas.{length-history}
 use Rattle.bd_catalog.specs.Catalogue.{Catalogue}
 use Rattle.bd_catalog.specs.Opening.{Found, opened}
 use Rattle.bd_catalog.specs.Standing.{HasNumbers, HasVersions, HasVolumes, HasActives, StandsFor}
+use Rattle.bd_catalog.proofs.StandingFound.{Numbered, opened-found, obeys-each, numbers-each, nothing-else}
 use Rattle.bd_catalog.proofs.Standing.{Shows, stands-shows, stands_by_parts}
 use Rattle.bd_model.proofs.ExpiryLemmas.{nothing_owned}
 use Rattle.bd_model.specs.State.{empty}
@@ -73,10 +74,6 @@ module _ (shape : Shape) (base : ℕ) where
 pub empty_stands : (shape : Shape) (image : List ℕ) (found : Found) → opened image ≡ Ok found → found.sizes ≡ sizes_of shape → found.catalogue ≡ empty_catalogue → StandsFor shape empty Settled 0 image
 empty_stands shape image found opens sizes is = nothing_stands shape 0 0 image found (omega arith) (omega arith) opens sizes is
 
-no_elements : {X : Type 0} (xs : List X) → length xs ≡ 0 → xs ≡ []
-no_elements [] e = refl
-no_elements (x ∷ xs) e = absurd (omega (arith, e))
-
 -- a state of which nothing is retained has no version
 pub nothing-state : (shape : Shape) (st : VersionState) → IsState st → retained (history shape st) ≡ 0 → st ≡ nothing_from st.base
 nothing-state shape st state none =
@@ -103,21 +100,16 @@ module _ {shape : Shape} {st : VersionState} {phase : Phase} {held : ℕ} {image
   pub found-nothing : retained_in found.catalogue ≡ 0 → st ≡ nothing_from found.catalogue.base
   found-nothing none = nothing-state shape st stands.state (sym shows.numbers.retained ∙ none) ∙ ap nothing_from (sym shows.numbers.base)
 
-  -- and its catalogue has no entries
-  pub found-catalogue : phase ≡ Settled → retained_in found.catalogue ≡ 0 → found.catalogue ≡ catalogue_from found.catalogue.base
-  found-catalogue settled none =
-      let c = found.catalogue in
-      let h : History = history shape st in
-      let state : st ≡ nothing_from st.base = nothing-state shape st stands.state (sym shows.numbers.retained ∙ none) in
-      let empty_versions : length h.versions ≡ 0 = ap (λ s. length (history shape s).versions) state in
-      let kept : h.expired ≡ 0 = ap (λ s. s.expired) state in
-      let volumes : c.volumes ≡ [] =
-      no_elements c.volumes (sym (length-map c.volumes (λ e. e.rows)) ∙ ap length (shows.volumes.rows ∙ ap (map (rows h phase)) (numbers-none (oldest h) (newest h - 1) (omega arith)))) in
-      let actives : c.actives ≡ [] =
-      no_elements c.actives (sym (length-map c.actives (λ e. e.row)) ∙ ap length (shows.actives.rows ∙ ap (rows_over (open_category h phase)) (numbers-none (h.base + 1) (newest h) (omega arith)))) in
-      let versions : c.versions ≡ [] = no_elements c.versions none in
-      let last : c.newest ≡ c.base = omega (arith, shows.numbers.newest, shows.numbers.base) in
-      λ k. record { base = c.base; newest = last k; phase = (shows.at_phase ∙ settled) k; versions = versions k; volumes = volumes k; actives = actives k }
+-- where no version is found the catalogue has nothing else
+pub found-catalogue : (image : List ℕ) (found : Found) → opened image ≡ Ok found → retained_in found.catalogue ≡ 0 → found.catalogue ≡ catalogue_from found.catalogue.base
+found-catalogue image found opens none = nothing-else found.sizes found.catalogue (obeys-each found.sizes found.catalogue (opened-found image found opens).obeys) none
+
+-- and where the newest number is 0 it is the empty one
+pub found-empty_catalogue : (image : List ℕ) (found : Found) → opened image ≡ Ok found → found.catalogue.newest ≡ 0 → found.catalogue ≡ empty_catalogue
+found-empty_catalogue image found opens zero_newest =
+    let numbered : Numbered found.sizes found.catalogue = numbers-each found.sizes found.catalogue (obeys-each found.sizes found.catalogue (opened-found image found opens).obeys).numbers in
+    let base : found.catalogue.base ≡ 0 = omega (arith, numbered.since, zero_newest) in
+    found-catalogue image found opens (omega (arith, numbered.since, zero_newest)) ∙ ap catalogue_from base
 
 module _ (base : ℕ) where
   abbrev none : History

@@ -23,7 +23,7 @@ use Rattle.bd_catalog.specs.Catalogue.{empty_catalogue}
 use Rattle.bd_catalog.specs.Opening.{Found, opened}
 use Rattle.bd_catalog.specs.Standing.{BeginWith, StandsFor}
 use Rattle.bd_catalog.proofs.Standing.{Shows, stands-shows}
-use Rattle.bd_catalog.proofs.StandingEmpty.{found-empty, fresh-first, recipe-first}
+use Rattle.bd_catalog.proofs.StandingEmpty.{found-empty, found-empty_catalogue, fresh-first, recipe-first}
 use Rattle.bd_catalog.proofs.StandingBackup.{first_catalogue, first_version_stands}
 use Rattle.bd_catalog.proofs.StandingAnswers.{IsAnswered, backup_step, backup_refused, backup_done, enough}
 
@@ -68,15 +68,15 @@ module _ (shape : Shape) (held : ℕ) (files : FileMap) (name stream : List ℕ)
   pub first_enough : count ≤ shape.extents - held → need shape.extent no_history w ≤ shape.extents - held
   first_enough few = omega (arith, enough shape held empty files name stream (subst (λ n. counted shape.extent no_history w n ≤ n) (sym free-empty) few), free-empty)
 
-  module _ (st : VersionState) (phase : Phase) (old : List ℕ) (before : Found) (stands : StandsFor shape st phase held old) (opened_old : opened old ≡ Ok before) (none : before.catalogue ≡ empty_catalogue) where
+  module _ (st : VersionState) (phase : Phase) (old : List ℕ) (before : Found) (stands : StandsFor shape st phase held old) (opened_old : opened old ≡ Ok before) (unused : before.catalogue.newest ≡ 0) where
     shows : Shows shape st phase held before old
     shows = stands-shows stands opened_old
 
     is_empty : st ≡ empty
-    is_empty = found-empty stands opened_old (ap (λ c. c.newest) none)
+    is_empty = found-empty stands opened_old unused
 
     is_settled : phase ≡ Settled
-    is_settled = sym shows.at_phase ∙ ap (λ c. c.phase) none
+    is_settled = sym shows.at_phase ∙ ap (λ c. c.phase) (found-empty_catalogue old before opened_old unused)
 
     -- the image after a backup into an empty store stands for the one version: its recipe has an entry for each chunk, all
     -- with the start 1, and its records are the different chunks

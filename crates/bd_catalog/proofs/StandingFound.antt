@@ -1,7 +1,7 @@
 -- What is known of an image that opens.
-use Rattle.std.proofs.Common.{◌≡◌, ℕ, ◌+◌, ◌%◌, ◌≤◌, Bool, true, false, cond, ◌&&◌, not, List, [], ◌∷◌, length, refl, sym, ◌∙◌, ap, subst, arith, Option, Some, None, IfSome, nat_le, nat_lt, replicate}
+use Rattle.std.proofs.Common.{◌≡◌, ℕ, ◌+◌, ◌%◌, ◌≤◌, Bool, true, false, cond, ◌&&◌, ◌||◌, ◌-◌, ◌<◌, ◌^◌, map, le-ltb, not, List, [], ◌∷◌, length, refl, sym, ◌∙◌, ap, subst, arith, Option, Some, None, IfSome, nat_le, nat_lt, replicate}
 use Rattle.std.specs.Prelude.{Result, Ok, Err, IfOk, IsTrue, bytes_eq, ◌==◌}
-use Rattle.std.proofs.lemmas.Bool.{leb-true, ltb-false}
+use Rattle.std.proofs.lemmas.Bool.{leb-true, ltb-true, ltb-false, eqb-true}
 use Rattle.bd_disk.specs.Images.{bytes_at}
 use Rattle.bd_model.specs.Sizes.{Sizes, payload_room, disk_bytes, is_shape}
 use Rattle.bd_model.specs.declared.place.Place.{Place}
@@ -10,9 +10,12 @@ use Rattle.bd_model.proofs.ListLemmas.{left_and, right_and}
 use Rattle.bd_model.proofs.ChunkListLemmas.{bytes_eq-same}
 use Rattle.bd_gate.specs.Superblock.{open_gate, magic, byte_at, four_at, sizes_at}
 use Rattle.bd_gate.specs.Halves.{Half, half_at, newest_half, newest_by, newer, payload_of, log_place}
-use Rattle.bd_catalog.specs.Catalogue.{Catalogue}
+use Rattle.bd_catalog.specs.Catalogue.{Catalogue, oldest_in, retained_in}
 use Rattle.bd_catalog.specs.Spelling.{spelled, read_catalogue}
-use Rattle.bd_catalog.specs.Rules.{obeys, catalogue_of}
+use Rattle.bd_catalog.specs.Rules.{ascends, obeys, catalogue_of, numbers_hold, phase_holds, version_holds, starts_hold, actives_hold, volume_holds, active_holds, extents_hold}
+use Rattle.std.specs.List.{list_all}
+use Rattle.bd_model.specs.declared.layout.Phase.{Phase}
+use Rattle.bd_model.specs.declared.layout.Phase.TheVariants.{Settled, Waiting}
 use Rattle.bd_catalog.specs.Opening.{Found, opened, opened_half, opened_payload}
 
 -- what an opening found in the image, test by test
@@ -40,6 +43,103 @@ catalogue_of-spells s bytes =
       | true ↦ λ e. record { rules = left_and (obeys s c) (bytes_eq (spelled c) bytes) e; same = bytes_eq-same (spelled c) bytes (right_and (obeys s c) (bytes_eq (spelled c) bytes) e) }
       | false ↦ λ e. tt
     ] refl
+
+-- the rules that a catalogue obeys, one by one
+pub record Obeys (s : Sizes) (c : Catalogue) : Type 0 where
+  pub numbers : IsTrue (numbers_hold s c)
+  pub phase : IsTrue (phase_holds c c.phase)
+  pub versions : IsTrue (list_all (version_holds s) c.versions)
+  pub starts : IsTrue (starts_hold (oldest_in c) (oldest_in c) c.volumes)
+  pub actives : IsTrue (actives_hold c)
+  pub volumes : IsTrue (list_all (volume_holds s) c.volumes)
+  pub categories : IsTrue (list_all (active_holds s) c.actives)
+  pub extents : IsTrue (extents_hold s c)
+
+pub obeys-each : (s : Sizes) (c : Catalogue) → IsTrue (obeys s c) → Obeys s c
+obeys-each s c all =
+    let numbers = numbers_hold s c in
+    let phase = phase_holds c c.phase in
+    let versions = list_all (version_holds s) c.versions in
+    let starts = starts_hold (oldest_in c) (oldest_in c) c.volumes in
+    let actives = actives_hold c in
+    let volumes = list_all (volume_holds s) c.volumes in
+    let categories = list_all (active_holds s) c.actives in
+    let seven = numbers && phase && versions && starts && actives && volumes && categories in
+    let six = numbers && phase && versions && starts && actives && volumes in
+    let five = numbers && phase && versions && starts && actives in
+    let four = numbers && phase && versions && starts in
+    let three = numbers && phase && versions in
+    let first_seven : seven ≡ true = left_and seven (extents_hold s c) all in
+    let first_six : six ≡ true = left_and six categories first_seven in
+    let first_five : five ≡ true = left_and five volumes first_six in
+    let first_four : four ≡ true = left_and four actives first_five in
+    let first_three : three ≡ true = left_and three starts first_four in
+    let first_two : (numbers && phase) ≡ true = left_and (numbers && phase) versions first_three in
+    record {
+      numbers = left_and numbers phase first_two;
+      phase = right_and numbers phase first_two;
+      versions = right_and (numbers && phase) versions first_three;
+      starts = right_and three starts first_four;
+      actives = right_and four actives first_five;
+      volumes = right_and five volumes first_six;
+      categories = right_and six categories first_seven;
+      extents = right_and seven (extents_hold s c) all;
+    }
+
+-- the numbers that are retained, one by one
+pub record Numbered (s : Sizes) (c : Catalogue) : Type 0 where
+  pub few : length c.versions ≤ s.retain
+  pub since : c.base + length c.versions ≤ c.newest
+  pub none : length c.versions ≡ 0 → c.base ≡ c.newest
+  pub small : c.newest < 2 ^ 32
+  pub volumes : length c.volumes ≡ length c.versions - 1
+
+either : (a b : Bool) → (a || b) ≡ true → a ≡ false → b ≡ true
+either a b e f = sym (ap (λ t. t || b) f) ∙ e
+
+pub numbers-each : (s : Sizes) (c : Catalogue) → IsTrue (numbers_hold s c) → Numbered s c
+numbers-each s c all =
+    let few = nat_le (length c.versions) s.retain in
+    let since = nat_le (c.base + length c.versions) c.newest in
+    let none = nat_lt 0 (length c.versions) || c.base == c.newest in
+    let small = nat_lt c.newest (2 ^ 32) in
+    let volumes = length c.volumes == length c.versions - 1 in
+    let four : (few && since && none && small) ≡ true = left_and (few && since && none && small) volumes all in
+    let three : (few && since && none) ≡ true = left_and (few && since && none) small four in
+    let two : (few && since) ≡ true = left_and (few && since) none three in
+    record {
+      few = leb-true (length c.versions) s.retain (left_and few since two);
+      since = leb-true (c.base + length c.versions) c.newest (right_and few since two);
+      none = λ e. eqb-true c.base c.newest (either (nat_lt 0 (length c.versions)) (c.base == c.newest) (right_and (few && since) none three) (le-ltb 0 (length c.versions) (omega arith)));
+      small = ltb-true c.newest (2 ^ 32) (right_and (few && since && none) small four);
+      volumes = eqb-true (length c.volumes) (length c.versions - 1) (right_and (few && since && none && small) volumes all);
+    }
+
+no_elements : {X : Type 0} (xs : List X) → length xs ≡ 0 → xs ≡ []
+no_elements [] e = refl
+no_elements (x ∷ xs) e = absurd (omega (arith, e))
+
+no_phase : (c : Catalogue) (phase : Phase) → IsTrue (phase_holds c phase) → length c.versions ≡ 0 → phase ≡ Settled
+no_phase c Settled holds none = refl
+no_phase c (Waiting cursor) holds none =
+    let two : nat_le 2 (length c.versions) ≡ true = left_and (nat_le 2 (length c.versions)) (nat_lt c.base cursor) (left_and (nat_le 2 (length c.versions) && nat_lt c.base cursor) (nat_le cursor c.newest) holds) in
+    absurd (omega (arith, none, leb-true 2 (length c.versions) two))
+
+-- a catalogue without versions has nothing else either
+pub nothing-else : (s : Sizes) (c : Catalogue) → Obeys s c → retained_in c ≡ 0 → c ≡ record { base = c.base; newest = c.base; phase = Settled; versions = []; volumes = []; actives = [] }
+nothing-else s c rules none =
+    let numbered : Numbered s c = numbers-each s c rules.numbers in
+    let ascending = ascends (c.base + 1) c.newest (map (λ e. e.row.start) c.actives) in
+    let open_none : (nat_lt 0 (length c.versions) || length c.actives == 0) ≡ true = right_and ascending (nat_lt 0 (length c.versions) || length c.actives == 0) rules.actives in
+    let actives : length c.actives ≡ 0 = eqb-true (length c.actives) 0 (either (nat_lt 0 (length c.versions)) (length c.actives == 0) open_none (le-ltb 0 (length c.versions) (omega (arith, none)))) in
+    λ k. record {
+      base = c.base;
+      newest = sym (numbered.none none) k;
+      phase = no_phase c c.phase rules.phase none k;
+      versions = no_elements c.versions none k;
+      volumes = no_elements c.volumes (omega (arith, numbered.volumes, none)) k;
+      actives = no_elements c.actives actives k;
+    }
 
 -- the newest half is one of the two
 pub newest_by-small : (open0 : Bool) (turn0 : ℕ) (open1 : Bool) (turn1 : ℕ) → IfSome (newest_by open0 turn0 open1 turn1) (λ k. k ≤ 1)
