@@ -1,19 +1,19 @@
 -- Images that agree where a store reads them open alike, and owners have the same bytes in them.
-use Rattle.std.proofs.Common.{◌≡◌, ⊎_elim, ℕ, zero, suc, ◌+◌, ◌-◌, ◌*◌, ◌/◌, ◌%◌, get_or, ◌<◌, ◌≤◌, Bool, true, false, cond, ◌&&◌, not, List, [], ◌∷◌, ◌++◌, length, take, refl, sym, ◌∙◌, ap, subst, arith, Option, Some, None, IfSome, option_map, min, nat_le, nat_lt, replicate}
-use Rattle.std.specs.Prelude.{Result, Ok, Err, IfOk, Contains, bytes_eq, ◌==◌}
+use Rattle.std.proofs.Common.{◌≡◌, ⊎_elim, ℕ, zero, suc, ◌+◌, ◌-◌, ◌*◌, ◌/◌, ◌%◌, get_or, ◌<◌, ◌≤◌, true, false, cond, List, [], ◌∷◌, ◌++◌, length, take, refl, sym, ◌∙◌, ap, subst, arith, Option, Some, None, IfSome, option_map, min, nat_le}
+use Rattle.std.specs.Prelude.{Result, Ok, Err, Contains, ◌==◌}
 use Rattle.std.specs.Int.{w32, w64, from_be_bytes}
 use Rattle.std.proofs.lemmas.Bool.{leb-true, le-leb, cases_lt}
 use Rattle.std.proofs.Math.Nat.{mul-le-mul_right, div-lt_iff_lt-mul, mod-lt}
 use Rattle.std.proofs.lemmas.List.Elements.{Contains-get_or}
 use Rattle.bd_disk.specs.Images.{InRange, Agree, bytes_at}
 use Rattle.bd_disk.proofs.Agreeing.{same_bytes_at, agree_fewer, length-bytes_at, get_or-bytes_at}
-use Rattle.bd_model.specs.Sizes.{Sizes, half_bytes, half_place, payload_room, extent_place, disk_bytes, is_shape}
+use Rattle.bd_model.specs.Sizes.{Sizes, half_bytes, half_place, payload_room, extent_place}
 use Rattle.bd_model.specs.Extents.{owner_bytes}
 use Rattle.bd_model.specs.declared.place.Place.{Place}
-use Rattle.bd_model.specs.declared.place.Place.TheVariants.{Short, Gate, Magic, Number, Shape, Padding, Room, Payload}
-use Rattle.bd_gate.specs.Superblock.{open_gate, magic, byte_at, four_at, sizes_at}
+use Rattle.bd_model.specs.declared.place.Place.TheVariants.{Payload}
+use Rattle.bd_gate.specs.Superblock.{open_gate, byte_at, four_at, sizes_at}
 use Rattle.bd_gate.specs.Standing.{Standing, SameStanding, behind}
-use Rattle.bd_gate.specs.Halves.{Half, half_at, newest_half, newest_by, newer, is_open, turn_at, payload_of, log_place}
+use Rattle.bd_gate.specs.Halves.{Half, half_at, newest_half, newest_by, is_open, turn_at, payload_of, log_place}
 use Rattle.bd_catalog.specs.Catalogue.{Catalogue}
 use Rattle.bd_catalog.specs.Rules.{catalogue_of}
 use Rattle.bd_catalog.specs.Opening.{Found, opened, opened_half, opened_payload}

@@ -40,23 +40,28 @@ pub stands-shown : {shape : Shape} {st : VersionState} {phase : Phase} {held : �
 stands-shown {found = found} state opens shows =
     record { state = state; found = found; opens = opens; sizes = shows.sizes; at_phase = shows.at_phase; numbers = shows.numbers; versions = shows.versions; volumes = shows.volumes; actives = shows.actives; reserve = shows.reserve }
 
+-- what was found shows the state by its sizes and its catalogue alone
+pub shows_same : {shape : Shape} {st : VersionState} {phase : Phase} {held : ℕ} {image : List ℕ} (found again : Found) → again.sizes ≡ found.sizes → again.catalogue ≡ found.catalogue →
+    Shows shape st phase held found image → Shows shape st phase held again image
+shows_same {shape = shape} {st = st} {phase = phase} {held = held} {image = image} found again sizes catalogue shows = record {
+  sizes = sizes ∙ shows.sizes;
+  at_phase = ap (λ c. c.phase) catalogue ∙ shows.at_phase;
+  numbers = subst (HasNumbers (history shape st)) (sym catalogue) shows.numbers;
+  versions = subst (λ c. HasVersions shape st c image) (sym catalogue) shows.versions;
+  volumes = subst (λ c. HasVolumes (sizes_of shape) (history shape st) phase c image) (sym catalogue) shows.volumes;
+  actives = subst (λ c. HasActives (sizes_of shape) (history shape st) phase c image) (sym catalogue) shows.actives;
+  reserve = shows.reserve;
+}
+
 -- an image stands for a state where the catalogue that is found has its parts
 pub stands_by_parts : (shape : Shape) (st : VersionState) (phase : Phase) (held : ℕ) (image : List ℕ) (found : Found) (c : Catalogue) → IsState st →
     opened image ≡ Ok found → found.sizes ≡ sizes_of shape → found.catalogue ≡ c → c.phase ≡ phase →
     HasNumbers (history shape st) c → HasVersions shape st c image → HasVolumes (sizes_of shape) (history shape st) phase c image → HasActives (sizes_of shape) (history shape st) phase c image →
     HasReserve (sizes_of shape) (history shape st) phase held → StandsFor shape st phase held image
-stands_by_parts shape st phase held image found c state opens sizes is at_phase numbered versions volumes actives reserve = record {
-  state = state;
-  found = found;
-  opens = opens;
-  sizes = sizes;
-  at_phase = ap (λ d. d.phase) is ∙ at_phase;
-  numbers = subst (HasNumbers (history shape st)) (sym is) numbered;
-  versions = subst (λ d. HasVersions shape st d image) (sym is) versions;
-  volumes = subst (λ d. HasVolumes (sizes_of shape) (history shape st) phase d image) (sym is) volumes;
-  actives = subst (λ d. HasActives (sizes_of shape) (history shape st) phase d image) (sym is) actives;
-  reserve = reserve;
-}
+stands_by_parts shape st phase held image found c state opens sizes is at_phase numbered versions volumes actives reserve =
+    stands-shown state opens
+    (shows_same (record found { catalogue = c }) found refl is
+    (record { sizes = sizes; at_phase = at_phase; numbers = numbered; versions = versions; volumes = volumes; actives = actives; reserve = reserve }))
 
 -- ---- the extents of owners are among all
 
@@ -119,19 +124,6 @@ module _ {shape : Shape} {st : VersionState} {phase : Phase} {held : ℕ} {found
 -- a place that a store reads: in superblock and halves, or in an extent that is owned
 abbrev pub InStore : Found → ℕ → Type 0
 InStore found place = InFront found.sizes place ⊎ InExtents found.sizes (all_extents found.catalogue) place
-
--- what was found shows the state by its sizes and its catalogue alone
-pub shows_same : {shape : Shape} {st : VersionState} {phase : Phase} {held : ℕ} {image : List ℕ} (found again : Found) → again.sizes ≡ found.sizes → again.catalogue ≡ found.catalogue →
-    Shows shape st phase held found image → Shows shape st phase held again image
-shows_same {shape = shape} {st = st} {phase = phase} {held = held} {image = image} found again sizes catalogue shows = record {
-  sizes = sizes ∙ shows.sizes;
-  at_phase = ap (λ c. c.phase) catalogue ∙ shows.at_phase;
-  numbers = subst (HasNumbers (history shape st)) (sym catalogue) shows.numbers;
-  versions = subst (λ c. HasVersions shape st c image) (sym catalogue) shows.versions;
-  volumes = subst (λ c. HasVolumes (sizes_of shape) (history shape st) phase c image) (sym catalogue) shows.volumes;
-  actives = subst (λ c. HasActives (sizes_of shape) (history shape st) phase c image) (sym catalogue) shows.actives;
-  reserve = shows.reserve;
-}
 
 -- an image stands for what another one does that has its catalogue and agrees on every extent that is owned
 pub stands_for_opened : {shape : Shape} {st : VersionState} {phase : Phase} {held : ℕ} {old new : List ℕ} (found again : Found) →

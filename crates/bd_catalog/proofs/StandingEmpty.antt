@@ -1,12 +1,11 @@
 -- Images in which nothing is retained, and the first version.
-use Rattle.std.proofs.Common.{◌≡◌, inr, ⊎_elim, ℕ, suc, ◌+◌, ◌-◌, ◌≤◌, true, false, not, List, [], ◌∷◌, length, refl, sym, ◌∙◌, ap, arith, filter, map}
+use Rattle.std.proofs.Common.{◌≡◌, inr, ⊎_elim, ℕ, suc, ◌+◌, ◌-◌, ◌≤◌, true, false, not, List, [], length, refl, sym, ◌∙◌, ap, arith, filter, map}
 use Rattle.std.specs.Prelude.{Ok}
-use Rattle.std.proofs.lemmas.List.{length-map}
 use Rattle.bd_model.specs.declared.shape.Shape.{Shape}
 use Rattle.bd_model.specs.declared.layout.Phase.{Phase}
 use Rattle.bd_model.specs.declared.layout.Phase.TheVariants.{Settled}
 use Rattle.bd_model.specs.Sizes.{sizes_of}
-use Rattle.bd_model.specs.History.{History, version, newest, oldest, retained, distinct, contains}
+use Rattle.bd_model.specs.History.{History, version, newest, retained, distinct, contains}
 use Rattle.bd_model.specs.Layout.{open_category, rows}
 use Rattle.bd_model.specs.Laws.{grown, entries_in}
 use Rattle.bd_model.specs.Marks.{mark}

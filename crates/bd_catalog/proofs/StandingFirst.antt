@@ -19,7 +19,6 @@ use Rattle.bd_model.specs.Step.{unchanged, step, with_version, free_extents}
 use Rattle.bd_model.specs.Records.{records_of, spelled_recipe}
 use Rattle.bd_model.proofs.ExpiryLemmas.{nothing_owned}
 use Rattle.bd_model.proofs.RoomLemmas.{up-zero}
-use Rattle.bd_catalog.specs.Catalogue.{empty_catalogue}
 use Rattle.bd_catalog.specs.Opening.{Found, opened}
 use Rattle.bd_catalog.specs.Standing.{BeginWith, StandsFor}
 use Rattle.bd_catalog.proofs.Standing.{Shows, stands-shows}

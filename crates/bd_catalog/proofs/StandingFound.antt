@@ -5,11 +5,11 @@ use Rattle.std.proofs.lemmas.Bool.{leb-true, ltb-true, ltb-false, eqb-true}
 use Rattle.bd_disk.specs.Images.{bytes_at}
 use Rattle.bd_model.specs.Sizes.{Sizes, payload_room, disk_bytes, is_shape}
 use Rattle.bd_model.specs.declared.place.Place.{Place}
-use Rattle.bd_model.specs.declared.place.Place.TheVariants.{Short, Gate, Magic, Number, Shape, Padding, Room, Halves, Payload}
+use Rattle.bd_model.specs.declared.place.Place.TheVariants.{Short, Gate, Magic, Number, Shape, Padding, Room, Payload}
 use Rattle.bd_model.proofs.ListLemmas.{left_and, right_and}
 use Rattle.bd_model.proofs.ChunkListLemmas.{bytes_eq-same}
 use Rattle.bd_gate.specs.Superblock.{open_gate, magic, byte_at, four_at, sizes_at}
-use Rattle.bd_gate.specs.Halves.{Half, half_at, newest_half, newest_by, newer, payload_of, log_place}
+use Rattle.bd_gate.specs.Halves.{half_at, newest_half, newest_by, newer, payload_of, log_place}
 use Rattle.bd_catalog.specs.Catalogue.{Catalogue, oldest_in, retained_in}
 use Rattle.bd_catalog.specs.Spelling.{spelled, read_catalogue}
 use Rattle.bd_catalog.specs.Rules.{ascends, obeys, catalogue_of, numbers_hold, phase_holds, version_holds, starts_hold, actives_hold, volume_holds, active_holds, extents_hold}
