@@ -1,12 +1,13 @@
 -- Images that agree where a store reads them open alike, and owners have the same bytes in them.
-use Rattle.std.proofs.Common.{◌≡◌, ⊎_elim, ℕ, zero, suc, ◌+◌, ◌-◌, ◌*◌, ◌/◌, ◌%◌, get_or, ◌<◌, ◌≤◌, true, false, cond, List, [], ◌∷◌, ◌++◌, length, take, refl, sym, ◌∙◌, ap, subst, arith, Option, Some, None, IfSome, option_map, min, nat_le}
+use Rattle.std.proofs.Common.{◌≡◌, ⊎_elim, ℕ, zero, suc, ◌+◌, ◌-◌, ◌*◌, ◌/◌, ◌%◌, get_or, ◌<◌, ◌≤◌, true, false, cond, List, [], ◌∷◌, ◌++◌, length, take, length-take, length-append, get_or-take, refl, sym, ◌∙◌, ap, subst, arith, Option, Some, None, IfSome, option_map, min, nat_le}
 use Rattle.std.specs.Prelude.{Result, Ok, Err, Contains, ◌==◌}
 use Rattle.std.specs.Int.{w32, w64, from_be_bytes}
 use Rattle.std.proofs.lemmas.Bool.{leb-true, le-leb, cases_lt}
 use Rattle.std.proofs.Math.Nat.{mul-le-mul_right, div-lt_iff_lt-mul, mod-lt}
 use Rattle.std.proofs.lemmas.List.Elements.{Contains-get_or}
-use Rattle.bd_disk.specs.Images.{InRange, Agree, bytes_at}
-use Rattle.bd_disk.proofs.Agreeing.{same_bytes_at, agree_fewer, length-bytes_at, get_or-bytes_at}
+use Rattle.bd_disk.specs.Images.{InRange, Agree, bytes_at, overwritten}
+use Rattle.std.proofs.lemmas.List.{get_or_append_left, get_or-append_right}
+use Rattle.bd_disk.proofs.Agreeing.{same_bytes_at, agree_fewer, length-bytes_at, get_or-bytes_at, length-overwritten, overwritten_elsewhere, overwritten_there}
 use Rattle.bd_model.specs.Sizes.{Sizes, half_bytes, half_place, payload_room, extent_place}
 use Rattle.bd_model.specs.Extents.{owner_bytes}
 use Rattle.bd_model.specs.declared.place.Place.{Place}
@@ -195,6 +196,36 @@ same_owner_bytes s (e ∷ es) old new agree =
 -- what they begin with carries over
 pub begin_with_agrees : (s : Sizes) (extents bytes old new : List ℕ) → Agree (InExtents s extents) old new → BeginWith s extents bytes old → BeginWith s extents bytes new
 begin_with_agrees s extents bytes old new agree begins = record { front = ap (take (length bytes)) (same_owner_bytes s extents old new agree) ∙ begins.front }
+
+-- an owner's bytes begin with more once this is written behind what they begin with
+pub begin_with_more : (s : Sizes) (extents first second old new : List ℕ) → BeginWith s extents first old → length first + length second ≤ length (owner_bytes s extents old) →
+    owner_bytes s extents new ≡ overwritten (owner_bytes s extents old) (length first) second → BeginWith s extents (first ++ second) new
+begin_with_more s extents first second old new begins fits written =
+    let before = owner_bytes s extents old in
+    let at = length first in
+    let after = overwritten before at second in
+    let both : length (first ++ second) ≡ at + length second = length-append first second in
+    let size : length after ≡ length before = length-overwritten before at second in
+    let front : length (take (length (first ++ second)) after) ≡ length (first ++ second) = omega (arith, length-take (length (first ++ second)) after, both, size) in
+    record {
+      front = ap (take (length (first ++ second))) written ∙ same_number_lists _ _ front (λ k lt.
+          let within : k < length (first ++ second) = omega (arith, front) in
+          get_or-take (length (first ++ second)) after k 0 within
+          ∙ ⊎_elim
+          (λ less.
+          overwritten_elsewhere before at second k (λ r. omega (arith, r.0))
+          ∙ sym (get_or-take at before k 0 less) ∙ ap (λ bytes. get_or bytes k 0) begins.front ∙ sym (get_or_append_left first second 0 k less))
+          (λ past.
+          let back : at + (k - at) ≡ k = omega arith in
+          ap (λ n. get_or after n 0) (sym back) ∙ overwritten_there before at second (k - at) (omega (arith, both)) (omega (arith, both))
+          ∙ sym (get_or-append_right first second at k 0 refl past))
+          (cases_lt k at));
+    }
+
+-- what is written at their front they begin with
+pub begin_with_written : (s : Sizes) (extents bytes old new : List ℕ) → length bytes ≤ length (owner_bytes s extents old) →
+    owner_bytes s extents new ≡ overwritten (owner_bytes s extents old) 0 bytes → BeginWith s extents bytes new
+begin_with_written s extents bytes old new fits written = begin_with_more s extents [] bytes old new (record { front = refl }) (omega (arith, fits)) written
 
 -- ---- the same newest half
 
