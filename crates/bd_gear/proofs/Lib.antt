@@ -1,0 +1,5 @@
+pub mod BufferLemmas
+pub mod GearLemmas
+pub mod ScanLemmas
+pub mod NextLemmas
+pub mod FeedingLemmas
