@@ -13,6 +13,7 @@ use Rattle.bd_model.proofs.ChunkLemmas.{is_candidate-append, chunks_after-step, 
 use Rattle.bd_gear.specs.Rolling.{rolled_over, rolled_on, ScansTo}
 use Rattle.bd_gear.specs.Chunking.{Chunking, given, next_len}
 use Rattle.bd_gear.specs.Feeding.{HasFed, place_after}
+use Rattle.bd_gear.specs.Laws.{TheTakenAreAFront, PiecesMakeNoDifference}
 use Rattle.bd_gear.specs.Seeking.{Seeks, LooksOn}
 use Rattle.bd_gear.proofs.NextLemmas.{find-none, find-first, given-parts, next_len-candidate, next_len-full, next_len-rest, next_len-none, next_len-append, next_len-finish, next_len-within, next_len-decided, next_len-end}
 
@@ -130,10 +131,14 @@ module _ (cut : Cut) (front held : List ℕ) (scanned hash count end : ℕ) (can
       ] refl
 
 -- the chunker after a scan
-pub HasFed-scan : {cut : Cut} {s : List ℕ} {taken : List (List ℕ)} {c : Chunking} (count end : ℕ) (candidate found : Bool) → HasFed cut s taken c → c.found ≡ false →
-    ScansTo cut c.held c.scanned c.hash count end candidate → found ≡ (candidate || (eqb count cut.most || (c.finished && ltb 0 count))) →
+HasFed-scan : {cut : Cut} {s : List ℕ} {taken : List (List ℕ)} {c : Chunking} (count end : ℕ) (found : Bool) → HasFed cut s taken c → c.found ≡ false →
+    Seeks c.cut c.held c.scanned c.hash c.finished count end found →
     (next_len cut s (place_after taken) c.finished ≡ cond found (Some count) None) × HasFed cut s taken (record c { scanned = count; hash = end; found = found })
-HasFed-scan {cut} {s} {taken} {c} count end candidate found h seeks to found_is =
+HasFed-scan {cut} {s} {taken} {c} count end found h seeks seek =
+    let sought = subst (λ (k : Cut). Seeks k c.held c.scanned c.hash c.finished count end found) h.cut_is seek in
+    let candidate = sought.candidate in
+    let to = sought.scan in
+    let found_is = sought.found_is in
     let front = concat taken in
     let hash_is : c.hash ≡ rolled (take (length front + c.scanned) (front ++ c.held)) = h.hash_is ∙ ap (λ xs. rolled (take (length front + c.scanned) xs)) (sym h.bytes) in
     let passed : (n : ℕ) → cut.least ≤ n → n ≤ c.scanned → is_candidate cut.bits (front ++ c.held) (length front + n - 1) ≡ false =
@@ -253,8 +258,8 @@ LooksOn-seek c count end found seeks most to =
     let full = eqb count c.cut.most in
     let rest = c.finished && ltb 0 count in
     record {
-      next = λ s taken h. (HasFed-scan count end to.candidate found h seeks to.scan to.found_is).0;
-      fed = λ s taken h. (HasFed-scan count end to.candidate found h seeks to.scan to.found_is).1;
+      next = λ cut s taken h. (HasFed-scan count end found h seeks to).0;
+      fed = λ cut s taken h. (HasFed-scan count end found h seeks to).1;
       within = elim found as (λ b. found ≡ b → IfSome (cond b (Some count) None) (λ n. (1 ≤ n) × (n ≤ length c.held))) [
         | true ↦ λ some. (
           ⊎_elim
@@ -280,3 +285,19 @@ LooksOn-seek c count end found seeks most to =
       held = refl;
       finished = refl;
     }
+
+-- nothing is held, so all chunks are taken
+HasFed-held : {cut : Cut} {s : List ℕ} {taken : List (List ℕ)} {c : Chunking} → HasFed cut s taken c → c.held ≡ [] → taken ≡ chunks cut s
+HasFed-held {cut} {s} {taken} {c} h none =
+    let whole : length s ≡ place_after taken = ap length (sym h.bytes ∙ ap (λ xs. concat taken ++ xs) none ∙ append-nil (concat taken)) in
+    sym (append-nil taken) ∙ ap (λ cs. taken ++ cs) (sym (chunks_after-end cut s (place_after taken) h.is_cut (omega arith))) ∙ h.front
+
+pub the_taken_are_a_front : TheTakenAreAFront
+the_taken_are_a_front = record {
+  now = λ cut s taken c h. sym h.front;
+  later = λ cut s more taken c h going. (h.first going).first more;
+  all = λ cut s taken c h none. HasFed-held h none;
+}
+
+pub pieces_make_no_difference : PiecesMakeNoDifference
+pieces_make_no_difference cut s taken others c d h k none none' = HasFed-held h none ∙ sym (HasFed-held k none')

@@ -4,3 +4,4 @@ pub mod Buffers
 pub mod Chunking
 pub mod Feeding
 pub mod Seeking
+pub mod Laws

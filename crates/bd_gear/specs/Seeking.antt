@@ -14,8 +14,8 @@ pub record Seeks (cut : Cut) (held : List ℕ) (scanned hash : ℕ) (finished : 
 
 -- the chunker has looked for its next chunk
 pub record LooksOn (old new : Chunking) : Type 0 where
-  pub next : (s : List ℕ) (taken : List (List ℕ)) → HasFed old.cut s taken old → next_len old.cut s (place_after taken) old.finished ≡ given new
-  pub fed : (s : List ℕ) (taken : List (List ℕ)) → HasFed old.cut s taken old → HasFed old.cut s taken new
+  pub next : (cut : Cut) (s : List ℕ) (taken : List (List ℕ)) → HasFed cut s taken old → next_len cut s (place_after taken) old.finished ≡ given new
+  pub fed : (cut : Cut) (s : List ℕ) (taken : List (List ℕ)) → HasFed cut s taken old → HasFed cut s taken new
   pub within : IfSome (given new) (λ n. (1 ≤ n) × (n ≤ length old.held))
   pub short : IfNone (given new) (length old.held < old.cut.most)
   pub cut : new.cut ≡ old.cut

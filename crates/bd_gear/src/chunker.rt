@@ -70,7 +70,8 @@ impl Chunker {
         requires { IsFalse self.old.finished }
         ensures count { result ≡ min (length bytes.now) (ROOM - length self.old.held) }
         ensures appended { self.new ≡ record self.old { held = self.old.held ++ take result bytes.now } }
-        ensures fed { (s : List ℕ) (taken : List (List ℕ)) → HasFed self.old.cut s taken self.old → HasFed self.old.cut (s ++ take result bytes.now) taken self.new }
+        ensures fed { (cut : Cut) (s : List ℕ) (taken : List (List ℕ)) → HasFed cut s taken self.old
+            → HasFed cut (s ++ take result bytes.now) taken self.new }
     {
         let held = self.end - self.start;
         let count = bytes.len().min(ROOM - held);
@@ -84,15 +85,18 @@ impl Chunker {
     /// The length of the next chunk in bytes. None before it is decided by the bytes that were fed, and after the end of
     /// input where none are left.
     pub fn next_length(&mut self) -> Option<u32>
-        ensures next { (s : List ℕ) (taken : List (List ℕ)) → HasFed self.old.cut s taken self.old → result ≡ next_len self.old.cut s (place_after taken) self.old.finished }
-        ensures fed { (s : List ℕ) (taken : List (List ℕ)) → HasFed self.old.cut s taken self.old → HasFed self.old.cut s taken self.new }
-        ensures ended { IfNone result (IsTrue self.old.finished → (s : List ℕ) (taken : List (List ℕ)) → HasFed self.old.cut s taken self.old → taken ≡ chunks self.old.cut s) }
-        ensures given { given self.new ≡ result }
+        ensures next { (cut : Cut) (s : List ℕ) (taken : List (List ℕ)) → HasFed cut s taken self.old
+            → result ≡ next_len cut s (place_after taken) self.old.finished }
+        ensures ended { IfNone result (IsTrue self.old.finished → (cut : Cut) (s : List ℕ) (taken : List (List ℕ))
+            → HasFed cut s taken self.old → taken ≡ chunks cut s) }
         ensures within { IfSome result (λ n. (1 ≤ n) × (n ≤ length self.old.held)) }
         ensures short { IfNone result (length self.old.held < self.old.cut.most) }
+
+        ensures given { given self.new ≡ result }
         ensures cut { self.new.cut ≡ self.old.cut }
         ensures held { self.new.held ≡ self.old.held }
         ensures finished { self.new.finished ≡ self.old.finished }
+        ensures fed { (cut : Cut) (s : List ℕ) (taken : List (List ℕ)) → HasFed cut s taken self.old → HasFed cut s taken self.new }
     {
         if !self.found {
             self.look_on();
@@ -136,7 +140,8 @@ impl Chunker {
     pub fn advance(&mut self, len: u32)
         requires { given self.old ≡ Some len }
         ensures removed { self.new ≡ record self.old { held = drop len self.old.held; scanned = 0; found = false } }
-        ensures taken { (s : List ℕ) (taken : List (List ℕ)) → HasFed self.old.cut s taken self.old → HasFed self.old.cut s (taken ++ take len self.old.held ∷ []) self.new }
+        ensures taken { (cut : Cut) (s : List ℕ) (taken : List (List ℕ)) → HasFed cut s taken self.old
+            → HasFed cut s (taken ++ take len self.old.held ∷ []) self.new }
     {
         self.start += len as usize;
         self.scanned = 0;
@@ -146,7 +151,7 @@ impl Chunker {
     /// No input follows.
     pub fn finish(&mut self)
         ensures finished { self.new ≡ record self.old { finished = true } }
-        ensures fed { (s : List ℕ) (taken : List (List ℕ)) → HasFed self.old.cut s taken self.old → HasFed self.old.cut s taken self.new }
+        ensures fed { (cut : Cut) (s : List ℕ) (taken : List (List ℕ)) → HasFed cut s taken self.old → HasFed cut s taken self.new }
     {
         self.finished = true;
     }

@@ -63,8 +63,18 @@ fn last_candidate(bits: u32) -> u64
     u64::MAX >> bits
 }
 
-// The hash after these bytes.
+// How many bytes the hash goes back.
+const WINDOW: usize = 64;
+
+// The hash after these bytes. It has forgotten all but the last of them.
 fn roll(gear: &Gear, hash: u64, bytes: &[u8]) -> u64
+    ensures { result ≡ rolled_on hash bytes.now }
+{
+    roll_over(gear, hash, &bytes[bytes.len().saturating_sub(WINDOW)..])
+}
+
+// The hash after these bytes, one after the other.
+fn roll_over(gear: &Gear, hash: u64, bytes: &[u8]) -> u64
     ensures { result ≡ rolled_on hash bytes.now }
 {
     bytes.iter().fold(hash, |hash, byte| gear.roll(hash, *byte))

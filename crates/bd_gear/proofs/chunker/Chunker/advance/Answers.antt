@@ -15,5 +15,5 @@ returns-clause-removed c =
     (λ k. record { cut = (is k).cut; held = rest k; scanned = 0; hash = (is k).hash; found = false; finished = (is k).finished })
 
 pub returns-clause-taken : goal.returns-clause-taken
-returns-clause-taken c s taken h =
-    subst (λ v. HasFed c.args.self.now.cut s (taken ++ take c.args.len c.args.self.now.held ∷ []) v) (sym (returns-clause-removed c)) (HasFed-advance c.args.len c.requires h)
+returns-clause-taken c cut s taken h =
+    subst (λ v. HasFed cut s (taken ++ take c.args.len c.args.self.now.held ∷ []) v) (sym (returns-clause-removed c)) (HasFed-advance c.args.len c.requires h)

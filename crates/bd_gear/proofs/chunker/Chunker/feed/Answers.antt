@@ -28,6 +28,6 @@ returns-clause-appended c =
     (λ k. record { cut = (is k).cut; held = all k; scanned = (is k).scanned; hash = (is k).hash; found = (is k).found; finished = (is k).finished })
 
 pub returns-clause-fed : goal.returns-clause-fed
-returns-clause-fed c s taken h =
+returns-clause-fed c cut s taken h =
     let t = take c.min-count.result c.args.bytes.now in
-    subst (λ v. HasFed c.args.self.now.cut (s ++ t) taken v) (sym (returns-clause-appended c)) (HasFed-feed t c.requires h)
+    subst (λ v. HasFed cut (s ++ t) taken v) (sym (returns-clause-appended c)) (HasFed-feed t c.requires h)

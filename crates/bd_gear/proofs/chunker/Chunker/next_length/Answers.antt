@@ -9,11 +9,11 @@ pub returns-clause-ended : goal.returns-clause-ended
 returns-clause-ended c =
     elim c.if-self.branch [
       | then-self w ↦ rw w.result-is tt
-      | else-self w ↦ rw w.result-is (λ end s taken h.
+      | else-self w ↦ rw w.result-is (λ end cut s taken h.
           elim c.if-not-self.branch [
             | then-not-self v ↦
                 let none : given c.if-not-self.self ≡ None = ap given (sym c.self-2.view_is) ∙ (λ k. cond (w.if-self.false k) (Some c.self-2.inside.scanned) None) in
-                HasFed-all h end (v.look_on.ensures.next s taken h ∙ ap given (sym v.self-is) ∙ none)
+                HasFed-all h end (v.look_on.ensures.next cut s taken h ∙ ap given (sym v.self-is) ∙ none)
             | else-not-self v ↦
                 absurd (false≢true (sym w.if-self.false ∙ ap (λ (a : Chunking). a.found) (c.self-2.view_is ∙ v.self-is ∙ sym c.self.view_is) ∙ v.if-not-self.false))
           ])
