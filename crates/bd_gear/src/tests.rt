@@ -1,6 +1,6 @@
 ghost use Rattle.std.specs.Prelude.{◌≡◌, ℕ, ◌<◌, ◌≤◌, List, OnOk, IfOk, IsTrue, IsFalse, length};
 ghost use Rattle.bd_model.specs.Chunks.{Cut, chunks};
-ghost use Rattle.bd_model.specs.Seen.{as_chunks};
+ghost use Rattle.bd_plain.specs.Seen.{as_chunks};
 ghost use Rattle.bd_model.specs.State.{cut_of};
 ghost use Rattle.bd_gear.specs.Feeding.{HasFed};
 
@@ -79,7 +79,7 @@ fn gears_are_those_of_sha_256(rt: HostRuntime) -> Result<(), Fail> {
 
 #[test]
 fn pieces_make_no_difference(rt: HostRuntime) -> Result<(), Fail> {
-    let stream = mixed(rt.alloc(), 5_000)?;
+    let stream = mixed(rt.alloc(), 3_000)?;
     for (min, bits, max) in [(100, 0, 1_000), (5, 4, 40), (128, 8, 2_000)] {
         let shape = Shape::new(4_096, 16, 4, min, bits, max)?;
         let plain = bd_plain::chunks(rt.alloc(), &shape, &stream)?;
