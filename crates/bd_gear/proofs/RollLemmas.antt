@@ -1,10 +1,10 @@
 -- The hash forgets a byte after 64 more, and goes over two bytes at once.
-use Rattle.std.proofs.Common.{◌≡◌, ℕ, suc, ◌+◌, ◌-◌, ◌*◌, ◌%◌, ◌^◌, ◌<◌, ◌≤◌, List, [], ◌∷◌, ◌++◌, refl, sym, ◌∙◌, ap, subst, arith, length, take, drop, fold, length-drop, take-append-drop, ⊎_elim}
+use Rattle.std.proofs.Common.{◌≡◌, ℕ, suc, ◌+◌, ◌-◌, ◌*◌, ◌%◌, ◌^◌, ◌<◌, ◌≤◌, List, [], ◌∷◌, refl, sym, ◌∙◌, ap, arith, length, take, drop, fold, get_or, length-drop, take-append-drop, ⊎_elim}
 use Rattle.std.proofs.Math.Nat.{mod-add-mod, add-mod-mod, add-mul-mod_self_right, mod-lt, mod-eq_of_lt}
 use Rattle.std.proofs.lemmas.Nat.{mul-mod_second, pow-add}
 use Rattle.std.proofs.lemmas.Grind.{pow_more}
 use Rattle.std.proofs.lemmas.Bool.{cases_lt}
-use Rattle.std.proofs.lemmas.List.Sums.{fold-append}
+use Rattle.std.proofs.lemmas.List.Sums.{fold-append, fold_more}
 use Rattle.bd_model.specs.Chunks.{gear}
 use Rattle.bd_gear.specs.Rolling.{rolled_over, rolled_on}
 
@@ -67,3 +67,26 @@ rolled-two h f g =
     ∙ mod-add-mod (f * 2) m (g + h * 4)
     ∙ ap (λ n. n % m) whole_sum
     ∙ sym (double-mod (2 * h + f) g)
+
+-- two bytes more, after neither of which the hash is below the bound
+pub passed-two : (bound hash : ℕ) (bytes : List ℕ) (n h odd even : ℕ) → n + 2 ≤ length bytes → h ≡ rolled_on hash (take n bytes) →
+    odd ≡ rolled_over h (get_or bytes n 0) → even ≡ rolled_over (rolled_over h (get_or bytes n 0)) (get_or bytes (n + 1) 0) → bound ≤ odd → bound ≤ even →
+    ((k : ℕ) → 1 ≤ k → k ≤ n → bound ≤ rolled_on hash (take k bytes)) →
+    (even ≡ rolled_on hash (take (n + 2) bytes)) × ((k : ℕ) → 1 ≤ k → k ≤ n + 2 → bound ≤ rolled_on hash (take k bytes))
+passed-two bound hash bytes n h odd even room h_is odd_is even_is over over' before =
+    let one : rolled_over h (get_or bytes n 0) ≡ rolled_on hash (take (n + 1) bytes) =
+    ap (λ m. rolled_over m (get_or bytes n 0)) h_is ∙ sym (fold_more rolled_over hash bytes n 0 (omega arith)) in
+    let next : n + 1 + 1 ≡ n + 2 = omega arith in
+    let two : even ≡ rolled_on hash (take (n + 2) bytes) =
+    even_is ∙ ap (λ m. rolled_over m (get_or bytes (n + 1) 0)) one ∙ sym (fold_more rolled_over hash bytes (n + 1) 0 (omega arith)) ∙ ap (λ m. rolled_on hash (take m bytes)) next in (
+      two,
+      λ k low high.
+          ⊎_elim
+          (λ old. before k low (omega arith))
+          (λ new.
+          ⊎_elim
+          (λ first. let same : n + 1 ≡ k = omega arith in omega (arith, odd_is ∙ one, ap (λ m. rolled_on hash (take m bytes)) same))
+          (λ last. let same : n + 2 ≡ k = omega arith in omega (arith, two, ap (λ m. rolled_on hash (take m bytes)) same))
+          (cases_lt k (n + 2)))
+          (cases_lt k (n + 1)),
+    )

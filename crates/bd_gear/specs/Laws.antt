@@ -1,5 +1,5 @@
 -- What holds of every chunker, whatever the pieces in which it was fed.
-use Rattle.std.specs.Prelude.{◌≡◌, List, ℕ, [], ◌++◌, IsTrue, IsFalse}
+use Rattle.std.specs.Prelude.{◌≡◌, List, ℕ, [], ◌++◌, IsFalse}
 use Rattle.bd_model.specs.Chunks.{Cut, chunks, chunks_after}
 use Rattle.bd_gear.specs.Chunking.{Chunking}
 use Rattle.bd_gear.specs.Feeding.{HasFed, place_after}

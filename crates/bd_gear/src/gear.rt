@@ -35,6 +35,19 @@ impl Gear {
     {
         hash.wrapping_shl(1).wrapping_add(self.entry(byte))
     }
+
+    /// The hash after one more byte, and after another. The second waits for the hash only once.
+    pub(crate) fn roll_twice(&self, hash: u64, first: u8, second: u8) -> (u64, u64)
+        ensures first { result.0 ≡ rolled_over hash first }
+        ensures second { result.1 ≡ rolled_over (rolled_over hash first) second }
+    {
+        let gear = self.entry(first);
+        let both = gear.wrapping_shl(1).wrapping_add(self.entry(second));
+        (
+            hash.wrapping_shl(1).wrapping_add(gear),
+            hash.wrapping_shl(2).wrapping_add(both),
+        )
+    }
 }
 
 fn gear_of(byte: u8) -> u64

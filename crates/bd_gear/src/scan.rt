@@ -80,24 +80,36 @@ fn roll_over(gear: &Gear, hash: u64, bytes: &[u8]) -> u64
     bytes.iter().fold(hash, |hash, byte| gear.roll(hash, *byte))
 }
 
-// Rolls the hash up to the first that is at most `last`, or over all the bytes.
+// Rolls the hash up to the first that is at most `last`, or over all the bytes, two of them a turn.
 fn roll_to_candidate(gear: &Gear, hash: u64, last: u64, bytes: &[u8]) -> Scan
     ensures { RollsTo (last + 1) bytes.now hash result.count result.hash result.found }
 {
     let mut hash = hash;
-    for (i, byte) in bytes.iter().enumerate() {
-        hash = gear.roll(hash, *byte);
-        if hash <= last {
+    let mut count = 0;
+    while bytes.len() - count >= 2 {
+        let (odd, even) = gear.roll_twice(hash, bytes[count], bytes[count + 1]);
+        if odd <= last {
             return Scan {
-                count: i + 1,
-                hash,
+                count: count + 1,
+                hash: odd,
                 found: true,
             };
         }
+        if even <= last {
+            return Scan {
+                count: count + 2,
+                hash: even,
+                found: true,
+            };
+        }
+        hash = even;
+        count += 2;
     }
-    Scan {
-        count: bytes.len(),
-        hash,
-        found: false,
+    let mut found = false;
+    if count < bytes.len() {
+        hash = gear.roll(hash, bytes[count]);
+        count += 1;
+        found = hash <= last;
     }
+    Scan { count, hash, found }
 }

@@ -19,11 +19,12 @@ loop-rest-preserved c =
     ∙ ap (λ xs. s ++ (xs ++ drop count rest)) (take-take count piece rest (omega (arith, c.feed-count.ensures.count, length-take piece rest)))
     ∙ ap (λ xs. s ++ xs) (take-append-drop count rest)
     ∙ c.loop-rest.invariant.0.1 in
-    let cut_is = c.in_ok-take_chunks.ensures.cut ∙ ap (λ (a : Chunking). a.cut) c.feed-count.ensures.appended ∙ c.loop-rest.invariant.1 in
-    ((s ++ take count (take piece rest), ap (λ xs. s ++ take count (take piece rest) ++ xs) (take_rest rest count) ∙ whole, c.in_ok-take_chunks.ensures.taken cut _ fed),
-    cut_is,
-    c.in_ok-take_chunks.ensures.finished ∙ ap (λ (a : Chunking). a.finished) c.feed-count.ensures.appended ∙ c.loop-rest.invariant.2,
-    omega (arith, c.in_ok-take_chunks.ensures.short, ap (λ (k : Cut). k.most) cut_is, ap (λ (k : Cut). k.most) c.in_ok-take_chunks.ensures.cut, c.args.shape.in_range.max_high))
+    let cut_is = c.in_ok-take_chunks.ensures.cut ∙ ap (λ (a : Chunking). a.cut) c.feed-count.ensures.appended ∙ c.loop-rest.invariant.1 in (
+      (s ++ take count (take piece rest), ap (λ xs. s ++ take count (take piece rest) ++ xs) (take_rest rest count) ∙ whole, c.in_ok-take_chunks.ensures.taken cut _ fed),
+      cut_is,
+      c.in_ok-take_chunks.ensures.finished ∙ ap (λ (a : Chunking). a.finished) c.feed-count.ensures.appended ∙ c.loop-rest.invariant.2,
+      omega (arith, c.in_ok-take_chunks.ensures.short, ap (λ (k : Cut). k.most) cut_is, ap (λ (k : Cut). k.most) c.in_ok-take_chunks.ensures.cut, c.args.shape.in_range.max_high),
+    )
 
 pub returns : goal.returns
 returns c =
