@@ -9,7 +9,7 @@ use Rattle.std.proofs.lemmas.Bool.{false≢true, le-ltb, lt-ltb, ltb-true, eqb-t
 use Rattle.bd_model.specs.Chunks.{Cut, window_hash, is_candidate, longest, length_to_candidate, chunk_len, chunks, chunks_after}
 use Rattle.bd_model.specs.Laws.{IsCut, rolled}
 use Rattle.bd_model.proofs.HashLemmas.{the_hash_rolls}
-use Rattle.bd_model.proofs.ChunkLemmas.{is_candidate-append, chunks_after-step, chunks_after-end, AreFirstChunks, AreFirstChunks-none, AreFirstChunks-feed, AreFirstChunks-advance}
+use Rattle.bd_model.proofs.ChunkLemmas.{is_candidate-append, chunks_after-step, chunks_after-end, AreFirstChunks, AreFirstChunks-feed, AreFirstChunks-advance}
 use Rattle.bd_gear.specs.Rolling.{rolled_over, rolled_on, ScansTo}
 use Rattle.bd_gear.specs.Chunking.{Chunking, given, next_len}
 use Rattle.bd_gear.specs.Feeding.{HasFed, place_after}
@@ -152,8 +152,8 @@ HasFed-scan {cut} {s} {taken} {c} count end found h seeks seek =
         cut_is = h.cut_is;
         is_cut = h.is_cut;
         bytes = h.bytes;
-        front = h.front;
-        first = h.first;
+        now = h.now;
+        later = h.later;
         within = within cut front c.held c.scanned c.hash count end candidate h.is_cut hash_is passed to;
         hash_is = end_is cut front c.held c.scanned c.hash count end candidate h.is_cut hash_is passed to ∙ ap (λ xs. rolled (take (length front + count) xs)) h.bytes;
         passed = λ none n low high.
@@ -169,12 +169,19 @@ HasFed-none cut is = record {
   cut_is = refl;
   is_cut = is;
   bytes = refl;
-  front = refl;
-  first = λ _. AreFirstChunks-none cut;
+  now = refl;
+  later = λ _ more. refl;
   within = omega arith;
   hash_is = refl;
   passed = λ _ n low high. absurd (omega (arith, is.0));
   next = λ some. absurd (false≢true some);
+}
+
+-- before the end of input what was taken stays, whatever follows
+first_chunks : {cut : Cut} {s : List ℕ} {taken : List (List ℕ)} {c : Chunking} → HasFed cut s taken c → c.finished ≡ false → AreFirstChunks cut s taken (place_after taken)
+first_chunks {cut} {s} {taken} {c} h going = record {
+  within = omega (arith, length-append (concat taken) c.held, ap length h.bytes);
+  first = h.later going;
 }
 
 -- more bytes
@@ -187,8 +194,8 @@ HasFed-feed {cut} {s} {taken} {c} t going h =
       cut_is = h.cut_is;
       is_cut = h.is_cut;
       bytes = sym (append_assoc (concat taken) c.held t) ∙ ap (λ xs. xs ++ t) h.bytes;
-      front = sym ((h.first going).first t);
-      first = λ _. AreFirstChunks-feed t (h.first going);
+      now = h.later going t;
+      later = λ _. (AreFirstChunks-feed t (first_chunks h going)).first;
       within = omega (arith, h.within, length-append c.held t);
       hash_is = h.hash_is ∙ ap rolled (sym stays);
       passed = λ none n low high. is_candidate-append cut.bits s t (start + n - 1) (omega (arith, h.within, h.is_cut.0)) ∙ h.passed none n low high;
@@ -203,8 +210,8 @@ HasFed-finish {cut} {s} {taken} {c} h = record {
   cut_is = h.cut_is;
   is_cut = h.is_cut;
   bytes = h.bytes;
-  front = h.front;
-  first = λ going. absurd (false≢true (sym going));
+  now = h.now;
+  later = λ going. absurd (false≢true (sym going));
   within = h.within;
   hash_is = h.hash_is;
   passed = h.passed;
@@ -231,15 +238,15 @@ HasFed-advance {cut} {s} {taken} {c} n is_given h =
       cut_is = h.cut_is;
       is_cut = h.is_cut;
       bytes = ap (λ xs. xs ++ drop n c.held) whole ∙ append_assoc (concat taken) chunk (drop n c.held) ∙ ap (λ xs. concat taken ++ xs) (take-append-drop n c.held) ∙ h.bytes;
-      front =
-          append_assoc taken (chunk ∷ []) (chunks_after cut s (place_after (taken ++ chunk ∷ [])))
-          ∙ (λ k. taken ++ sym slice k ∷ chunks_after cut s (sym end k))
-          ∙ ap (λ cs. taken ++ cs) (sym (chunks_after-step cut s start h.is_cut inside.0))
-          ∙ h.front;
-      first = λ going.
-          subst (λ m. AreFirstChunks cut s (taken ++ chunk ∷ []) m) end
+      now =
+          h.now
+          ∙ ap (λ cs. taken ++ cs) (chunks_after-step cut s start h.is_cut inside.0)
+          ∙ (λ k. taken ++ slice k ∷ chunks_after cut s (end k))
+          ∙ sym (append_assoc taken (chunk ∷ []) (chunks_after cut s (place_after (taken ++ chunk ∷ []))));
+      later = λ going.
+          (subst (λ m. AreFirstChunks cut s (taken ++ chunk ∷ []) m) end
           (subst (λ x. AreFirstChunks cut s (taken ++ x ∷ []) (start + chunk_len cut s start)) slice
-          (AreFirstChunks-advance h.is_cut inside.0 (next_len-decided cut s start n c.finished going next) (h.first going)));
+          (AreFirstChunks-advance h.is_cut inside.0 (next_len-decided cut s start n c.finished going next) (first_chunks h going)))).first;
       within = omega arith;
       hash_is = let same : start + c.scanned ≡ place_after (taken ++ chunk ∷ []) + 0 = omega (arith, place, got.1) in h.hash_is ∙ ap (λ m. rolled (take m s)) same;
       passed = λ _ m low high. absurd (omega (arith, h.is_cut.0));
@@ -249,7 +256,7 @@ HasFed-advance {cut} {s} {taken} {c} n is_given h =
 -- all chunks are taken
 pub HasFed-all : {cut : Cut} {s : List ℕ} {taken : List (List ℕ)} {c : Chunking} → HasFed cut s taken c → c.finished ≡ true → next_len cut s (place_after taken) c.finished ≡ None → taken ≡ chunks cut s
 HasFed-all {cut} {s} {taken} {c} h end none =
-    sym (append-nil taken) ∙ ap (λ cs. taken ++ cs) (sym (chunks_after-end cut s (place_after taken) h.is_cut (next_len-end cut s (place_after taken) c.finished end none))) ∙ h.front
+    sym (append-nil taken) ∙ ap (λ cs. taken ++ cs) (sym (chunks_after-end cut s (place_after taken) h.is_cut (next_len-end cut s (place_after taken) c.finished end none))) ∙ sym h.now
 
 -- the chunker has looked for its next chunk
 pub LooksOn-seek : (c : Chunking) (count end : ℕ) (found : Bool) → c.found ≡ false → 1 ≤ c.cut.most → Seeks c.cut c.held c.scanned c.hash c.finished count end found →
@@ -290,12 +297,12 @@ LooksOn-seek c count end found seeks most to =
 HasFed-held : {cut : Cut} {s : List ℕ} {taken : List (List ℕ)} {c : Chunking} → HasFed cut s taken c → c.held ≡ [] → taken ≡ chunks cut s
 HasFed-held {cut} {s} {taken} {c} h none =
     let whole : length s ≡ place_after taken = ap length (sym h.bytes ∙ ap (λ xs. concat taken ++ xs) none ∙ append-nil (concat taken)) in
-    sym (append-nil taken) ∙ ap (λ cs. taken ++ cs) (sym (chunks_after-end cut s (place_after taken) h.is_cut (omega arith))) ∙ h.front
+    sym (append-nil taken) ∙ ap (λ cs. taken ++ cs) (sym (chunks_after-end cut s (place_after taken) h.is_cut (omega arith))) ∙ sym h.now
 
 pub the_taken_are_a_front : TheTakenAreAFront
 the_taken_are_a_front = record {
-  now = λ cut s taken c h. sym h.front;
-  later = λ cut s more taken c h going. (h.first going).first more;
+  now = λ cut s taken c h. h.now;
+  later = λ cut s more taken c h going. h.later going more;
   all = λ cut s taken c h none. HasFed-held h none;
 }
 

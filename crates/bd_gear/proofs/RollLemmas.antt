@@ -7,6 +7,7 @@ use Rattle.std.proofs.lemmas.Bool.{cases_lt}
 use Rattle.std.proofs.lemmas.List.Sums.{fold-append, fold_more}
 use Rattle.bd_model.specs.Chunks.{gear}
 use Rattle.bd_gear.specs.Rolling.{rolled_over, rolled_on}
+use Rattle.bd_gear.specs.Laws.{TheHashForgets}
 
 -- a remainder before a doubling makes no difference
 pub double-mod : (h g : ℕ) → (2 * (h % 2 ^ 64) + g) % 2 ^ 64 ≡ (2 * h + g) % 2 ^ 64
@@ -37,6 +38,9 @@ forgetful h bytes fits long =
     let shifted : whole h bytes ≡ whole 0 bytes + h * 2 ^ (n - 64) * 2 ^ 64 = whole-split h bytes ∙ omega (arith, ap (λ m. h * m) power) in
     ap (λ k. rolled_on k bytes) (sym (mod-eq_of_lt fits)) ∙ rolled-whole h bytes ∙ ap (λ m. m % 2 ^ 64) shifted ∙ add-mul-mod_self_right (whole 0 bytes) (h * 2 ^ (n - 64)) (2 ^ 64)
 
+pub the_hash_forgets : TheHashForgets
+the_hash_forgets hash other bytes fits fits' long = forgetful hash bytes fits long ∙ sym (forgetful other bytes fits' long)
+
 rolled-fits : (h : ℕ) (bytes : List ℕ) → h < 2 ^ 64 → rolled_on h bytes < 2 ^ 64
 rolled-fits h [] fits = fits
 rolled-fits h (byte ∷ bytes) fits = rolled-fits (rolled_over h byte) bytes (mod-lt (2 * h + gear byte) (omega arith))
@@ -49,8 +53,8 @@ rolled-last h bytes fits =
     (λ long.
     let last = drop forgotten bytes in
     let size : 64 ≤ length last = omega (arith, length-drop forgotten bytes) in
-    forgetful h last fits size
-    ∙ sym (ap (rolled_on h) (sym (take-append-drop forgotten bytes)) ∙ fold-append rolled_over h (take forgotten bytes) last ∙ forgetful (rolled_on h (take forgotten bytes)) last (rolled-fits h (take forgotten bytes) fits) size))
+    the_hash_forgets h (rolled_on h (take forgotten bytes)) last fits (rolled-fits h (take forgotten bytes) fits) size
+    ∙ sym (ap (rolled_on h) (sym (take-append-drop forgotten bytes)) ∙ fold-append rolled_over h (take forgotten bytes) last))
     (λ short. let none : forgotten ≡ 0 = omega arith in ap (λ n. rolled_on h (drop n bytes)) none)
     (cases_lt 64 (length bytes))
 

@@ -3,7 +3,6 @@ use Rattle.std.specs.Prelude.{◌≡◌, ℕ, ◌+◌, ◌-◌, ◌≤◌, List,
 use Rattle.std.specs.List.{concat}
 use Rattle.bd_model.specs.Chunks.{Cut, is_candidate, chunks, chunks_after}
 use Rattle.bd_model.specs.Laws.{IsCut, rolled}
-use Rattle.bd_model.proofs.ChunkLemmas.{AreFirstChunks}
 use Rattle.bd_gear.specs.Chunking.{Chunking, next_len}
 
 -- how many bytes these chunks have together: the place in the stream at which the next one begins
@@ -16,9 +15,9 @@ pub record HasFed (cut : Cut) (stream : List ℕ) (taken : List (List ℕ)) (c :
   pub is_cut : IsCut cut
   -- the chunks taken and the bytes held, joined together, are the stream
   pub bytes : concat taken ++ c.held ≡ stream
-  -- they are its first chunks, and until the end of input those of every stream that begins with it
-  pub front : taken ++ chunks_after cut stream (place_after taken) ≡ chunks cut stream
-  pub first : IsFalse c.finished → AreFirstChunks cut stream taken (place_after taken)
+  -- they are its first chunks, and until the end of input the first of every stream that begins with it
+  pub now : chunks cut stream ≡ taken ++ chunks_after cut stream (place_after taken)
+  pub later : IsFalse c.finished → (more : List ℕ) → chunks cut (stream ++ more) ≡ taken ++ chunks_after cut (stream ++ more) (place_after taken)
   -- the hash rolled over all bytes of the stream up to those that are scanned
   pub within : c.scanned ≤ length c.held
   pub hash_is : c.hash ≡ rolled (take (place_after taken + c.scanned) stream)

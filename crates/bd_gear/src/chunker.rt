@@ -15,17 +15,20 @@ use std::marker::Model;
 /// The most bytes that a chunker holds.
 pub const ROOM: usize = 131_072;
 
-/// Cuts a stream into chunks while it comes in pieces.
+/// Cuts a stream into chunks while it comes in pieces. Contracts see the bytes that it holds, how far it has looked for the
+/// end of the next chunk, and whether input may follow; `HasFed` says which stream it was fed and which chunks were taken.
 #[derive(Drop)]
 pub struct Chunker {
     gear: Gear,
     shape: Shape,
-    // the bytes held stand from `start` to `end`
+    // ROOM bytes, of which those held stand from `start` to `end`
     buffer: Vec<u8>,
     start: usize,
     end: usize,
+    // how many of them the hash has rolled over, and the hash there
     scanned: usize,
     hash: u64,
+    // whether these are the next chunk
     found: bool,
     finished: bool,
 }
@@ -39,13 +42,20 @@ impl Model for Chunker {
     ghost use Rattle.bd_model.specs.State.{cut_of};
     ghost use Rattle.bd_gear.specs.Buffers.{IsBuffer};
 
-    ghost view = { λ c. record { cut = cut_of c.shape; held = slice_range c.buffer.items c.start c.end; scanned = c.scanned; hash = c.hash; found = c.found; finished = c.finished } };
+    ghost view = { λ c. record {
+      cut = cut_of c.shape;
+      held = slice_range c.buffer.items c.start c.end;
+      scanned = c.scanned;
+      hash = c.hash;
+      found = c.found;
+      finished = c.finished;
+    } };
 
     ghost invariant = { λ c. IsBuffer (vec_len c.buffer) c.start c.end c.scanned c.found c.shape.max };
 }
 
 impl Chunker {
-    /// Takes all its memory here; no later call takes any.
+    /// A chunker that was fed nothing. It takes all its memory here: `ROOM` bytes, once.
     pub fn new(alloc: Global, gear: Gear, shape: Shape) -> Result<Chunker, OutOfMemory>
         ensures held { IfOk result (λ c. c.held ≡ []) }
         ensures open { IfOk result (λ c. IsFalse c.finished) }
@@ -65,7 +75,8 @@ impl Chunker {
         })
     }
 
-    /// Appends the first of these bytes, as many as there is room for, and gives their number.
+    /// Appends the first of these bytes, as many as there is room for, and gives their number. There is room for at least
+    /// half of `ROOM` once `next_length` gives None.
     pub fn feed(&mut self, bytes: &[u8]) -> usize
         requires { IsFalse self.old.finished }
         ensures count { result ≡ min (length bytes.now) (ROOM - length self.old.held) }
@@ -83,7 +94,7 @@ impl Chunker {
     }
 
     /// The length of the next chunk in bytes. None before it is decided by the bytes that were fed, and after the end of
-    /// input where none are left.
+    /// input where none is left. No byte is looked at twice, however often it is asked.
     pub fn next_length(&mut self) -> Option<u32>
         ensures next { (cut : Cut) (s : List ℕ) (taken : List (List ℕ)) → HasFed cut s taken self.old
             → result ≡ next_len cut s (place_after taken) self.old.finished }
@@ -96,7 +107,8 @@ impl Chunker {
         ensures cut { self.new.cut ≡ self.old.cut }
         ensures held { self.new.held ≡ self.old.held }
         ensures finished { self.new.finished ≡ self.old.finished }
-        ensures fed { (cut : Cut) (s : List ℕ) (taken : List (List ℕ)) → HasFed cut s taken self.old → HasFed cut s taken self.new }
+        ensures fed { (cut : Cut) (s : List ℕ) (taken : List (List ℕ)) → HasFed cut s taken self.old
+            → HasFed cut s taken self.new }
     {
         if !self.found {
             self.look_on();
@@ -127,7 +139,7 @@ impl Chunker {
         self.found = next.found;
     }
 
-    /// The next chunk, of the length that `next_length` gave.
+    /// The bytes of the next chunk. Its length is the one that `next_length` gave.
     pub fn chunk(&self, len: u32) -> &[u8]
         requires { given self.now ≡ Some len }
         ensures bytes { result.now ≡ take len self.now.held }
@@ -136,7 +148,7 @@ impl Chunker {
         &self.buffer[self.start..self.start + len as usize]
     }
 
-    /// Removes the next chunk, of the length that `next_length` gave.
+    /// Removes the next chunk. Its length is the one that `next_length` gave. The hash stays: it goes back over the cut.
     pub fn advance(&mut self, len: u32)
         requires { given self.old ≡ Some len }
         ensures removed { self.new ≡ record self.old { held = drop len self.old.held; scanned = 0; found = false } }
@@ -151,7 +163,8 @@ impl Chunker {
     /// No input follows.
     pub fn finish(&mut self)
         ensures finished { self.new ≡ record self.old { finished = true } }
-        ensures fed { (cut : Cut) (s : List ℕ) (taken : List (List ℕ)) → HasFed cut s taken self.old → HasFed cut s taken self.new }
+        ensures fed { (cut : Cut) (s : List ℕ) (taken : List (List ℕ)) → HasFed cut s taken self.old
+            → HasFed cut s taken self.new }
     {
         self.finished = true;
     }

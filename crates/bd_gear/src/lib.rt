@@ -1,5 +1,5 @@
-//! Content-defined chunking: a stream is cut where its own bytes say so, by the gear rolling hash. Where two streams have
-//! the same bytes for long enough, they are cut in the same places, also where one has more bytes before.
+//! Content-defined chunking: a stream is cut where its own bytes say so, by the gear rolling hash. So where two streams have
+//! the same bytes, they are mostly cut into the same chunks, also where one has more bytes before.
 //!
 //! Each byte has a gear, a fixed number of 64 bits. The hash at a position is twice the hash before plus the gear of the
 //! byte there, modulo 2^64; so a byte is forgotten after 64 more, and the hash depends on the last 64 bytes alone. The three
@@ -12,8 +12,7 @@
 //! - `max`: no chunk has more bytes. Where no candidate comes up to there, the chunk is cut at `max`.
 //!
 //! The hash isn't reset at a cut: its window goes back over it. So whether a position is a candidate depends on the stream
-//! and not on where the chunks before it began, and two streams that differ come to the same cuts again soon after the
-//! difference, also where `min` is below 64.
+//! and not on where the chunks before it began, also where `min` is below 64.
 //!
 //! A [`Chunker`] takes a stream in pieces of any length. It hands out a chunk once no further byte can change it, and the
 //! chunks are the same however the stream was cut into pieces. It holds up to [`ROOM`] bytes: feed it, take every chunk

@@ -1,4 +1,4 @@
-use Rattle.std.proofs.Common.{◌≡◌, ◌≤◌, ◌++◌, List, [], ℕ, take, drop, length, ap, sym, ◌∙◌, subst, arith, append_assoc, length-take, take-append-drop}
+use Rattle.std.proofs.Common.{◌≡◌, ◌++◌, [], take, drop, length, ap, sym, ◌∙◌, arith, append_assoc, length-take, take-append-drop}
 use Rattle.std.proofs.lemmas.List.{take_rest, take-take, take_all, append-nil}
 use Rattle.std.proofs.lemmas.Bool.{eqb-true}
 use Rattle.bd_model.specs.Chunks.{Cut, chunks}
