@@ -1,4 +1,5 @@
 pub mod Commits
+pub mod Committed
 pub mod Fronts
 pub mod Kept
 pub mod Newest

@@ -1,8 +1,13 @@
--- The calls of a commit.
-use Rattle.std.specs.Prelude.{ℕ, ◌+◌, Bool, true, false, List, [], ◌∷◌, ◌++◌}
+-- What a commit writes, and its calls.
+use Rattle.std.specs.Prelude.{ℕ, ◌+◌, Bool, true, false, List, [], ◌∷◌, ◌++◌, length}
 use Rattle.bd_disk.specs.History.{Call, Put, Flush}
+use Rattle.bd_model.specs.Records.{eight}
 use Rattle.bd_model.specs.Sizes.{Sizes, half_place}
 use Rattle.bd_gate.specs.Superblock.{open_gate, closed_gate}
+
+-- a frame: the turn, the length of the payload, the payload and a closed gate
+abbrev pub frame_of : ℕ → List ℕ → List ℕ
+frame_of turn payload = turn ∷ (eight (length payload) ++ payload ++ (closed_gate ∷ []))
 
 -- a write and a sync
 abbrev pub stored_by : ℕ → List ℕ → List Call

@@ -10,11 +10,9 @@ ghost use Rattle.bd_gate.specs.Halves.{InFrame, InGate, InHalf};
 ghost use Rattle.bd_gate.specs.Standing.{behind, SameStanding, HasFrame, IsEither, IsCommitted, IsOldOrCommitted, IsBeside, IsNextTurn, BeginsNextTurn};
 ghost use Rattle.bd_gate.specs.Superblock.{open_gate, closed_gate};
 
-use crate::half::{OPEN_GATE, place_of_half};
+use crate::half::{CLOSED_GATE, OPEN_GATE, place_of_half};
 use bd_disk::{Disk, Failed};
 use bd_model::Shape;
-
-const CLOSED_GATE: u8 = 0;
 
 // Writes, and makes sure of it.
 fn store<D: Disk>(disk: &mut D, at: u64, from: &[u8]) -> Result<(), Failed>

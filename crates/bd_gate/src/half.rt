@@ -13,7 +13,10 @@ use bd_disk::{Disk, Failed};
 use bd_model::Shape;
 
 /// The byte of an open gate. Every other byte is a closed one.
-pub(crate) const OPEN_GATE: u8 = 0x4F;
+pub const OPEN_GATE: u8 = 0x4F;
+
+/// The byte that is written to close a gate.
+pub const CLOSED_GATE: u8 = 0;
 
 /// The newest half.
 #[derive(Clone, Copy, PartialEq, Eq, Debug)]

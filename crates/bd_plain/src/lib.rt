@@ -1,4 +1,5 @@
-//! The definitions as a plain, slow program over lists in memory, for tests to compare with.
+//! The definitions as a plain, slow program over lists in memory, for tests to compare with. A sum that is more than
+//! 64 bits can say is answered as the greatest number of 64 bits.
 #![tactic(auto)]
 
 mod count;

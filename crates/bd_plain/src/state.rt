@@ -50,7 +50,7 @@ impl PlainState {
     }
 
     /// The number of the version that was backed up last.
-    pub fn newest(&self) -> u64
+    pub(crate) fn newest(&self) -> u64
         ensures value { result ≡ (state_of self.now).base + length (state_of self.now).versions }
         ensures numbered { result ≡ self.now.base + vec_len self.now.streams }
     {
