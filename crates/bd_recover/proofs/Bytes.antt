@@ -1,11 +1,10 @@
 -- What the writes of a format leave.
-use Rattle.std.proofs.Common.{◌≡◌, ◌≢◌, ◌⊎◌, inl, inr, ℕ, ◌+◌, ◌-◌, ◌*◌, ◌<◌, ◌≤◌, List, [], ◌∷◌, length, take, drop, get_or, refl, sym, ◌∙◌, ap, subst, arith, take-take, drop-drop, length-take, length-drop, true, false, eqb}
+use Rattle.std.proofs.Common.{◌≡◌, ℕ, ◌+◌, ◌-◌, ◌<◌, ◌≤◌, List, [], ◌∷◌, length, take, drop, get_or, sym, ◌∙◌, ap, arith, take-take, drop-drop, eqb}
 use Rattle.std.proofs.lemmas.List.{drop-take}
-use Rattle.std.proofs.lemmas.Bool.{ne_eqb}
-use Rattle.bd_disk.specs.Images.{InRange, Agree, AgreeBut, bytes_at, overwritten}
-use Rattle.bd_disk.proofs.Agreeing.{agree_refl, agree_trans, length-overwritten, overwritten_there, overwritten_elsewhere, overwrite_agrees, bytes_at-overwritten, same_bytes_at}
+use Rattle.bd_disk.specs.Images.{InRange, AgreeBut, bytes_at, overwritten}
+use Rattle.bd_disk.proofs.Agreeing.{length-overwritten, overwritten_there, overwrite_agrees, bytes_at-overwritten, same_bytes_at}
 use Rattle.bd_model.specs.Sizes.{Sizes, disk_bytes, half_bytes, half_place}
-use Rattle.bd_gate.specs.Superblock.{byte_at, open_gate}
+use Rattle.bd_gate.specs.Superblock.{open_gate}
 use Rattle.bd_recover.specs.Fresh.{HoldsFresh, InParts, fresh_half, superblock_body}
 use Rattle.bd_disk.specs.History.{History}
 use Rattle.bd_disk.specs.Made.{WritesOnly}

@@ -1,23 +1,22 @@
 -- What an opening finds of a formatted disk, and of one whose gate is shut.
-use Rattle.std.proofs.Common.{◌≡◌, ◌≢◌, ℕ, ◌+◌, ◌-◌, ◌*◌, ◌<◌, ◌≤◌, ◌^◌, Bool, true, false, not, ◌&&◌, ◌||◌, ◌==◌, List, [], ◌∷◌, ◌++◌, length, take, drop, get_or, refl, sym, ◌∙◌, ap, subst, arith, replicate, Some, None, Ok, Err, Result, IsErr, nat_lt, nat_le, nat_eq, le-leb, lt-ltb, le-ltb, eq-eqb, if◌then◌else◌, cond}
+use Rattle.std.proofs.Common.{◌≡◌, ◌≢◌, ℕ, ◌+◌, ◌<◌, ◌≤◌, ◌^◌, Bool, true, false, not, ◌&&◌, ◌==◌, List, length, take, drop, get_or, refl, sym, ◌∙◌, ap, arith, replicate, Some, Ok, Err, Result, IsErr, nat_lt, nat_le, le-leb, le-ltb, eq-eqb, if◌then◌else◌}
 use Rattle.std.proofs.lemmas.Bool.{ne_eqb}
-use Rattle.std.specs.Prelude.{bytes_eq, flat_map}
-use Rattle.std.specs.Int.{w32, w64, from_be_bytes, is_power_of_two}
+use Rattle.std.specs.Prelude.{bytes_eq}
+use Rattle.std.specs.Int.{w32, w64, from_be_bytes}
 use Rattle.std.proofs.lemmas.Nat.{from_be_bytes-to_be_bytes_4}
 use Rattle.bd_disk.specs.Images.{bytes_at}
 use Rattle.bd_disk.proofs.Agreeing.{get_or-bytes_at}
 use Rattle.bd_model.specs.Limits.{IsShape}
-use Rattle.bd_model.specs.Records.{four, eight}
-use Rattle.bd_model.specs.Sizes.{Sizes, is_shape, disk_bytes, half_bytes, half_place, payload_room}
-use Rattle.bd_model.proofs.ChunkListLemmas.{bytes_eq-refl}
+use Rattle.bd_model.specs.Records.{four}
+use Rattle.bd_model.specs.Sizes.{Sizes, is_shape, disk_bytes, half_place, payload_room}
 use Rattle.bd_model.specs.declared.place.Place.{Place}
-use Rattle.bd_model.specs.declared.place.Place.TheVariants.{Short, Gate, Magic, Number, Shape, Padding, Room, Halves, Payload}
-use Rattle.bd_gate.specs.Superblock.{byte_at, four_at, eight_at, open_gate, magic, sizes_at, is_marked}
-use Rattle.bd_gate.specs.Halves.{newest_by, newest_half, is_open, turn_at, half_at, payload_of}
-use Rattle.bd_catalog.specs.Catalogue.{Catalogue, empty_catalogue}
+use Rattle.bd_model.specs.declared.place.Place.TheVariants.{Short, Gate, Magic, Number, Shape, Padding, Room, Payload}
+use Rattle.bd_gate.specs.Superblock.{byte_at, four_at, open_gate, magic, sizes_at, is_marked}
+use Rattle.bd_gate.specs.Halves.{newest_by, newest_half, half_at, payload_of}
+use Rattle.bd_catalog.specs.Catalogue.{empty_catalogue}
 use Rattle.bd_catalog.specs.Rules.{catalogue_of}
 use Rattle.bd_catalog.specs.Opening.{Found, opened, opened_half, opened_payload}
-use Rattle.bd_recover.specs.Fresh.{HoldsFresh, IsNoneOrFresh, fresh_found, fresh_half, superblock_body}
+use Rattle.bd_recover.specs.Fresh.{HoldsFresh, fresh_found, fresh_half, superblock_body}
 use Rattle.bd_recover.proofs.Bytes.{sub_bytes}
 
 -- a shut gate, or none at all, is no store
@@ -143,11 +142,11 @@ module _ (s : Sizes) (image : List ℕ) (h : HoldsFresh s image) where
       checked_is image
       ∙ ap (λ t. checked t image) (sizes is)
       ∙ all_pass _ _ _ _ _ _ _ _ short
-          (eq-eqb (byte_at image 0) open_gate gate)
-          (ap (λ l. bytes_eq l magic) mark)
-          (ap (λ n. n == 1) (number_at 7 1 (omega arith) (omega arith) refl))
-          (shape_holds s is)
-          (ap (λ l. bytes_eq l (replicate 28 0)) padding)
-          (le-ltb (length image) (disk_bytes s) h.room)
+      (eq-eqb (byte_at image 0) open_gate gate)
+      (ap (λ l. bytes_eq l magic) mark)
+      (ap (λ n. n == 1) (number_at 7 1 (omega arith) (omega arith) refl))
+      (shape_holds s is)
+      (ap (λ l. bytes_eq l (replicate 28 0)) padding)
+      (le-ltb (length image) (disk_bytes s) h.room)
       ∙ ap (opened_half s image) newest
       ∙ found_is

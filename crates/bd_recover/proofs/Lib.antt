@@ -1,4 +1,3 @@
 mod Bytes
 mod Found
 mod Stops
-

@@ -1,9 +1,9 @@
 -- What a stop within a format leaves.
-use Rattle.std.proofs.Common.{◌≡◌, ◌≢◌, ◌⊎◌, inl, inr, ℕ, ◌+◌, ◌<◌, ◌≤◌, Bool, true, false, ◌&&◌, ◌==◌, List, [], ◌∷◌, length, get_or, refl, sym, ◌∙◌, ap, subst, arith, Result, Err, Ok, IsErr, nat_le, eqb}
+use Rattle.std.proofs.Common.{◌≡◌, ◌≢◌, inl, inr, ℕ, ◌<◌, Bool, true, false, ◌&&◌, ◌==◌, List, [], ◌∷◌, length, get_or, refl, sym, ◌∙◌, ap, subst, arith, Ok, IsErr, nat_le}
 use Rattle.std.specs.Prelude.{bytes_eq}
 use Rattle.std.proofs.lemmas.Bool.{eq-eqb}
 use Rattle.std.proofs.lemmas.Bool.Decides.{eqb_tells}
-use Rattle.bd_disk.specs.Images.{InRange, Agree, AgreeBut, bytes_at, overwritten}
+use Rattle.bd_disk.specs.Images.{InRange, AgreeBut, bytes_at, overwritten}
 use Rattle.bd_disk.specs.History.{History, contents}
 use Rattle.bd_disk.specs.Made.{IsSettled, LeavesSince, Stores, WritesNothing, WritesOnly}
 use Rattle.bd_disk.proofs.Agreeing.{same_bytes_at, overwrite_agrees, overwritten_there}
@@ -11,7 +11,7 @@ use Rattle.bd_disk.proofs.Frames.{leaves_both, leaves_by_writes, leaves_quiet, s
 use Rattle.bd_model.specs.Limits.{IsShape}
 use Rattle.bd_model.specs.Sizes.{Sizes, extent_place}
 use Rattle.bd_gate.specs.Superblock.{byte_at, open_gate, magic, is_marked}
-use Rattle.bd_catalog.specs.Opening.{Found, opened}
+use Rattle.bd_catalog.specs.Opening.{opened}
 use Rattle.bd_recover.specs.Fresh.{HoldsFresh, InParts, IsNoneOrFresh, fresh_found}
 use Rattle.bd_recover.proofs.Bytes.{holds_but_gate}
 use Rattle.bd_recover.proofs.Found.{opened_fresh, shut, unmarked}
@@ -28,9 +28,9 @@ still_unmarked : (old image : List ℕ) → (byte_at old 0 == open_gate) ≡ tru
 still_unmarked old image is none same =
     let parts : bytes_at 1 7 image ≡ bytes_at 1 7 old = same_bytes_at _ old image 1 7 (λ place r q. omega (arith, r.0, q.1)) same in
     other_gate (nat_le 64 (length image)) (byte_at old 0 == open_gate) (bytes_eq (bytes_at 1 7 image) magic) (byte_at image 0 == open_gate) is
-      (ap (λ n. nat_le 64 n && byte_at old 0 == open_gate && bytes_eq (bytes_at 1 7 image) magic) same.size
-      ∙ ap (λ l. nat_le 64 (length old) && byte_at old 0 == open_gate && bytes_eq l magic) parts
-      ∙ none)
+    (ap (λ n. nat_le 64 n && byte_at old 0 == open_gate && bytes_eq (bytes_at 1 7 image) magic) same.size
+    ∙ ap (λ l. nat_le 64 (length old) && byte_at old 0 == open_gate && bytes_eq l magic) parts
+    ∙ none)
 
 zeroed : (image : List ℕ) → get_or (overwritten image 0 (0 ∷ [])) 0 0 ≡ 0
 unfolding overwritten
@@ -55,11 +55,11 @@ module _ (s : Sizes) where
       → WritesNothing a b → WritesOnly (InRange 0 1) b c → LeavesSince (IsNoneOrFresh s) a c
   asked_and_closes none is settled asks writes =
       leaves_both (asked none settled asks)
-        (closes
-          (subst (λ m. is_marked m ≡ false) (sym (unchanged asks)) none)
-          (subst (λ m. (byte_at m 0 == open_gate) ≡ true) (sym (unchanged asks)) is)
-          (still_settled asks settled)
-          writes)
+      (closes
+      (subst (λ m. is_marked m ≡ false) (sym (unchanged asks)) none)
+      (subst (λ m. (byte_at m 0 == open_gate) ≡ true) (sym (unchanged asks)) is)
+      (still_settled asks settled)
+      writes)
 
   -- where it was no open gate, it still is none
   pub not_open : {a b : History} → (byte_at (contents a) 0 == open_gate) ≡ false → WritesNothing a b → byte_at (contents b) 0 ≢ open_gate

@@ -1,9 +1,9 @@
 -- What a formatted disk holds.
-use Rattle.std.specs.Prelude.{◌≡◌, ◌⊎◌, ℕ, ◌<◌, ◌≤◌, List, [], ◌∷◌, ◌++◌, length, flat_map, replicate, false, Result, Ok, Err, IsErr}
+use Rattle.std.specs.Prelude.{◌≡◌, ◌⊎◌, ℕ, ◌<◌, ◌≤◌, List, [], ◌∷◌, ◌++◌, length, flat_map, replicate, false, Ok, IsErr}
 use Rattle.bd_disk.specs.Images.{bytes_at}
 use Rattle.bd_model.specs.Records.{four, eight}
 use Rattle.bd_model.specs.Sizes.{Sizes, disk_bytes, extent_place}
-use Rattle.bd_gate.specs.Superblock.{open_gate, magic, byte_at}
+use Rattle.bd_gate.specs.Superblock.{open_gate, magic}
 use Rattle.bd_gate.specs.Halves.{Half, log_place, is_open}
 use Rattle.bd_catalog.specs.Catalogue.{empty_catalogue}
 use Rattle.bd_catalog.specs.Opening.{Found, opened}

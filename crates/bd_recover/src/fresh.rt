@@ -3,7 +3,7 @@ ghost use Rattle.bd_model.specs.Sizes.{sizes_of};
 ghost use Rattle.bd_recover.specs.Fresh.{fresh_half, superblock_body};
 
 use bd_model::Shape;
-use bd_wire::{put_u32, put_u64, put_u8};
+use bd_wire::{put_u8, put_u32, put_u64};
 
 /// The bytes of a superblock behind its gate.
 pub(crate) fn superblock_body(shape: &Shape) -> [u8; 63]

@@ -7,3 +7,6 @@ mod fresh;
 
 pub use fault::FormatFault;
 pub use format::format_disk;
+
+#[cfg(test)]
+mod tests;

@@ -16,7 +16,7 @@ returns-in_err-write_and_sync-clause-writes g c = λ told.
 pub returns-in_err-write_and_sync-clause-stops : goal.returns-in_err-write_and_sync-clause-stops
 returns-in_err-write_and_sync-clause-stops g c = λ told none settled.
     asked_and_closes (sizes_of c.args.shape.now) none (sym (c.in_ok-asks_for_closing.ensures.gate told) ∙ c.if-branch.true) settled
-      (c.asks_for_closing.ensures.writes told) (c.write_and_sync.ensures.writes told)
+    (c.asks_for_closing.ensures.writes told) (c.write_and_sync.ensures.writes told)
 
 pub returns-in_ok-write_and_sync-clause-writes : goal.returns-in_ok-write_and_sync-clause-writes
 returns-in_ok-write_and_sync-clause-writes g c = λ told.
@@ -28,7 +28,7 @@ returns-in_ok-write_and_sync-clause-shut g c = λ told. closed (sizes_of c.args.
 pub returns-in_ok-write_and_sync-clause-stops : goal.returns-in_ok-write_and_sync-clause-stops
 returns-in_ok-write_and_sync-clause-stops g c = λ told none settled.
     asked_and_closes (sizes_of c.args.shape.now) none (sym (c.in_ok-asks_for_closing.ensures.gate told) ∙ c.if-branch.true) settled
-      (c.asks_for_closing.ensures.writes told) (c.write_and_sync.ensures.writes told)
+    (c.asks_for_closing.ensures.writes told) (c.write_and_sync.ensures.writes told)
 
 pub returns-else-branch-clause-writes : goal.returns-else-branch-clause-writes
 returns-else-branch-clause-writes g c = λ told. nothing_within (InRange 0 1) (c.asks_for_closing.ensures.writes told)

@@ -1,9 +1,9 @@
-use Rattle.std.proofs.Common.{◌≡◌, ◌+◌, ◌*◌, ◌≤◌, ◌<◌, ◌∙◌, [], ◌∷◌, ap, subst, sym, arith, length}
+use Rattle.std.proofs.Common.{◌≡◌, ◌+◌, ◌≤◌, ◌∙◌, [], ◌∷◌, ap, subst, sym, arith, length}
 use Rattle.bd_disk.specs.History.{contents}
 use Rattle.bd_disk.specs.Images.{overwritten}
-use Rattle.bd_disk.proofs.Frames.{made_both, nothing_within, settled, writes_wider}
-use Rattle.bd_model.specs.Sizes.{sizes_of, disk_bytes, half_bytes, half_place}
-use Rattle.bd_recover.specs.Fresh.{HoldsFresh, InParts, fresh_half, superblock_body}
+use Rattle.bd_disk.proofs.Frames.{made_both, nothing_within, settled}
+use Rattle.bd_model.specs.Sizes.{sizes_of, disk_bytes, half_place}
+use Rattle.bd_recover.specs.Fresh.{HoldsFresh, fresh_half, superblock_body}
 use Rattle.bd_recover.proofs.Bytes.{holds_fresh, first_in_parts, other_in_parts, body_in_parts}
 use Rattle.bd_recover.proofs.format.write_parts.Goals as goal
 
