@@ -6,3 +6,4 @@ pub mod Sound
 pub mod Spelling
 pub mod Standing
 pub mod Walks
+pub mod Widths
