@@ -19,7 +19,6 @@ use Rattle.bd_model.specs.declared.answer.Answer.{Answer}
 use Rattle.bd_model.specs.Folds.{answers_of, outcomes, unheld}
 use Rattle.bd_model.specs.declared.answer.Answer.TheVariants.{BackedUp, Restored, Expired, Arranged, Scrubbed, Listed, FullNumbers, FullVersions, FullExtents, NoVersion, NothingRetained, Formatted}
 use Rattle.bd_model.specs.declared.answer.VersionLine.{VersionLine}
-use Rattle.bd_model.specs.Shapes.{payload_room as shape_room, half_bytes as shape_half, disk_bytes as shape_disk}
 use Rattle.bd_model.specs.Sizes.{Sizes, sizes_of, payload_room, half_bytes, disk_bytes}
 use Rattle.bd_model.specs.Chunks.{chunks_from}
 use Rattle.bd_model.specs.Laws.{walk, given_up}
@@ -263,10 +262,6 @@ soak_sizes = refl
 
 greatest_sizes : sizes_list (record { extent = 16777216; extents = 65536; retain = 256; min = 65536; bits = 32; max = 65536 }) ≡ 2502208 ∷ 2567755 ∷ 1099516763350 ∷ []
 greatest_sizes = refl
-
--- a shape and its plain sizes take the same room
-same_sizes : (s : Shape) → sizes_list (sizes_of s) ≡ shape_room s ∷ shape_half s ∷ shape_disk s ∷ []
-same_sizes s = refl
 
 pieces : (extents : ℕ) (low : 1 ≤ extents) (high : extents ≤ 65536) (s : List ℕ) (start count : ℕ) → chunks_from (cut_of (with_extents extents low high)) s start count ≡ pieces_from 4 s start count
 pieces extents low high s start count = chunks_from-pieces (cut_of (with_extents extents low high)) s start count refl (lit≤ tt)
