@@ -92,3 +92,8 @@ length-spelled s bounded c h =
     let starts : starts_hold (oldest_in c) (oldest_in c + 0) c.volumes ≡ true = ap (λ (j : ℕ). starts_hold (oldest_in c) j c.volumes) (omega arith) ∙ rules.starts in
     omega (arith, length-parts c, length-versions c.versions, length-volumes (oldest_in c) 0 c.volumes starts, length-actives s bounded c.actives rules.actives,
     own.few, length-append (versions ++ volumes) actives, length-append versions volumes, numbers.few, numbers.volumes)
+
+pub payload_room-small : (s : Sizes) → IsBounded s → payload_room s < 2 ^ 32
+payload_room-small s bounded =
+    let square : s.retain * (s.retain + 1) ≤ 256 * 257 = omega (arith, bounded.retain, mul-le-mul_right {m = s.retain} {n = 256} (s.retain + 1) bounded.retain) in
+    omega (arith, bounded.retain, bounded.extents)

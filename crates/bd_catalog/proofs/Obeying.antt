@@ -7,7 +7,8 @@ use Rattle.std.proofs.lemmas.List.Elements.{All-nil, All-cons}
 use Rattle.std.proofs.lemmas.List.Folds.{list_all-append}
 use Rattle.std.proofs.lemmas.Map.Steps.{length-le_from_distinct_below}
 use Rattle.bd_model.proofs.ListLemmas.{left_and, right_and}
-use Rattle.bd_model.specs.Sizes.{Sizes}
+use Rattle.bd_model.specs.declared.shape.Shape.{Shape}
+use Rattle.bd_model.specs.Sizes.{Sizes, sizes_of}
 use Rattle.bd_model.specs.declared.layout.Phase.{Phase}
 use Rattle.bd_model.specs.declared.layout.Phase.TheVariants.{Settled, Waiting}
 use Rattle.bd_model.specs.declared.layout.CategoryRow.{CategoryRow}
@@ -131,6 +132,9 @@ pub record IsBounded (s : Sizes) : Type 0 where
   pub retain : s.retain ≤ 256
   pub extents : s.extents ≤ 65536
   pub extent : 1 ≤ s.extent
+
+pub bounded_of : (shape : Shape) → IsBounded (sizes_of shape)
+bounded_of shape = record { retain = shape.in_range.retain_high; extents = shape.in_range.extents_high; extent = omega (arith, shape.in_range.extent_low) }
 
 -- the lists of one owner after the other
 pub record OwnFew (top : ℕ) (numbers : List ℕ) : Type 0 where

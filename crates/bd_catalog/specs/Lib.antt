@@ -1,7 +1,9 @@
 pub mod Catalogue
 pub mod Damages
+pub mod Ledger
 pub mod Opening
 pub mod Rules
+pub mod Shown
 pub mod Sound
 pub mod Spelling
 pub mod Standing
