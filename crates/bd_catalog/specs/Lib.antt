@@ -9,3 +9,4 @@ pub mod Spelling
 pub mod Standing
 pub mod Walks
 pub mod Widths
+pub mod Writing

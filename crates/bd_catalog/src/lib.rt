@@ -3,6 +3,7 @@
 
 mod catalog;
 mod contents;
+mod encode;
 mod rows;
 mod step;
 
