@@ -10,3 +10,4 @@ pub mod Standing
 pub mod Walks
 pub mod Widths
 pub mod Writing
+pub mod Checked

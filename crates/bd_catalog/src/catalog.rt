@@ -1,5 +1,5 @@
-ghost use Rattle.std.specs.Prelude.{◌≡◌, ℕ, ◌+◌, ◌-◌, ◌≤◌, ◌<◌, ◌↔◌, map, length, IsTrue, IfOk, IfSome, IsSome, slice_get};
-ghost use Rattle.bd_model.specs.Sizes.{sizes_of};
+ghost use Rattle.std.specs.Prelude.{◌≡◌, ℕ, ◌+◌, ◌-◌, ◌≤◌, ◌<◌, ◌↔◌, ◌++◌, drop, map, length, IsTrue, IfOk, IfSome, IsSome, slice_get};
+ghost use Rattle.bd_model.specs.Sizes.{sizes_of, payload_room};
 ghost use Rattle.bd_catalog.specs.Catalogue.{empty_catalogue, oldest_in, retained_in};
 ghost use Rattle.bd_catalog.specs.Ledger.{found_alone};
 ghost use Rattle.bd_catalog.specs.Rules.{obeys};
@@ -7,6 +7,7 @@ ghost use Rattle.bd_catalog.specs.Spelling.{spelled};
 ghost use Rattle.bd_catalog.specs.Shown.{catalogue_of_contents, version_entry, volume_entry, open_entry};
 
 use crate::contents::Contents;
+use crate::encode::put_contents;
 use crate::rows::{Actives, ClosedVolume, VersionRow};
 use bd_model::{Phase, Shape};
 use std::alloc::{AllocError as OutOfMemory, Global};
@@ -88,6 +89,17 @@ impl Catalog {
             log_end,
             frame,
         })
+    }
+
+    /// Writes the spelling of the catalogue to the front of `into`, and answers how many bytes that is. What lies behind
+    /// stays.
+    pub fn encode(&self, into: &mut [u8]) -> usize
+        requires { payload_room self.now.found.sizes ≤ length into.old }
+        ensures written { into.new ≡ spelled self.now.found.catalogue ++ drop result into.old }
+        ensures bytes { result ≡ length (spelled self.now.found.catalogue) }
+        ensures room { result ≤ payload_room self.now.found.sizes }
+    {
+        put_contents(into, &self.contents)
     }
 
     /// The shape of the store.

@@ -5,6 +5,7 @@ mod catalog;
 mod contents;
 mod encode;
 mod rows;
+mod rules;
 mod step;
 
 pub use bd_model::{CategoryRow, Phase};
