@@ -11,3 +11,4 @@ pub mod Walks
 pub mod Widths
 pub mod Writing
 pub mod Checked
+pub mod Reading

@@ -3,6 +3,7 @@
 
 mod catalog;
 mod contents;
+mod decode;
 mod encode;
 mod rows;
 mod rules;
