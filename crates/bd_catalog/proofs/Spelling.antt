@@ -106,7 +106,7 @@ lists_back c rest fits =
     ∙ ap with_actives (list_back read_active spelled_active FitsOpen active_back c.actives rest fits.actives)
 
 -- the fields in their order, each behind the one before
-spelled_apart : (c : Catalogue) (rest : List ℕ) → spelled c ++ rest ≡
+pub spelled_apart : (c : Catalogue) (rest : List ℕ) → spelled c ++ rest ≡
     four c.base ++ (four c.newest ++ (four (length c.versions) ++ (spelled_phase c.phase
     ++ (flat_map spelled_version c.versions ++ (flat_map spelled_volume c.volumes ++ (four (length c.actives) ++ (flat_map spelled_active c.actives ++ rest)))))))
 spelled_apart c rest =
@@ -129,7 +129,7 @@ phase_back : (phase : Phase) (rest : List ℕ) → FitsPhase phase → phase_of 
 phase_back Settled rest fits = refl
 phase_back (Waiting cursor) rest fits = ap Waiting (from_be_bytes-to_be_bytes_4 cursor fits)
 
-behind_phase : (phase : Phase) (rest : List ℕ) → drop 4 (drop 1 (spelled_phase phase ++ rest)) ≡ rest
+pub behind_phase : (phase : Phase) (rest : List ℕ) → drop 4 (drop 1 (spelled_phase phase ++ rest)) ≡ rest
 behind_phase Settled rest = refl
 behind_phase (Waiting cursor) rest = refl
 

@@ -193,3 +193,37 @@ fn take_actives(alloc: Global, cursor: &mut Cursor) -> Result<Option<Actives>, O
     }
     Ok(Some(actives))
 }
+
+pub(crate) fn take_contents(
+    alloc: Global,
+    cursor: &mut Cursor,
+) -> Result<Option<Contents>, OutOfMemory>
+    ensures { IfOk result (λ found. MatchOption found (SpellsNone spelled IsSpellable cursor.old) (λ x. Took spelled IsSpellable (catalogue_of_contents x) cursor.old cursor.new)) }
+{
+    let Some((base, newest, count)) = take_numbers(cursor) else {
+        return Ok(None);
+    };
+    let Some(phase) = take_phase(cursor) else {
+        return Ok(None);
+    };
+    let retained = take_versions(alloc, cursor, count)?;
+    let Some(versions) = retained else {
+        return Ok(None);
+    };
+    let closed = take_volumes(alloc, cursor, count.saturating_sub(1))?;
+    let Some(volumes) = closed else {
+        return Ok(None);
+    };
+    let open = take_actives(alloc, cursor)?;
+    let Some(actives) = open else {
+        return Ok(None);
+    };
+    Ok(Some(Contents {
+        base,
+        newest,
+        phase,
+        versions,
+        volumes,
+        actives,
+    }))
+}
