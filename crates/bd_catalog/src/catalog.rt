@@ -1,15 +1,18 @@
-ghost use Rattle.std.specs.Prelude.{◌≡◌, ℕ, ◌+◌, ◌-◌, ◌≤◌, ◌<◌, ◌↔◌, ◌++◌, drop, map, length, IsTrue, IfOk, IfSome, IsSome, slice_get};
+ghost use Rattle.std.specs.Prelude.{◌≡◌, ℕ, ◌+◌, ◌-◌, ◌≤◌, ◌<◌, ◌↔◌, ◌++◌, drop, map, length, IsTrue, IfOk, IfSome, IfNone, Some, None, IsSome, slice_get};
 ghost use Rattle.bd_model.specs.Sizes.{sizes_of, payload_room};
 ghost use Rattle.bd_catalog.specs.Catalogue.{empty_catalogue, oldest_in, retained_in};
 ghost use Rattle.bd_catalog.specs.Ledger.{found_alone};
-ghost use Rattle.bd_catalog.specs.Rules.{obeys};
+ghost use Rattle.bd_catalog.specs.Rules.{obeys, catalogue_of};
 ghost use Rattle.bd_catalog.specs.Spelling.{spelled};
 ghost use Rattle.bd_catalog.specs.Shown.{catalogue_of_contents, version_entry, volume_entry, open_entry};
 
 use crate::contents::Contents;
+use crate::decode::take_contents;
 use crate::encode::put_contents;
 use crate::rows::{Actives, ClosedVolume, VersionRow};
+use crate::rules::obeys;
 use bd_model::{Phase, Shape};
+use bd_wire::Cursor;
 use std::alloc::{AllocError as OutOfMemory, Global};
 use std::marker::Model;
 
@@ -64,6 +67,33 @@ impl Catalog {
             actives: Actives::new(alloc),
         };
         Catalog::alone(alloc, shape, contents, 21)
+    }
+
+    /// The catalogue that the bytes spell, in half 0 with an empty log; the other half is closed. None exactly where the
+    /// bytes spell no catalogue that obeys the rules for the shape. It takes time linear in the bytes.
+    pub fn decode(
+        alloc: Global,
+        shape: Shape,
+        bytes: &[u8],
+    ) -> Result<Option<Catalog>, OutOfMemory>
+        ensures none { IfOk result (λ found. IfNone found (catalogue_of (sizes_of shape) bytes.now ≡ None)) }
+        ensures some { IfOk result (λ found. IfSome found (λ c. catalogue_of (sizes_of shape) bytes.now ≡ Some c.found.catalogue)) }
+        ensures place { IfOk result (λ found. IfSome found (λ c. c.found ≡ found_alone (sizes_of shape) c.found.catalogue)) }
+    {
+        let mut cursor = Cursor::new(bytes);
+        let taken = take_contents(alloc, &mut cursor)?;
+        let Some(contents) = taken else {
+            return Ok(None);
+        };
+        if cursor.left() > 0 {
+            return Ok(None);
+        }
+        let obeyed = obeys(alloc, &shape, &contents)?;
+        if !obeyed {
+            return Ok(None);
+        }
+        let catalog = Catalog::alone(alloc, shape, contents, bytes.len() as u64)?;
+        Ok(Some(catalog))
     }
 
     // The catalogue, which takes so many bytes, in half 0 with an empty log; the other half is closed.
