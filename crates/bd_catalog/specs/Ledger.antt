@@ -36,29 +36,32 @@ half_zero c = record { number = 0; turn = 0; length = length (spelled c); other_
 abbrev pub found_alone : Sizes → Catalogue → Found
 found_alone s c = record { sizes = s; half = half_zero c; catalogue = c; log_end = log_place s (half_zero c) }
 
-abbrev pub last_rows_room : List ClosedVolume → ℕ
-last_rows_room [] = 0
-last_rows_room (v ∷ []) = v.rows.spare
-last_rows_room (v ∷ w ∷ vs) = last_rows_room (w ∷ vs)
-
-abbrev pub last_extents_room : List ClosedVolume → ℕ
-last_extents_room [] = 0
-last_extents_room (v ∷ []) = v.extents.spare
-last_extents_room (v ∷ w ∷ vs) = last_extents_room (w ∷ vs)
+-- the room in the last volume
+abbrev pub last_room : (ClosedVolume → ℕ) → List ClosedVolume → ℕ
+last_room room [] = 0
+last_room room (v ∷ []) = room v
+last_room room (v ∷ w ∷ vs) = last_room room (w ∷ vs)
 
 abbrev pub room_of : Contents → Room
 room_of c = record {
   versions = c.versions.cap - c.versions.len;
   volumes = c.volumes.cap - c.volumes.len;
   actives = c.actives.spare;
-  rows = last_rows_room c.volumes.items;
-  extents = last_extents_room c.volumes.items;
+  rows = last_room (λ v. v.rows.spare) c.volumes.items;
+  extents = last_room (λ v. v.extents.spare) c.volumes.items;
 }
 
--- room for one step: one more version, volume, open category and row, and this many more extents
-pub record HasRoom (count : ℕ) (ledger : Ledger) : Type 0 where
-  pub versions : 1 ≤ ledger.room.versions
-  pub volumes : 1 ≤ ledger.room.volumes
-  pub actives : 1 ≤ ledger.room.actives
-  pub rows : 0 < length ledger.found.catalogue.volumes → 1 ≤ ledger.room.rows
-  pub extents : 0 < length ledger.found.catalogue.volumes → count ≤ ledger.room.extents
+-- room for one more version, volume, open category and row, and for this many more extents
+pub record IsRoom (count : ℕ) (volumes : ℕ) (room : Room) : Type 0 where
+  pub versions : 1 ≤ room.versions
+  pub one_volume : 1 ≤ room.volumes
+  pub actives : 1 ≤ room.actives
+  pub rows : 0 < volumes → 1 ≤ room.rows
+  pub extents : 0 < volumes → count ≤ room.extents
+
+abbrev pub RoomIs : ℕ → Contents → Type 0
+RoomIs count c = IsRoom count (length c.volumes.items) (room_of c)
+
+-- room for one step: the extents may be as many as there are
+abbrev pub HasRoom : Ledger → Type 0
+HasRoom ledger = IsRoom ledger.found.sizes.extents (length ledger.found.catalogue.volumes) ledger.room

@@ -1,7 +1,7 @@
-ghost use Rattle.std.specs.Prelude.{◌≡◌, ℕ, ◌+◌, ◌-◌, ◌≤◌, ◌<◌, ◌↔◌, ◌++◌, drop, map, length, IsTrue, IfOk, IfSome, IfNone, Some, None, IsSome, slice_get};
+ghost use Rattle.std.specs.Prelude.{◌≡◌, ℕ, ◌+◌, ◌-◌, ◌≤◌, ◌<◌, ◌↔◌, ◌++◌, drop, map, length, IsTrue, IfOk, OnOk, IfSome, IfNone, Some, None, IsSome, slice_get};
 ghost use Rattle.bd_model.specs.Sizes.{sizes_of, payload_room};
 ghost use Rattle.bd_catalog.specs.Catalogue.{empty_catalogue, oldest_in, retained_in};
-ghost use Rattle.bd_catalog.specs.Ledger.{found_alone};
+ghost use Rattle.bd_catalog.specs.Ledger.{found_alone, HasRoom};
 ghost use Rattle.bd_catalog.specs.Rules.{obeys, catalogue_of};
 ghost use Rattle.bd_catalog.specs.Spelling.{spelled};
 ghost use Rattle.bd_catalog.specs.Shown.{catalogue_of_contents, version_entry, volume_entry, open_entry};
@@ -132,9 +132,19 @@ impl Catalog {
         put_contents(into, &self.contents)
     }
 
-    /// The shape of the store.
+    /// Makes room for one step: for one more version, volume and open category, and in the last volume for one more row
+    /// and as many more extents as there are. Nothing else changes.
+    pub fn reserve(&mut self) -> Result<(), OutOfMemory>
+        ensures found { self.new.found ≡ self.old.found }
+        ensures room { OnOk result (HasRoom self.new) }
+    {
+        self.contents.reserve(self.shape.extents())
+    }
+
+    /// The shape of the store. The catalogue obeys the rules for it.
     pub fn shape(&self) -> Shape
-        ensures { sizes_of result ≡ self.now.found.sizes }
+        ensures sizes { sizes_of result ≡ self.now.found.sizes }
+        ensures rules { IsTrue (obeys self.now.found.sizes self.now.found.catalogue) }
     {
         self.shape
     }
