@@ -2,7 +2,7 @@
 use Rattle.std.proofs.Common.{◌≡◌, ℕ, zero, suc, ◌-◌, ◌^◌, ◌<◌, List, [], ◌∷◌, ◌++◌, length, take, drop, refl, sym, ◌∙◌, ap, append_assoc, bytes_eq, if◌then◌else◌}
 use Rattle.std.specs.List.{All, flat_map}
 use Rattle.std.specs.Int.{w32, w64, from_be_bytes}
-use Rattle.std.proofs.lemmas.List.{append-nil}
+use Rattle.std.proofs.lemmas.List.{append-nil, drop_at}
 use Rattle.std.proofs.lemmas.List.Elements.{All-head, All-tail}
 use Rattle.std.proofs.lemmas.Nat.{from_be_bytes-to_be_bytes_4, from_be_bytes-to_be_bytes_8}
 use Rattle.bd_model.specs.declared.layout.Phase.{Phase}
@@ -151,3 +151,10 @@ read_catalogue-spelled c fits = ap read_catalogue (sym (append-nil (spelled c)))
 -- two spellings that begin the same bytes are of one catalogue
 pub spelled_same : (c d : Catalogue) (rest others : List ℕ) → IsSpellable c → IsSpellable d → spelled c ++ rest ≡ spelled d ++ others → c ≡ d
 spelled_same c d rest others fits_c fits_d same = sym (read_catalogue-append c rest fits_c) ∙ ap read_catalogue same ∙ read_catalogue-append d others fits_d
+
+pub rest_same : (c d : Catalogue) (rest others : List ℕ) → IsSpellable c → IsSpellable d → spelled c ++ rest ≡ spelled d ++ others → rest ≡ others
+rest_same c d rest others fits_c fits_d same =
+    let one = spelled_same c d rest others fits_c fits_d same in
+    sym (drop_at (spelled c) rest (length (spelled c)) refl)
+    ∙ ap (drop (length (spelled c))) (same ∙ ap (λ (e : Catalogue). spelled e ++ others) (sym one))
+    ∙ drop_at (spelled c) others (length (spelled c)) refl

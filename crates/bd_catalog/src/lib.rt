@@ -5,11 +5,15 @@ mod catalog;
 mod contents;
 mod decode;
 mod encode;
+mod laws;
 mod rows;
 mod rules;
 mod step;
+#[cfg(test)]
+mod tests;
 
 pub use bd_model::{CategoryRow, Phase};
 pub use catalog::Catalog;
+pub use laws::catalogues_read_back;
 pub use rows::{ActiveCategory, Actives, ClosedVolume, Rows, VersionRow};
 pub use step::{SplitRow, Splits, Step};
