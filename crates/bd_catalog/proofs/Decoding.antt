@@ -33,9 +33,10 @@ module _ (s : Sizes) where
       let r = read_catalogue bytes in
       elim (obeys s r && bytes_eq (spelled r) bytes) as (λ b. (obeys s r && bytes_eq (spelled r) bytes) ≡ b → cond b (Some r) None ≡ Some c → (obeys s c ≡ true) × (bytes ≡ spelled c)) [
         | true ↦ λ e some.
-            let same : r ≡ c = cc in
-            (ap (obeys s) (sym same) ∙ left_and (obeys s r) (bytes_eq (spelled r) bytes) e,
-            sym (bytes_eq-same (spelled r) bytes (right_and (obeys s r) (bytes_eq (spelled r) bytes) e)) ∙ ap spelled same)
+            let same : r ≡ c = cc in (
+              ap (obeys s) (sym same) ∙ left_and (obeys s r) (bytes_eq (spelled r) bytes) e,
+              sym (bytes_eq-same (spelled r) bytes (right_and (obeys s r) (bytes_eq (spelled r) bytes) e)) ∙ ap spelled same,
+            )
         | false ↦ λ e no. cc
       ] refl is
 
@@ -56,9 +57,9 @@ module _ (s : Sizes) where
     none_longer more =
         ap (accepted s bytes) read_is
         ∙ elim (obeys s c && bytes_eq (spelled c) bytes) as (λ b. (obeys s c && bytes_eq (spelled c) bytes) ≡ b → cond b (Some c) None ≡ None) [
-            | true ↦ λ e. absurd (omega (arith, ap length (bytes_eq-same (spelled c) bytes (right_and (obeys s c) (bytes_eq (spelled c) bytes) e)), ap length took.so, length-append (spelled c) rest))
-            | false ↦ λ _. refl
-          ] refl
+          | true ↦ λ e. absurd (omega (arith, ap length (bytes_eq-same (spelled c) bytes (right_and (obeys s c) (bytes_eq (spelled c) bytes) e)), ap length took.so, length-append (spelled c) rest))
+          | false ↦ λ _. refl
+        ] refl
 
     pub none_broken : false ≡ obeys s c → catalogue_of s bytes ≡ None
     none_broken broken = ap (accepted s bytes) read_is ∙ ap (λ (b : Bool). cond (b && bytes_eq (spelled c) bytes) (Some c) None) (sym broken)

@@ -35,8 +35,13 @@ length-versions (e ∷ es) =
 
 length-volume : (e : VolumeEntry) → length (spelled_volume e) ≡ 8 + 20 * length e.rows + 4 * length e.extents
 length-volume e =
-    omega (arith, length-append (four (length e.rows) ++ flat_map spelled_row e.rows) (spelled_extents e.extents),
-    length-append (four (length e.rows)) (flat_map spelled_row e.rows), length-rows e.rows, length-spelled_extents e.extents)
+    omega (
+      arith,
+      length-append (four (length e.rows) ++ flat_map spelled_row e.rows) (spelled_extents e.extents),
+      length-append (four (length e.rows)) (flat_map spelled_row e.rows),
+      length-rows e.rows,
+      length-spelled_extents e.extents,
+    )
 
 -- the volume behind `i` others has at most i + 1 rows
 length-volumes : (oldest i : ℕ) (es : List VolumeEntry) → starts_hold oldest (oldest + i) es ≡ true →
@@ -59,8 +64,13 @@ length-actives : (s : Sizes) → IsBounded s → (es : List OpenEntry) → list_
 length-actives s bounded [] h = omega arith
 length-actives s bounded (e ∷ es) h =
     let one : length (spelled_active e) ≡ 24 + 4 * length e.extents = omega (arith, length-append (spelled_row e.row) (spelled_extents e.extents), length-spelled_extents e.extents) in
-    omega (arith, some_extent s bounded e (left_and (active_holds s e) (list_all (active_holds s) es) h), length-append (spelled_active e) (flat_map spelled_active es),
-    length-actives s bounded es (right_and (active_holds s e) (list_all (active_holds s) es) h), length-append e.extents (flat_map (λ (o : OpenEntry). o.extents) es))
+    omega (
+      arith,
+      some_extent s bounded e (left_and (active_holds s e) (list_all (active_holds s) es) h),
+      length-append (spelled_active e) (flat_map spelled_active es),
+      length-actives s bounded es (right_and (active_holds s e) (list_all (active_holds s) es) h),
+      length-append e.extents (flat_map (λ (o : OpenEntry). o.extents) es),
+    )
 
 length-spelled_phase : (phase : Phase) → length (spelled_phase phase) ≡ 5
 length-spelled_phase Settled = refl
@@ -73,10 +83,15 @@ length-parts c =
     let versions = flat_map spelled_version c.versions in
     let volumes = flat_map spelled_volume c.volumes in
     let actives = flat_map spelled_active c.actives in
-    omega (arith, length-append ((head ++ spelled_phase c.phase ++ versions) ++ volumes ++ four (length c.actives)) actives,
-    length-append ((head ++ spelled_phase c.phase ++ versions) ++ volumes) (four (length c.actives)),
-    length-append (head ++ spelled_phase c.phase ++ versions) volumes, length-append (head ++ spelled_phase c.phase) versions,
-    length-append head (spelled_phase c.phase), length-spelled_phase c.phase)
+    omega (
+      arith,
+      length-append ((head ++ spelled_phase c.phase ++ versions) ++ volumes ++ four (length c.actives)) actives,
+      length-append ((head ++ spelled_phase c.phase ++ versions) ++ volumes) (four (length c.actives)),
+      length-append (head ++ spelled_phase c.phase ++ versions) volumes,
+      length-append (head ++ spelled_phase c.phase) versions,
+      length-append head (spelled_phase c.phase),
+      length-spelled_phase c.phase,
+    )
 
 pub length-spelled : (s : Sizes) → IsBounded s → (c : Catalogue) → obeys s c ≡ true → length (spelled c) ≤ payload_room s
 length-spelled s bounded c h =
@@ -90,8 +105,18 @@ length-spelled s bounded c h =
     let few : m ≤ s.retain = omega (arith, numbers.few, numbers.volumes) in
     let square : m * (m + 1) ≤ s.retain * (s.retain + 1) = omega (arith, mul-le-mul_right {m = m} {n = s.retain} (m + 1) few, mul-le-mul_left {m = m + 1} {n = s.retain + 1} s.retain (omega arith)) in
     let starts : starts_hold (oldest_in c) (oldest_in c + 0) c.volumes ≡ true = ap (λ (j : ℕ). starts_hold (oldest_in c) j c.volumes) (omega arith) ∙ rules.starts in
-    omega (arith, length-parts c, length-versions c.versions, length-volumes (oldest_in c) 0 c.volumes starts, length-actives s bounded c.actives rules.actives,
-    own.few, length-append (versions ++ volumes) actives, length-append versions volumes, numbers.few, numbers.volumes)
+    omega (
+      arith,
+      length-parts c,
+      length-versions c.versions,
+      length-volumes (oldest_in c) 0 c.volumes starts,
+      length-actives s bounded c.actives rules.actives,
+      own.few,
+      length-append (versions ++ volumes) actives,
+      length-append versions volumes,
+      numbers.few,
+      numbers.volumes,
+    )
 
 pub payload_room-small : (s : Sizes) → IsBounded s → payload_room s < 2 ^ 32
 payload_room-small s bounded =

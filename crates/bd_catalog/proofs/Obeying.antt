@@ -94,9 +94,10 @@ none_of p (n ∷ ns) h =
 pub distinct_of : (ns : List ℕ) → all_differ ns ≡ true → IsDistinct nat_eq ns
 unfolding IsDistinct
 distinct_of [] h = tt
-distinct_of (n ∷ ns) h =
-    (none_of (nat_eq n) ns (not-true (list_any (nat_eq n) ns) (left_and (not (list_any (nat_eq n) ns)) (all_differ ns) h)),
-    distinct_of ns (right_and (not (list_any (nat_eq n) ns)) (all_differ ns) h))
+distinct_of (n ∷ ns) h = (
+  none_of (nat_eq n) ns (not-true (list_any (nat_eq n) ns) (left_and (not (list_any (nat_eq n) ns)) (all_differ ns) h)),
+  distinct_of ns (right_and (not (list_any (nat_eq n) ns)) (all_differ ns) h),
+)
 
 below_of : (top q : ℕ) (ns : List ℕ) → list_all (λ n. nat_lt n top) ns ≡ true → list_any (nat_eq q) ns ≡ true → q < top
 below_of top q [] h any = cc

@@ -46,7 +46,7 @@ module _ {A : Type 0} (read : List ℕ → Read A) (spell : A → List ℕ) (fit
       → old ≡ four count ++ (flat_map spell items ++ cur) → SpellsNone spell fits cur → SpellsNone (λ xs. four (length xs) ++ flat_map spell xs) (FitList fits) old
   list_none count items old cur small fi less is none = λ xs rest fit same.
       let both = u32_same count (length xs) (flat_map spell items ++ cur) (flat_map spell xs ++ rest) small fit.count
-          (sym is ∙ same ∙ append_assoc (four (length xs)) (flat_map spell xs) rest) in
+      (sym is ∙ same ∙ append_assoc (four (length xs)) (flat_map spell xs) rest) in
       no_more items xs cur rest fi fit.each (let size = both.0 in omega arith) none both.1
 
 -- a field of its own before a list

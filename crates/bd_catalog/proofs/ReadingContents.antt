@@ -99,12 +99,12 @@ module _ (old : List ℕ) where
           took_catalogue actives new opens =
               let c = catalogue_of_parts actives in
               let whole : old ≡ four base ++ (four newest ++ (four (length versions) ++ (spelled_phase phase ++ (flat_map spelled_version versions ++ (flat_map spelled_volume volumes ++ (four (length actives) ++ (flat_map spelled_active actives ++ new))))))) =
-                  numbers.so
-                  ∙ ap (λ (n : ℕ). four base ++ (four newest ++ (four n ++ b1))) (sym rows.fit.count_is)
-                  ∙ ap (λ (b : List ℕ). four base ++ (four newest ++ (four (length versions) ++ b)))
-                    (waits.so ∙ ap (λ (b : List ℕ). spelled_phase phase ++ b)
-                      (rows.so ∙ ap (λ (b : List ℕ). flat_map spelled_version versions ++ b)
-                        (closed.so ∙ ap (λ (b : List ℕ). flat_map spelled_volume volumes ++ b) opens.so))) in
+              numbers.so
+              ∙ ap (λ (n : ℕ). four base ++ (four newest ++ (four n ++ b1))) (sym rows.fit.count_is)
+              ∙ ap (λ (b : List ℕ). four base ++ (four newest ++ (four (length versions) ++ b)))
+              (waits.so ∙ ap (λ (b : List ℕ). spelled_phase phase ++ b)
+              (rows.so ∙ ap (λ (b : List ℕ). flat_map spelled_version versions ++ b)
+              (closed.so ∙ ap (λ (b : List ℕ). flat_map spelled_volume volumes ++ b) opens.so))) in
               record {
                 so = whole ∙ sym (spelled_apart c new);
                 fit = record {

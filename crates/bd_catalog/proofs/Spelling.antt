@@ -41,7 +41,7 @@ module _ {A : Type 0} (read : List ℕ → Read A) (spell : A → List ℕ) (fit
   many_back [] rest all = refl
   many_back (x ∷ xs) rest all =
       let first : read ((spell x ++ flat_map spell xs) ++ rest) ≡ read_of x (flat_map spell xs ++ rest) =
-          ap read (append_assoc (spell x) (flat_map spell xs) rest) ∙ back x (flat_map spell xs ++ rest) (All-head fits x xs all) in
+      ap read (append_assoc (spell x) (flat_map spell xs) rest) ∙ back x (flat_map spell xs ++ rest) (All-head fits x xs all) in
       let others = many_back xs rest (All-tail fits x xs all) in
       ap (λ (r : Read A). let o = read_many read (length xs) r.rest in read_of (r.it ∷ o.it) o.rest) first
       ∙ ap (λ (o : Read (List A)). read_of (x ∷ o.it) o.rest) others
@@ -71,7 +71,7 @@ version_back e rest fits =
 pub volume_back : ReadsBack read_volume spelled_volume FitsVolume
 volume_back e rest fits =
     let apart : spelled_volume e ++ rest ≡ four (length e.rows) ++ (flat_map spelled_row e.rows ++ (spelled_extents e.extents ++ rest)) =
-        ap (λ (b : List ℕ). four (length e.rows) ++ b) (append_assoc (flat_map spelled_row e.rows) (spelled_extents e.extents) rest) in
+    ap (λ (b : List ℕ). four (length e.rows) ++ b) (append_assoc (flat_map spelled_row e.rows) (spelled_extents e.extents) rest) in
     let with_extents : List CategoryRow → Read (List ℕ) → Read VolumeEntry = λ rows x. read_of (record { rows = rows; extents = x.it }) x.rest in
     ap read_volume apart
     ∙ ap (λ (r : Read (List CategoryRow)). with_extents r.it (read_list read_four r.rest)) (list_back read_row spelled_row FitsRow row_back e.rows (spelled_extents e.extents ++ rest) fits.rows)
@@ -99,7 +99,7 @@ lists_back c rest fits =
     let with_actives : Read (List OpenEntry) → Catalogue = λ a. record { base = c.base; newest = c.newest; phase = c.phase; versions = c.versions; volumes = c.volumes; actives = a.it } in
     let with_volumes : Read (List VolumeEntry) → Catalogue = λ w. record { base = c.base; newest = c.newest; phase = c.phase; versions = c.versions; volumes = w.it; actives = (read_list read_active w.rest).it } in
     let with_versions : Read (List VersionEntry) → Catalogue = λ v. let w = read_many read_volume (length c.versions - 1) v.rest in
-        record { base = c.base; newest = c.newest; phase = c.phase; versions = v.it; volumes = w.it; actives = (read_list read_active w.rest).it } in
+    record { base = c.base; newest = c.newest; phase = c.phase; versions = v.it; volumes = w.it; actives = (read_list read_active w.rest).it } in
     ap with_versions (many_back read_version spelled_version FitsVersion version_back c.versions (flat_map spelled_volume c.volumes ++ behind) fits.versions.each)
     ∙ ap (λ (n : ℕ). with_volumes (read_many read_volume n (flat_map spelled_volume c.volumes ++ behind))) (sym fits.volume_count)
     ∙ ap with_volumes (many_back read_volume spelled_volume FitsVolume volume_back c.volumes behind fits.volumes)

@@ -16,8 +16,13 @@ use Rattle.bd_catalog.specs.Writing.{put_at, spelled_head, spelled_version_row, 
 
 pub length-put_at : (buffer : List ℕ) (at : ℕ) (bytes : List ℕ) → at + length bytes ≤ length buffer → length (put_at buffer at bytes) ≡ length buffer
 length-put_at buffer at bytes within =
-    omega (arith, length-append (take at buffer ++ bytes) (drop (at + length bytes) buffer), length-append (take at buffer) bytes,
-    length-take-le at buffer (omega arith), length-drop (at + length bytes) buffer)
+    omega (
+      arith,
+      length-append (take at buffer ++ bytes) (drop (at + length bytes) buffer),
+      length-append (take at buffer) bytes,
+      length-take-le at buffer (omega arith),
+      length-drop (at + length bytes) buffer,
+    )
 
 pub put_at-append : (buffer : List ℕ) (at : ℕ) (xs ys : List ℕ) → at + length xs ≤ length buffer →
     put_at (put_at buffer at xs) (at + length xs) ys ≡ put_at buffer at (xs ++ ys)
@@ -27,10 +32,10 @@ put_at-append buffer at xs ys within =
     let size : length (front ++ xs) ≡ at + length xs = omega (arith, length-append front xs, length-take-le at buffer (omega arith)) in
     let head : take (at + length xs) ((front ++ xs) ++ behind) ≡ front ++ xs = take_at (front ++ xs) behind (at + length xs) size in
     let tail : drop (at + length xs + length ys) ((front ++ xs) ++ behind) ≡ drop (at + length (xs ++ ys)) buffer =
-        ap (λ (n : ℕ). drop (n + length ys) ((front ++ xs) ++ behind)) (sym size)
-        ∙ drop-append-add (front ++ xs) behind (length ys)
-        ∙ drop-drop (length ys) (at + length xs) buffer
-        ∙ ap (λ (n : ℕ). drop n buffer) (omega (arith, length-append xs ys)) in
+    ap (λ (n : ℕ). drop (n + length ys) ((front ++ xs) ++ behind)) (sym size)
+    ∙ drop-append-add (front ++ xs) behind (length ys)
+    ∙ drop-drop (length ys) (at + length xs) buffer
+    ∙ ap (λ (n : ℕ). drop n buffer) (omega (arith, length-append xs ys)) in
     ap (λ (h : List ℕ). h ++ ys ++ drop (at + length xs + length ys) ((front ++ xs) ++ behind)) head
     ∙ ap (λ (t : List ℕ). front ++ xs ++ ys ++ t) tail
     ∙ ap (λ (h : List ℕ). h ++ drop (at + length (xs ++ ys)) buffer) (append_assoc front xs ys)
@@ -110,8 +115,15 @@ pub length-spelled_parts : (x : Contents) → length (spelled (catalogue_of_cont
 length-spelled_parts x =
     let head = spelled_head (catalogue_of_contents x) in
     let front = head ++ versions_part x ++ volumes_part x in
-    omega (arith, ap length (spelled_parts x), length-append (front ++ four (length x.actives.items)) (actives_part x), length-append front (four (length x.actives.items)),
-    length-append (head ++ versions_part x) (volumes_part x), length-append head (versions_part x), length-spelled_head (catalogue_of_contents x))
+    omega (
+      arith,
+      ap length (spelled_parts x),
+      length-append (front ++ four (length x.actives.items)) (actives_part x),
+      length-append front (four (length x.actives.items)),
+      length-append (head ++ versions_part x) (volumes_part x),
+      length-append head (versions_part x),
+      length-spelled_head (catalogue_of_contents x),
+    )
 
 -- the parts written one behind the other are the whole spelling
 pub written_parts : (x : Contents) (buffer b1 b2 b3 b4 b5 : List ℕ) (p2 p3 p5 : ℕ) → length (spelled (catalogue_of_contents x)) ≤ length buffer

@@ -41,13 +41,13 @@ impl Model for Catalog {
     ghost Value = { Ledger };
 
     ghost view = { λ c. record {
-        found = record {
-            sizes = sizes_of c.shape;
-            half = record { number = c.half; turn = c.turn; length = c.payload; other_open = c.other_open };
-            catalogue = catalogue_of_contents c.contents;
-            log_end = c.log_end;
-        };
-        room = room_of c.contents;
+      found = record {
+        sizes = sizes_of c.shape;
+        half = record { number = c.half; turn = c.turn; length = c.payload; other_open = c.other_open };
+        catalogue = catalogue_of_contents c.contents;
+        log_end = c.log_end;
+      };
+      room = room_of c.contents;
     } };
 
     ghost invariant = { λ c. IsKept (sizes_of c.shape) (catalogue_of_contents c.contents) (length c.frame.items) };
@@ -71,11 +71,7 @@ impl Catalog {
 
     /// The catalogue that the bytes spell, in half 0 with an empty log; the other half is closed. None exactly where the
     /// bytes spell no catalogue that obeys the rules for the shape. It takes time linear in the bytes.
-    pub fn decode(
-        alloc: Global,
-        shape: Shape,
-        bytes: &[u8],
-    ) -> Result<Option<Catalog>, OutOfMemory>
+    pub fn decode(alloc: Global, shape: Shape, bytes: &[u8]) -> Result<Option<Catalog>, OutOfMemory>
         ensures none { IfOk result (λ found. IfNone found (catalogue_of (sizes_of shape) bytes.now ≡ None)) }
         ensures some { IfOk result (λ found. IfSome found (λ c. catalogue_of (sizes_of shape) bytes.now ≡ Some c.found.catalogue)) }
         ensures place { IfOk result (λ found. IfSome found (λ c. c.found ≡ found_alone (sizes_of shape) c.found.catalogue)) }

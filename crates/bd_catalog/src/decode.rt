@@ -148,7 +148,11 @@ fn take_active(alloc: Global, cursor: &mut Cursor) -> Result<Option<ActiveCatego
     Ok(Some(ActiveCategory { row, extents }))
 }
 
-fn take_versions(alloc: Global, cursor: &mut Cursor, count: u32) -> Result<Option<Vec<VersionRow>>, OutOfMemory>
+fn take_versions(
+    alloc: Global,
+    cursor: &mut Cursor,
+    count: u32,
+) -> Result<Option<Vec<VersionRow>>, OutOfMemory>
     ensures { IfOk result (λ found. MatchOption found (SpellsNone (flat_map spelled_version) (FitMany FitsVersion count) cursor.old) (λ rows. Took (flat_map spelled_version) (FitMany FitsVersion count) (map version_entry rows.items) cursor.old cursor.new)) }
 {
     let mut rows = Vec::new(alloc);
@@ -162,7 +166,11 @@ fn take_versions(alloc: Global, cursor: &mut Cursor, count: u32) -> Result<Optio
     Ok(Some(rows))
 }
 
-fn take_volumes(alloc: Global, cursor: &mut Cursor, count: u32) -> Result<Option<Vec<ClosedVolume>>, OutOfMemory>
+fn take_volumes(
+    alloc: Global,
+    cursor: &mut Cursor,
+    count: u32,
+) -> Result<Option<Vec<ClosedVolume>>, OutOfMemory>
     ensures { IfOk result (λ found. MatchOption found (SpellsNone (flat_map spelled_volume) (FitMany FitsVolume count) cursor.old) (λ volumes. Took (flat_map spelled_volume) (FitMany FitsVolume count) (map volume_entry volumes.items) cursor.old cursor.new)) }
 {
     let mut volumes = Vec::new(alloc);

@@ -9,7 +9,7 @@ ghost use Rattle.bd_catalog.specs.Writing.{put_at, spelled_version_row, spelled_
 use crate::contents::Contents;
 use crate::rows::{ActiveCategory, ClosedVolume, VersionRow};
 use bd_model::{CategoryRow, Phase};
-use bd_wire::{put_u32, put_u64, put_u8};
+use bd_wire::{put_u8, put_u32, put_u64};
 
 // Each of these writes from place `at` on and answers the place behind what it wrote.
 

@@ -5,7 +5,6 @@ ghost use Rattle.bd_model.specs.Room.{up};
 ghost use Rattle.bd_catalog.specs.Catalogue.{starts_of, bytes_of_rows, oldest_in, retained_in, all_extents};
 ghost use Rattle.bd_catalog.specs.Rules.{ascends, numbers_hold, phase_holds, version_holds, starts_hold, actives_hold, extents_hold, obeys, row_holds, volume_holds, active_holds};
 ghost use Rattle.bd_catalog.specs.Shown.{version_entry, volume_entry, open_entry, catalogue_of_contents};
-
 ghost use Rattle.bd_catalog.specs.Checked.{lists_hold, marked};
 
 use crate::contents::Contents;
@@ -97,7 +96,8 @@ fn volume_holds(shape: &Shape, volume: &ClosedVolume) -> bool
     let Some(bytes) = bytes_of(volume.rows.as_slice()) else {
         return false;
     };
-    rows_hold(shape, volume.rows.as_slice()) && volume.extents.len() as u64 == extents_for(shape, bytes)
+    rows_hold(shape, volume.rows.as_slice())
+        && volume.extents.len() as u64 == extents_for(shape, bytes)
 }
 
 fn active_holds(shape: &Shape, active: &ActiveCategory) -> bool
@@ -271,11 +271,7 @@ fn extents_hold(alloc: Global, shape: &Shape, contents: &Contents) -> Result<boo
 }
 
 // Whether the contents obey all rules.
-pub(crate) fn obeys(
-    alloc: Global,
-    shape: &Shape,
-    contents: &Contents,
-) -> Result<bool, OutOfMemory>
+pub(crate) fn obeys(alloc: Global, shape: &Shape, contents: &Contents) -> Result<bool, OutOfMemory>
     ensures { IfOk result (λ obeyed. obeyed ≡ obeys (sizes_of shape.now) (catalogue_of_contents contents.now)) }
 {
     if !numbers_hold(shape, contents) || !lists_hold(shape, contents) {

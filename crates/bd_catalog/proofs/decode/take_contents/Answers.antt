@@ -11,7 +11,7 @@ pub returns-in_default-closed : goal.returns-in_default-closed
 returns-in_default-closed c =
     let b1 = c.take_numbers.new.cursor in
     let numbers : Numbers c.in-Some.base c.in-Some.newest c.in-Some.count c.args.cursor.now b1 =
-        record { so = c.in-Some.ensures.taken; base_fits = search rules; newest_fits = search rules; count_fits = search rules } in
+    record { so = c.in-Some.ensures.taken; base_fits = search rules; newest_fits = search rules; count_fits = search rules } in
     let none = rw c.in_default-closed.is at c.in_ok-closed.ensures in
     let fewer = rw c.saturating_sub.ensures at none in
     none_volumes c.args.cursor.now c.in-Some.base c.in-Some.newest c.in-Some.count b1 numbers c.in-Some-take_phase.phase c.take_phase.new.cursor c.in-Some-take_phase.ensures.taken
@@ -21,7 +21,7 @@ pub returns-in_default-open : goal.returns-in_default-open
 returns-in_default-open c =
     let b1 = c.take_numbers.new.cursor in
     let numbers : Numbers c.in-Some.base c.in-Some.newest c.in-Some.count c.args.cursor.now b1 =
-        record { so = c.in-Some.ensures.taken; base_fits = search rules; newest_fits = search rules; count_fits = search rules } in
+    record { so = c.in-Some.ensures.taken; base_fits = search rules; newest_fits = search rules; count_fits = search rules } in
     let closed = rw c.in-Some-closed.is at c.in_ok-closed.ensures in
     none_actives c.args.cursor.now c.in-Some.base c.in-Some.newest c.in-Some.count b1 numbers c.in-Some-take_phase.phase c.take_phase.new.cursor c.in-Some-take_phase.ensures.taken
     (map version_entry c.in-Some-retained.versions.items) c.take_versions.new.cursor (rw c.in-Some-retained.is at c.in_ok-retained.ensures)

@@ -20,9 +20,15 @@ put_versions-place-requires-clause-fit c =
 
 pub put_volumes-place-requires-clause-room : goal.put_volumes-place-requires-clause-room
 put_volumes-place-requires-clause-room c =
-    omega (arith, c.requires.room, length-spelled_parts c.args.contents.now, c.put_head-place.ensures.behind, c.put_versions-place.ensures.behind,
-    ap (λ (xs : List VersionRow). length (flat_map spelled_version_row xs)) c.deref.ensures.value,
-    ap (λ (xs : List ClosedVolume). length (flat_map spelled_volume_row xs)) c.deref-2.ensures.value)
+    omega (
+      arith,
+      c.requires.room,
+      length-spelled_parts c.args.contents.now,
+      c.put_head-place.ensures.behind,
+      c.put_versions-place.ensures.behind,
+      ap (λ (xs : List VersionRow). length (flat_map spelled_version_row xs)) c.deref.ensures.value,
+      ap (λ (xs : List ClosedVolume). length (flat_map spelled_volume_row xs)) c.deref-2.ensures.value,
+    )
 
 pub put_volumes-place-requires-clause-fit : goal.put_volumes-place-requires-clause-fit
 put_volumes-place-requires-clause-fit c =
@@ -30,16 +36,30 @@ put_volumes-place-requires-clause-fit c =
 
 pub put_u32-requires : goal.put_u32-requires
 put_u32-requires c =
-    omega (arith, c.requires.room, length-spelled_parts c.args.contents.now, c.put_head-place.ensures.behind, c.put_versions-place.ensures.behind, c.put_volumes-place.ensures.behind,
-    ap (λ (xs : List VersionRow). length (flat_map spelled_version_row xs)) c.deref.ensures.value,
-    ap (λ (xs : List ClosedVolume). length (flat_map spelled_volume_row xs)) c.deref-2.ensures.value)
+    omega (
+      arith,
+      c.requires.room,
+      length-spelled_parts c.args.contents.now,
+      c.put_head-place.ensures.behind,
+      c.put_versions-place.ensures.behind,
+      c.put_volumes-place.ensures.behind,
+      ap (λ (xs : List VersionRow). length (flat_map spelled_version_row xs)) c.deref.ensures.value,
+      ap (λ (xs : List ClosedVolume). length (flat_map spelled_volume_row xs)) c.deref-2.ensures.value,
+    )
 
 pub put_actives-requires-clause-room : goal.put_actives-requires-clause-room
 put_actives-requires-clause-room c =
-    omega (arith, c.requires.room, length-spelled_parts c.args.contents.now, c.put_head-place.ensures.behind, c.put_versions-place.ensures.behind, c.put_volumes-place.ensures.behind,
-    ap (λ (xs : List VersionRow). length (flat_map spelled_version_row xs)) c.deref.ensures.value,
-    ap (λ (xs : List ClosedVolume). length (flat_map spelled_volume_row xs)) c.deref-2.ensures.value,
-    ap (λ (xs : List ActiveCategory). length (flat_map spelled_active_row xs)) c.as_slice.ensures)
+    omega (
+      arith,
+      c.requires.room,
+      length-spelled_parts c.args.contents.now,
+      c.put_head-place.ensures.behind,
+      c.put_versions-place.ensures.behind,
+      c.put_volumes-place.ensures.behind,
+      ap (λ (xs : List VersionRow). length (flat_map spelled_version_row xs)) c.deref.ensures.value,
+      ap (λ (xs : List ClosedVolume). length (flat_map spelled_volume_row xs)) c.deref-2.ensures.value,
+      ap (λ (xs : List ActiveCategory). length (flat_map spelled_active_row xs)) c.as_slice.ensures,
+    )
 
 pub put_actives-requires-clause-fit : goal.put_actives-requires-clause-fit
 put_actives-requires-clause-fit c =
@@ -67,7 +87,14 @@ returns-clause-written c =
 
 pub returns-clause-behind : goal.returns-clause-behind
 returns-clause-behind c =
-    omega (arith, length-spelled_parts c.args.contents.now, c.put_head-place.ensures.behind, c.put_versions-place.ensures.behind, c.put_volumes-place.ensures.behind, c.put_actives.ensures.behind,
-    ap (λ (xs : List VersionRow). length (flat_map spelled_version_row xs)) c.deref.ensures.value,
-    ap (λ (xs : List ClosedVolume). length (flat_map spelled_volume_row xs)) c.deref-2.ensures.value,
-    ap (λ (xs : List ActiveCategory). length (flat_map spelled_active_row xs)) c.as_slice.ensures)
+    omega (
+      arith,
+      length-spelled_parts c.args.contents.now,
+      c.put_head-place.ensures.behind,
+      c.put_versions-place.ensures.behind,
+      c.put_volumes-place.ensures.behind,
+      c.put_actives.ensures.behind,
+      ap (λ (xs : List VersionRow). length (flat_map spelled_version_row xs)) c.deref.ensures.value,
+      ap (λ (xs : List ClosedVolume). length (flat_map spelled_volume_row xs)) c.deref-2.ensures.value,
+      ap (λ (xs : List ActiveCategory). length (flat_map spelled_active_row xs)) c.as_slice.ensures,
+    )

@@ -11,6 +11,6 @@ returns-clause-written c =
     let at = c.args.at in
     c.put_u64-2.ensures
     ∙ ap (λ (b : List ℕ). put_at b (at + 12) (eight row.bytes))
-      (c.put_u64.ensures ∙ ap (λ (b : List ℕ). put_at b (at + 4) (eight row.chunks)) c.put_u32.ensures
-      ∙ put_at-append buffer at (four row.start) (eight row.chunks) (omega arith))
+    (c.put_u64.ensures ∙ ap (λ (b : List ℕ). put_at b (at + 4) (eight row.chunks)) c.put_u32.ensures
+    ∙ put_at-append buffer at (four row.start) (eight row.chunks) (omega arith))
     ∙ put_at-append buffer at (four row.start ++ eight row.chunks) (eight row.bytes) (omega arith)

@@ -14,9 +14,9 @@ returns-clause-written c =
     c.put_extents.ensures.written
     ∙ ap (λ (ns : List ℕ). put_at c.put_u64-3.new.into (at + 24) (spelled_extents ns)) c.numbers.ensures
     ∙ ap (λ (b : List ℕ). put_at b (at + 24) (spelled_extents row.recipe.numbers))
-      (c.put_u64-3.ensures
-      ∙ ap (λ (b : List ℕ). put_at b (at + 16) (eight row.fresh))
-        (c.put_u64-2.ensures ∙ ap (λ (b : List ℕ). put_at b (at + 8) (eight row.chunks)) c.put_u64.ensures
-        ∙ put_at-append buffer at (eight row.length) (eight row.chunks) (omega arith))
-      ∙ put_at-append buffer at first (eight row.fresh) (omega arith))
+    (c.put_u64-3.ensures
+    ∙ ap (λ (b : List ℕ). put_at b (at + 16) (eight row.fresh))
+    (c.put_u64-2.ensures ∙ ap (λ (b : List ℕ). put_at b (at + 8) (eight row.chunks)) c.put_u64.ensures
+    ∙ put_at-append buffer at (eight row.length) (eight row.chunks) (omega arith))
+    ∙ put_at-append buffer at first (eight row.fresh) (omega arith))
     ∙ put_at-append buffer at (first ++ eight row.fresh) (spelled_extents row.recipe.numbers) (omega arith)

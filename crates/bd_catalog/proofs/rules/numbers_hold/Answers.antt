@@ -14,8 +14,8 @@ returns c =
     ap (λ (n : ℕ). n == c.saturating_sub.result) volumes
     ∙ ap (λ (n : ℕ). length (map volume_entry x.volumes.items) == n) (c.saturating_sub.ensures ∙ ap (λ (k : ℕ). k - 1) count)
     ∙ sym (numbers_left (sizes_of c.args.shape.now) (catalogue_of_contents x) (omega (arith, c.retain.ensures, c.from.ensures)) (omega (arith, c.from-2.ensures, c.from-3.ensures))
-      (λ none. elim c.else-retained-eq0.branch [
-        | else-retained-eq0-via-then-retained-eq0+else-base-newest w ↦ omega arith
-        | else-retained-eq0-via-else-retained-eq0 w ↦ absurd (omega arith)
-      ])
-      (omega arith))
+    (λ none. elim c.else-retained-eq0.branch [
+      | else-retained-eq0-via-then-retained-eq0+else-base-newest w ↦ omega arith
+      | else-retained-eq0-via-else-retained-eq0 w ↦ absurd (omega arith)
+    ])
+    (omega arith))
