@@ -1,5 +1,5 @@
 -- A catalogue that obeys the rules is spelled in no more bytes than there is room for.
-use Rattle.std.proofs.Common.{◌≡◌, ℕ, zero, suc, ◌+◌, ◌-◌, ◌*◌, ◌/◌, ◌^◌, ◌<◌, ◌≤◌, Bool, true, ◌&&◌, List, [], ◌∷◌, ◌++◌, length, map, refl, sym, ◌∙◌, ap, arith, nat_le, length-append}
+use Rattle.std.proofs.Common.{◌≡◌, ℕ, ◌+◌, ◌-◌, ◌*◌, ◌^◌, ◌<◌, ◌≤◌, true, List, [], ◌∷◌, ◌++◌, length, refl, ◌∙◌, ap, arith, length-append}
 use Rattle.std.specs.List.{flat_map, list_all}
 use Rattle.std.proofs.lemmas.Nat.{le-div}
 use Rattle.std.proofs.lemmas.List.{length-map}
@@ -11,10 +11,10 @@ use Rattle.bd_model.specs.Records.{four}
 use Rattle.bd_model.specs.declared.layout.Phase.{Phase}
 use Rattle.bd_model.specs.declared.layout.Phase.TheVariants.{Settled, Waiting}
 use Rattle.bd_model.specs.declared.layout.CategoryRow.{CategoryRow}
-use Rattle.bd_catalog.specs.Catalogue.{Catalogue, VersionEntry, VolumeEntry, OpenEntry, oldest_in, starts_of, all_extents}
+use Rattle.bd_catalog.specs.Catalogue.{Catalogue, VersionEntry, VolumeEntry, OpenEntry, oldest_in, starts_of}
 use Rattle.bd_catalog.specs.Spelling.{spelled_extents, spelled_phase, spelled_row, spelled_version, spelled_volume, spelled_active, spelled}
 use Rattle.bd_catalog.specs.Rules.{ascends, starts_hold, active_holds, obeys}
-use Rattle.bd_catalog.proofs.Obeying.{ascends_count, IsBounded, OwnFew, rules_of, numbers_of, owned_of, row_of, open_row_of, open_extents_of}
+use Rattle.bd_catalog.proofs.Obeying.{ascends_count, IsBounded, rules_of, numbers_of, owned_of, row_of, open_row_of, open_extents_of}
 
 pub length-fours : (ns : List ℕ) → length (flat_map four ns) ≡ 4 * length ns
 length-fours [] = refl

@@ -1,5 +1,5 @@
 -- What a catalogue that obeys the rules has, one fact a rule, and that each of its numbers fits its field.
-use Rattle.std.proofs.Common.{◌≡◌, ℕ, zero, suc, ◌+◌, ◌-◌, ◌*◌, ◌^◌, ◌<◌, ◌≤◌, Bool, true, false, not, ◌&&◌, ◌||◌, ◌==◌, List, [], ◌∷◌, ◌++◌, length, map, refl, sym, ◌∙◌, ap, subst, arith, nat_le, nat_lt, nat_eq, bytes_eq, length-append}
+use Rattle.std.proofs.Common.{◌≡◌, ℕ, ◌+◌, ◌-◌, ◌*◌, ◌^◌, ◌<◌, ◌≤◌, Bool, true, false, not, ◌&&◌, ◌||◌, ◌==◌, List, [], ◌∷◌, ◌++◌, length, map, refl, sym, ◌∙◌, arith, nat_le, nat_lt, nat_eq, length-append}
 use Rattle.std.specs.List.{All, IsDistinct, AllByRecursion, flat_map, list_all, list_any}
 use Rattle.std.proofs.lemmas.Bool.{leb-true, ltb-true, eqb-true, not-true}
 use Rattle.std.proofs.lemmas.List.{length-map}

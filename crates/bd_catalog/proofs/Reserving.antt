@@ -1,5 +1,5 @@
 -- The last volume of a list, changed in place.
-use Rattle.std.proofs.Common.{◌≡◌, ℕ, zero, suc, ◌+◌, ◌-◌, ◌<◌, List, [], ◌∷◌, length, map, set, get_or, refl, ◌∙◌, ap, arith}
+use Rattle.std.proofs.Common.{◌≡◌, ℕ, zero, suc, ◌+◌, List, [], ◌∷◌, length, map, set, get_or, refl, ◌∙◌, ap, arith}
 use Rattle.bd_catalog.specs.declared.rows.ClosedVolume.{ClosedVolume}
 use Rattle.bd_catalog.specs.declared.rows.VersionRow.{VersionRow}
 use Rattle.bd_catalog.specs.declared.rows.ActiveCategory.{ActiveCategory}

@@ -1,5 +1,5 @@
 -- What contracts see of a catalogue that is held in memory.
-use Rattle.std.specs.Prelude.{◌≡◌, ◌+◌, ◌-◌, ◌≤◌, ◌<◌, ℕ, List, [], ◌∷◌, length, Bool, false, IsTrue}
+use Rattle.std.specs.Prelude.{◌≡◌, ◌+◌, ◌-◌, ◌≤◌, ◌<◌, ℕ, List, [], ◌∷◌, length, false, IsTrue}
 use Rattle.bd_model.specs.Sizes.{Sizes, payload_room}
 use Rattle.bd_gate.specs.Halves.{Half, log_place}
 use Rattle.bd_catalog.specs.declared.rows.ClosedVolume.{ClosedVolume}
@@ -8,7 +8,6 @@ use Rattle.bd_catalog.specs.Catalogue.{Catalogue}
 use Rattle.bd_catalog.specs.Opening.{Found}
 use Rattle.bd_catalog.specs.Spelling.{spelled}
 use Rattle.bd_catalog.specs.Rules.{obeys}
-use Rattle.bd_catalog.specs.Shown.{catalogue_of_contents}
 
 -- how many more versions, volumes and open categories fit before memory has to be taken, and how many more rows and
 -- extents in the last volume, none where there is no volume

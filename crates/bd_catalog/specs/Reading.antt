@@ -1,9 +1,9 @@
 -- What a reader takes off the front of bytes.
-use Rattle.std.specs.Prelude.{◌≡◌, ◌≢◌, ℕ, ◌-◌, List, ◌++◌, length, map, All}
+use Rattle.std.specs.Prelude.{◌≡◌, ◌≢◌, ℕ, List, ◌++◌, length, All}
 use Rattle.std.specs.List.{flat_map}
-use Rattle.bd_model.specs.Records.{four, eight}
+use Rattle.bd_model.specs.Records.{four}
 use Rattle.bd_model.specs.declared.layout.CategoryRow.{CategoryRow}
-use Rattle.bd_catalog.specs.Catalogue.{VersionEntry, VolumeEntry, OpenEntry}
+use Rattle.bd_catalog.specs.Catalogue.{OpenEntry}
 use Rattle.bd_catalog.specs.Spelling.{spelled_row, spelled_active}
 
 -- the bytes were the spelling of x, whose numbers fit, and then those that are left

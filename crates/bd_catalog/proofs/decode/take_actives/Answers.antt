@@ -1,4 +1,4 @@
-use Rattle.std.proofs.Common.{rules, ◌≡◌, ◌^◌, ◌<◌, ◌++◌, ◌∷◌, [], length, map, ◌∙◌, ap, arith}
+use Rattle.std.proofs.Common.{rules, ◌≡◌, ◌^◌, ◌<◌, ◌++◌, ◌∷◌, [], map, ◌∙◌, ap, arith}
 use Rattle.std.proofs.lemmas.List.{length-map}
 use Rattle.bd_model.specs.Records.{four}
 use Rattle.bd_catalog.specs.Shown.{open_entry}

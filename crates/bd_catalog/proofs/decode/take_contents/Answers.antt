@@ -1,9 +1,5 @@
-use Rattle.std.proofs.Common.{rules, ◌≡◌, ℕ, ◌-◌, ap, map}
-use Rattle.std.specs.List.{flat_map}
-use Rattle.bd_catalog.specs.Reading.{SpellsNone, FitMany, Took}
+use Rattle.std.proofs.Common.{rules, map}
 use Rattle.bd_catalog.specs.Shown.{version_entry, volume_entry}
-use Rattle.bd_catalog.specs.Spelling.{spelled_version, spelled_volume}
-use Rattle.bd_catalog.specs.Widths.{FitsVersion, FitsVolume}
 use Rattle.bd_catalog.proofs.ReadingContents.{Numbers, none_volumes, none_actives}
 use Rattle.bd_catalog.proofs.decode.take_contents.Goals as goal
 

@@ -1,8 +1,7 @@
-use Rattle.std.proofs.Common.{rules, ◌≡◌, ◌^◌, ◌<◌, ◌++◌, length, sym, ◌∙◌, ap, arith, length-append}
+use Rattle.std.proofs.Common.{rules, ◌^◌, ◌<◌, ◌++◌, length, sym, ◌∙◌, ap, arith, length-append}
 use Rattle.std.specs.List.{flat_map}
 use Rattle.bd_wire.proofs.ReadingBack.{u32_same}
 use Rattle.bd_model.specs.Records.{four}
-use Rattle.bd_catalog.specs.Reading.{SpellsNone}
 use Rattle.bd_catalog.specs.Spelling.{read_four}
 use Rattle.bd_catalog.specs.Widths.{FitsFour}
 use Rattle.bd_catalog.proofs.Lengths.{length-fours}

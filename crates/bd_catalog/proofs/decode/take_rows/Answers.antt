@@ -1,4 +1,4 @@
-use Rattle.std.proofs.Common.{rules, ◌≡◌, ◌^◌, ◌<◌, [], ◌∷◌, ◌++◌, List, length, sym, ◌∙◌, ap, arith, length-append}
+use Rattle.std.proofs.Common.{rules, ◌^◌, ◌<◌, [], ◌∷◌, ◌++◌, List, length, sym, ◌∙◌, ap, arith, length-append}
 use Rattle.std.specs.List.{flat_map}
 use Rattle.std.proofs.lemmas.List.Elements.{All-push, All-same}
 use Rattle.bd_wire.proofs.ReadingBack.{u32_same}

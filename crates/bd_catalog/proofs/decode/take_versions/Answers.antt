@@ -1,4 +1,4 @@
-use Rattle.std.proofs.Common.{[], length, map, ap, arith}
+use Rattle.std.proofs.Common.{[], map, arith}
 use Rattle.std.proofs.lemmas.List.{length-map}
 use Rattle.bd_catalog.specs.Shown.{version_entry}
 use Rattle.bd_catalog.specs.Spelling.{read_version, spelled_version}

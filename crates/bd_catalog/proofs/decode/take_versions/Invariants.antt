@@ -1,6 +1,5 @@
 use Rattle.std.proofs.Common.{◌≡◌, ◌++◌, length, map, All}
 use Rattle.std.specs.List.{flat_map}
-use Rattle.bd_model.specs.Records.{four}
 use Rattle.bd_catalog.specs.Shown.{version_entry}
 use Rattle.bd_catalog.specs.Spelling.{spelled_version}
 use Rattle.bd_catalog.specs.Widths.{FitsVersion}

@@ -1,12 +1,12 @@
-use Rattle.std.proofs.Common.{◌≡◌, ℕ, ◌+◌, ◌≤◌, List, ◌++◌, length, drop, refl, sym, ◌∙◌, ap, arith, length-append}
-use Rattle.std.specs.List.{All, flat_map}
+use Rattle.std.proofs.Common.{ℕ, ◌+◌, List, length, ◌∙◌, ap, arith}
+use Rattle.std.specs.List.{flat_map}
 use Rattle.bd_model.specs.Records.{four}
 use Rattle.bd_catalog.specs.declared.rows.VersionRow.{VersionRow}
 use Rattle.bd_catalog.specs.declared.rows.ClosedVolume.{ClosedVolume}
 use Rattle.bd_catalog.specs.declared.rows.ActiveCategory.{ActiveCategory}
-use Rattle.bd_catalog.specs.Shown.{version_entry, volume_entry, open_entry, catalogue_of_contents}
+use Rattle.bd_catalog.specs.Shown.{version_entry, volume_entry, open_entry}
 use Rattle.bd_catalog.specs.Widths.{FitsVersion, FitsVolume, FitsOpen}
-use Rattle.bd_catalog.specs.Writing.{put_at, spelled_head, spelled_version_row, spelled_volume_row, spelled_active_row}
+use Rattle.bd_catalog.specs.Writing.{put_at, spelled_version_row, spelled_volume_row, spelled_active_row}
 use Rattle.bd_catalog.proofs.Writing.{All-unmap, length-spelled_parts, written_parts}
 use Rattle.bd_catalog.proofs.encode.put_contents.Goals as goal
 

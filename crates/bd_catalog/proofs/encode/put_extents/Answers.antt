@@ -1,4 +1,4 @@
-use Rattle.std.proofs.Common.{◌≡◌, ℕ, get_or, refl, ◌+◌, ◌≤◌, length, ◌∙◌, arith}
+use Rattle.std.proofs.Common.{ℕ, get_or, refl, ◌+◌, ◌≤◌, length, ◌∙◌, arith}
 use Rattle.bd_model.specs.Records.{four}
 use Rattle.bd_catalog.specs.Spelling.{spelled_extents}
 use Rattle.bd_catalog.proofs.Writing.{put_at-more, place-more, room-more}

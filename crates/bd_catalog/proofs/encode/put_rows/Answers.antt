@@ -1,5 +1,4 @@
-use Rattle.std.proofs.Common.{◌≡◌, get_or, refl, ◌+◌, ◌≤◌, ◌++◌, length, ◌∙◌, arith}
-use Rattle.std.specs.List.{flat_map}
+use Rattle.std.proofs.Common.{get_or, refl, length, ◌∙◌, arith}
 use Rattle.bd_model.specs.Records.{four}
 use Rattle.bd_model.specs.declared.layout.CategoryRow.{CategoryRow}
 use Rattle.bd_catalog.specs.Spelling.{spelled_row}

@@ -1,4 +1,4 @@
-use Rattle.std.proofs.Common.{◌≡◌, ◌+◌, ◌≤◌, [], length, ◌∙◌, arith}
+use Rattle.std.proofs.Common.{[], length, ◌∙◌, arith}
 use Rattle.bd_catalog.specs.Writing.{spelled_version_row}
 use Rattle.bd_catalog.proofs.Writing.{put_at-more, place-more, room-more}
 use Rattle.bd_catalog.proofs.encode.put_versions.Goals as goal

@@ -1,4 +1,4 @@
-use Rattle.std.proofs.Common.{ℕ, ◌+◌, List, [], ◌∷◌, ◌++◌, ◌∙◌, ap, arith}
+use Rattle.std.proofs.Common.{ℕ, ◌+◌, List, [], ◌∷◌, ◌∙◌, ap, arith}
 use Rattle.bd_model.specs.Records.{four}
 use Rattle.bd_catalog.specs.Writing.{put_at}
 use Rattle.bd_catalog.proofs.Writing.{put_at-append}

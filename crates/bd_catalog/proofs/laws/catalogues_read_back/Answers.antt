@@ -1,7 +1,4 @@
-use Rattle.std.proofs.Common.{◌≡◌, ℕ, List, ◌++◌, length, drop, sym, ◌∙◌, ap}
 use Rattle.bd_model.specs.Sizes.{sizes_of}
-use Rattle.bd_catalog.specs.Catalogue.{Catalogue}
-use Rattle.bd_catalog.specs.Spelling.{spelled}
 use Rattle.bd_catalog.proofs.Decoding.{catalogue_of-spelled, accepted_by}
 use Rattle.bd_catalog.proofs.Lengths.{length-spelled}
 use Rattle.bd_catalog.proofs.Obeying.{bounded_of, spellable}

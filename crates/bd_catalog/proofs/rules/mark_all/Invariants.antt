@@ -1,5 +1,4 @@
 use Rattle.std.proofs.Common.{◌≡◌, drop}
-use Rattle.std.specs.List.{flat_map}
 use Rattle.bd_catalog.specs.Checked.{marked}
 use Rattle.bd_catalog.proofs.rules.mark_all.Given as goal
 

@@ -1,7 +1,6 @@
 use Rattle.std.proofs.Common.{◌≡◌, ◌+◌, drop, map}
-use Rattle.bd_catalog.specs.Catalogue.{oldest_in}
 use Rattle.bd_catalog.specs.Rules.{starts_hold}
-use Rattle.bd_catalog.specs.Shown.{volume_entry, catalogue_of_contents}
+use Rattle.bd_catalog.specs.Shown.{volume_entry}
 use Rattle.bd_catalog.proofs.rules.starts_hold.Given as goal
 
 abbrev pub invariant-loop-volume : goal.invariant-loop-volume

@@ -1,7 +1,6 @@
-use Rattle.std.proofs.Common.{◌≡◌, ◌<◌, ℕ, length, sym, ◌∙◌, ap, arith, Some}
+use Rattle.std.proofs.Common.{sym, ◌∙◌, ap, arith, Some}
 use Rattle.bd_model.specs.Sizes.{sizes_of}
 use Rattle.bd_catalog.specs.Opening.{Found}
-use Rattle.bd_catalog.specs.Rules.{catalogue_of}
 use Rattle.bd_catalog.specs.Shown.{catalogue_of_contents}
 use Rattle.bd_catalog.proofs.Obeying.{bounded_of}
 use Rattle.bd_catalog.proofs.Decoding.{none_unread, none_longer, none_broken, some_obeyed}

@@ -1,4 +1,4 @@
-use Rattle.std.proofs.Common.{◌≡◌, ◌≤◌, length, ap, arith}
+use Rattle.std.proofs.Common.{ap, arith}
 use Rattle.bd_model.specs.Sizes.{sizes_of, payload_room}
 use Rattle.bd_catalog.specs.Ledger.{Ledger}
 use Rattle.bd_catalog.specs.Shown.{catalogue_of_contents}
