@@ -1,5 +1,5 @@
 -- What a piece of a range is on the disk, and what writing it changes.
-use Rattle.std.proofs.Common.{◌≡◌, ◌⊎◌, inl, inr, ⊎_elim, ℕ, zero, suc, ◌∷◌, ◌+◌, ◌-◌, ◌*◌, ◌/◌, ◌%◌, ◌<◌, ◌≤◌, List, [], ◌++◌, length, take, drop, get_or, refl, sym, ◌∙◌, ap, subst, arith, length-take, length-drop, get_or-take, get_or-drop, length-append, drop-drop}
+use Rattle.std.proofs.Common.{◌≡◌, inl, inr, ⊎_elim, ℕ, zero, suc, ◌∷◌, ◌+◌, ◌-◌, ◌*◌, ◌%◌, ◌<◌, ◌≤◌, List, [], ◌++◌, length, take, drop, get_or, refl, sym, ◌∙◌, ap, arith, length-take, length-drop, get_or-take, get_or-drop, length-append, drop-drop}
 use Rattle.std.proofs.lemmas.Grind.{same_number_lists}
 use Rattle.std.proofs.lemmas.List.{get_or-append_right, get_or_append_left}
 use Rattle.std.proofs.lemmas.Bool.{cases_lt}
@@ -8,9 +8,9 @@ use Rattle.std.proofs.lemmas.Slice.{take-put_mid}
 use borrow.Rule.Slice.PartMut.{put_mid}
 use Rattle.std.specs.List.{All, range_with_len}
 use Rattle.bd_disk.specs.Trace.{upward}
-use Rattle.bd_disk.specs.Images.{InRange, AgreeBut, bytes_at, overwritten}
+use Rattle.bd_disk.specs.Images.{InRange, bytes_at, overwritten}
 use Rattle.bd_disk.proofs.Agreeing.{in_range, length-overwritten, overwritten_there, overwritten_elsewhere, length-bytes_at, get_or-bytes_at, agree_all, overwrite_agrees}
-use Rattle.bd_model.specs.Sizes.{Sizes, extent_place, disk_bytes}
+use Rattle.bd_model.specs.Sizes.{Sizes, disk_bytes}
 use Rattle.bd_model.specs.Extents.{owner_bytes, owner_places, places_at}
 use Rattle.bd_extio.specs.Ranges.{place_of, AreExtents, InOwner, owner_range}
 use Rattle.bd_extio.proofs.Places.{place_of-next, place_of-injective, places_at-piece, place_of-room, length-owner_bytes, get_or-owner_bytes}

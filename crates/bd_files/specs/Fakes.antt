@@ -3,7 +3,7 @@ use Rattle.std.specs.Prelude.{◌≡◌, ◌⊎◌, ◌+◌, ℕ, List, [], Opti
 use Rattle.std.specs.Coded.{Coded, code_by, coded_ℕ, coded_option, coded×}
 use Rattle.std.specs.FinMap as map
 use Rattle.bd_model.specs.FileMap.{FileMap}
-use Rattle.bd_files.specs.Calls.{one_more}
+use Rattle.bd_disk.specs.Calls.{one_more}
 use Rattle.bd_files.specs.Table.{coded_files}
 
 -- how many calls of a kind were made, the one that is set to fail, and how many failed

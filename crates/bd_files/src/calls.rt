@@ -1,7 +1,6 @@
 // The calls of one kind, as a fake counts them.
 ghost use Rattle.std.specs.Prelude.{◌≡◌, ◌↔◌, ◌+◌, ◌-◌, ◌^◌, ◌≤◌, min, IsTrue};
-ghost use Rattle.bd_disk.specs.Calls.{Rose};
-ghost use Rattle.bd_files.specs.Calls.{one_more};
+ghost use Rattle.bd_disk.specs.Calls.{Rose, one_more};
 
 use bd_disk::Failed;
 

@@ -1,9 +1,8 @@
 ghost use Rattle.std.specs.Prelude.{◌≡◌, ◌+◌, ◌-◌, ◌*◌, ◌≤◌, ◌↔◌, ◌⊎◌, ℕ, List, length, min, take, drop, replicate, IfOk, OnOk, OnErr, IsErr, Some};
 ghost use Rattle.std.specs.Option.{option_map};
 ghost use Rattle.std.specs.FinMap as map;
-ghost use Rattle.bd_disk.specs.Calls.{HasCause, Rose};
+ghost use Rattle.bd_disk.specs.Calls.{HasCause, Rose, one_more};
 ghost use Rattle.bd_disk.specs.Images.{bytes_at, overwritten};
-ghost use Rattle.bd_files.specs.Calls.{one_more};
 ghost use Rattle.bd_files.specs.Fakes.{Counts, CountsRefused, FailsNext, no_files};
 ghost use Rattle.bd_files.specs.Files.{ChangesOnly, CountsStrays, Fetches, Holds, Lacks};
 

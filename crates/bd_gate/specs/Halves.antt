@@ -3,13 +3,11 @@ use Rattle.std.specs.Prelude.{ℕ, ◌+◌, ◌-◌, ◌*◌, ◌%◌, ◌==◌,
 use Rattle.bd_disk.specs.Images.{InRange, bytes_at}
 use Rattle.bd_model.specs.Sizes.{Sizes, half_bytes, half_place}
 use Rattle.bd_gate.specs.Superblock.{open_gate, byte_at, eight_at}
+use Rattle.bd_gate.specs.declared.half.Half.{Half as StructHalf}
 
 -- a half by its number, its turn and the length of its payload, and whether the gate of the other is open
-pub record Half : Type 0 where
-  pub number : ℕ
-  pub turn : ℕ
-  pub length : ℕ
-  pub other_open : Bool
+abbrev pub Half : Type 0
+Half = StructHalf
 
 abbrev pub is_open : Sizes → List ℕ → ℕ → Bool
 is_open s image k = byte_at image (half_place s k) == open_gate
@@ -46,6 +44,15 @@ payload_of s half image = bytes_at (half_place s half.number + 10) half.length i
 abbrev pub log_place : Sizes → Half → ℕ
 log_place s half = half_place s half.number + 10 + half.length
 
--- the places of both halves
+-- the places of the gate of a half, of n bytes behind it, of the half, and of both
+abbrev pub InGate : Sizes → ℕ → ℕ → Type 0
+InGate s k place = InRange (half_place s k) 1 place
+
+abbrev pub InFrame : Sizes → ℕ → ℕ → ℕ → Type 0
+InFrame s k n place = InRange (half_place s k + 1) n place
+
+abbrev pub InHalf : Sizes → ℕ → ℕ → Type 0
+InHalf s k place = InRange (half_place s k) (half_bytes s) place
+
 abbrev pub InHalves : Sizes → ℕ → Type 0
 InHalves s place = InRange 64 (2 * half_bytes s) place

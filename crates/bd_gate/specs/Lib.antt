@@ -1,3 +1,5 @@
+pub mod Commits
+pub mod Finding
 pub mod Halves
 pub mod Standing
 pub mod Superblock

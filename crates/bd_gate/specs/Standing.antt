@@ -1,10 +1,10 @@
 -- The newest half with its bytes, and what a stop within a commit leaves of two halves.
-use Rattle.std.specs.Prelude.{◌≡◌, ◌⊎◌, ℕ, ◌+◌, ◌-◌, ◌%◌, List, length, take, Option, Some, option_map, false}
-use Rattle.bd_disk.specs.Images.{bytes_at}
+use Rattle.std.specs.Prelude.{◌≡◌, ◌⊎◌, ℕ, ◌+◌, ◌-◌, ◌%◌, Bool, List, length, take, slice_index, Option, Some, option_map}
+use Rattle.bd_disk.specs.Images.{AgreeBut, bytes_at}
 use Rattle.bd_disk.specs.History.{History, contents}
 use Rattle.bd_disk.specs.Made.{IsSure}
 use Rattle.bd_model.specs.Sizes.{Sizes, half_bytes, half_place}
-use Rattle.bd_gate.specs.Halves.{newest_half, is_open, turn_at, InHalves}
+use Rattle.bd_gate.specs.Halves.{newest_half, is_open, turn_at, InHalf, InHalves}
 
 -- the bytes of a half behind its gate
 abbrev pub behind : Sizes → List ℕ → ℕ → List ℕ
@@ -32,16 +32,30 @@ pub record HasFrame (s : Sizes) (number : ℕ) (frame image : List ℕ) : Type 0
 abbrev pub IsEither : Sizes → ℕ → List ℕ → List ℕ → List ℕ → Type 0
 IsEither s number frame old image = SameStanding s old image ⊎ HasFrame s number frame image
 
--- the other half is the newest, and both are the same in each image that a stop may leave
-pub record IsBeside (s : Sizes) (number : ℕ) (h : History) : Type 0 where
+-- this half is the newest with its frame, and everything but this half is as it was
+pub record IsCommitted (s : Sizes) (number : ℕ) (frame old image : List ℕ) : Type 0 where
+  pub stands : HasFrame s number frame image
+  pub elsewhere : AgreeBut (InHalf s number) old image
+
+-- a stop within a commit leaves the newest half as it was, or the whole commit
+abbrev pub IsOldOrCommitted : Sizes → ℕ → List ℕ → List ℕ → List ℕ → Type 0
+IsOldOrCommitted s number frame old image = SameStanding s old image ⊎ IsCommitted s number frame old image
+
+-- The other half is the newest, and this one is open or closed as said. Both are the same in each image that a stop may
+-- leave.
+pub record IsBeside (s : Sizes) (number : ℕ) (opened : Bool) (h : History) : Type 0 where
   pub newest : newest_half s (contents h) ≡ Some (1 - number)
+  pub gate : is_open s (contents h) number ≡ opened
   pub sure : IsSure (InHalves s) (contents h) h
 
--- and this half is closed
-pub record IsClosedBeside (s : Sizes) (number : ℕ) (h : History) : Type 0 where
-  pub beside : IsBeside s number h
-  pub closed : is_open s (contents h) number ≡ false
+-- the turn that a half has in its place beside the newest
+abbrev pub next_turn : Sizes → ℕ → List ℕ → ℕ
+next_turn s number image = (turn_at s image (1 - number) + 1) % 3
 
 -- its turn is the next one after that of the newest
 abbrev pub IsNextTurn : Sizes → ℕ → List ℕ → Type 0
-IsNextTurn s number image = turn_at s image number ≡ (turn_at s image (1 - number) + 1) % 3
+IsNextTurn s number image = turn_at s image number ≡ next_turn s number image
+
+-- so is the turn with which the frame begins
+abbrev pub BeginsNextTurn : Sizes → ℕ → List ℕ → List ℕ → Type 0
+BeginsNextTurn s number frame image = slice_index frame 0 ≡ next_turn s number image

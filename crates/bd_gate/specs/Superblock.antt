@@ -9,6 +9,10 @@ use Rattle.bd_model.specs.Sizes.{Sizes}
 abbrev pub open_gate : ℕ
 open_gate = 79
 
+-- what is written to close one
+abbrev pub closed_gate : ℕ
+closed_gate = 0
+
 abbrev pub magic : List ℕ
 magic = codes "BDSTORE"
 

@@ -10,7 +10,7 @@ use Rattle.bd_model.specs.declared.command.Command.{Command}
 use Rattle.bd_model.specs.declared.command.Command.TheVariants.{Backup, Restore, Expire, Reorganise, Scrub, List as Listing}
 use Rattle.bd_model.specs.Chunks.{chunks}
 use Rattle.bd_model.specs.FileMap.{FileMap}
-use Rattle.bd_model.specs.Folds.{chunks_read, all_read, given}
+use Rattle.bd_model.specs.Folds.{HeldCommand, chunks_read, all_read, given}
 use Rattle.bd_model.specs.History.{newest, oldest, retained, contains, version}
 use Rattle.bd_model.specs.Marks.{Distinct}
 use Rattle.bd_model.specs.Room.{counted, need, fresh}
@@ -18,6 +18,7 @@ use Rattle.bd_model.specs.State.{Version, VersionState, history, cut_of, last_nu
 use Rattle.bd_model.specs.Step.{Outcome, unchanged, restore, backup, free_extents, with_version, drop_oldest, expired_extents, step}
 use Rattle.bd_model.specs.Laws.{GivenChunksStayApart}
 use Rattle.bd_model.proofs.ChunkListLemmas.{contains-append}
+use Rattle.bd_model.proofs.FoldLemmas.{along}
 use Rattle.bd_model.proofs.NeedLemmas.{contains-flatten}
 
 -- each chunk of the first list is in the second
@@ -116,6 +117,22 @@ module _ (shape : Shape) where
   leaves held s files Scrub = in_left (all_chunks s.versions) []
   leaves held s files Listing = in_left (all_chunks s.versions) []
 
+-- what the first command leaves and the others read was kept or read before
+given-next : (shape : Shape) (s : VersionState) (files : FileMap) (c : HeldCommand) (commands : List HeldCommand) (o : Outcome) → step shape c.held s files c.command ≡ Some o →
+    Distinct (given shape s files (c ∷ commands)) → Distinct (given shape o.state o.files commands)
+given-next shape s files c commands o e =
+    let read = chunks_read shape s files c.command in
+    let rest = all_read shape o.state o.files commands in
+    let all : all_read shape s files (c ∷ commands) ≡ read ++ rest =
+    ap (λ t. read ++ elim t as (λ _. List (List ℕ)) [ None ↦ [] | Some o ↦ all_read shape o.state o.files commands ]) e in
+    let left : Leaves shape s read o = subst (λ t. IfSome t (Leaves shape s read)) e (leaves shape c.held s files c.command) in
+    Distinct-within (given shape o.state o.files commands) (given shape s files (c ∷ commands))
+    (λ x has. ap (λ cs. contains (all_chunks shape s.versions ++ cs) x) all
+    ∙ ap (λ cs. contains cs x) (sym (append_assoc (all_chunks shape s.versions) read rest))
+    ∙ in_both (all_chunks shape o.state.versions) rest ((all_chunks shape s.versions ++ read) ++ rest)
+    (λ y there. in_left (all_chunks shape s.versions ++ read) rest y (left y there))
+    (in_right (all_chunks shape s.versions ++ read) rest) x has)
+
 pub given_chunks_stay_apart : GivenChunksStayApart
 given_chunks_stay_apart = record {
   versions = λ shape s files commands.
@@ -127,16 +144,6 @@ given_chunks_stay_apart = record {
       (in_both (version h (newest h)) read (given shape s files (c ∷ commands))
       (λ x has. in_left (all_chunks shape s.versions) (all_read shape s files (c ∷ commands)) x (ap (λ cs. contains cs x) (sym (joined shape s.versions)) ∙ contains-flatten ([] ∷ h.versions) (newest h - h.base) x has))
       (λ x has. in_right (all_chunks shape s.versions) (all_read shape s files (c ∷ commands)) x (in_left read _ x has)));
-  others = λ shape s files c commands o e.
-      let read = chunks_read shape s files c.command in
-      let rest = all_read shape o.state o.files commands in
-      let all : all_read shape s files (c ∷ commands) ≡ read ++ rest =
-      ap (λ t. read ++ elim t as (λ _. List (List ℕ)) [ None ↦ [] | Some o ↦ all_read shape o.state o.files commands ]) e in
-      let left : Leaves shape s read o = subst (λ t. IfSome t (Leaves shape s read)) e (leaves shape c.held s files c.command) in
-      Distinct-within (given shape o.state o.files commands) (given shape s files (c ∷ commands))
-      (λ x has. ap (λ cs. contains (all_chunks shape s.versions ++ cs) x) all
-      ∙ ap (λ cs. contains cs x) (sym (append_assoc (all_chunks shape s.versions) read rest))
-      ∙ in_both (all_chunks shape o.state.versions) rest ((all_chunks shape s.versions ++ read) ++ rest)
-      (λ y there. in_left (all_chunks shape s.versions ++ read) rest y (left y there))
-      (in_right (all_chunks shape s.versions ++ read) rest) x has);
+  others = given-next;
+  all = λ shape s files commands k p e apart. along shape (λ s files commands. Distinct (given shape s files commands)) (given-next shape) commands s files k p e apart;
 }

@@ -16,7 +16,7 @@ use Rattle.bd_model.specs.FileMap.{FileMap}
 use Rattle.bd_model.specs.State.{VersionState, IsState, IsPhase, history, streams, cut_of, last_number, Version}
 use Rattle.bd_model.specs.Layout.{open_category}
 use Rattle.bd_model.specs.Room.{counted, need, fresh}
-use Rattle.bd_model.specs.Laws.{Keeps, StatesStayLegal, BackupsGrowTheHistory, grown}
+use Rattle.bd_model.specs.Laws.{Keeps, BackupsGrowTheHistory, grown}
 use Rattle.std.proofs.lemmas.Option.{IfSome_then}
 use Rattle.bd_model.specs.Step.{unchanged, restore, expired_extents, step, backup, free_extents, drop_oldest, with_version, next_start, phase_after_step}
 use Rattle.bd_model.proofs.ListLemmas.{IfSome-find_range_with_len}
@@ -142,9 +142,6 @@ IsPhase-step h (Waiting cursor) is =
     go : (o : Option ℕ) → IfSome o (λ i. (cursor ≤ i) × (i + 1 ≤ newest h)) → IsPhase h (elim o as (λ _. Phase) [ None ↦ Settled | Some i ↦ Waiting (i + 1) ])
     go None k = tt
     go (Some i) k = (is.0, omega arith, k.1)
-
-pub states_stay_legal : StatesStayLegal
-states_stay_legal = record { command = keeps; arranging = IsPhase-step }
 
 last_of : (xs : List (List (List ℕ))) → 1 ≤ length xs → xs ≡ take (length xs - 1) xs ++ get_or xs (length xs - 1) [] ∷ []
 last_of xs some =

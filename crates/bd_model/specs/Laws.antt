@@ -1,5 +1,5 @@
 -- What holds of the definitions, in the words of the subject. Each law stands on a function of its own.
-use Rattle.std.specs.Prelude.{◌≡◌, ◌≢◌, ◌↔◌, ℕ, zero, suc, ◌+◌, ◌-◌, ◌*◌, ◌%◌, ◌^◌, ◌<◌, ◌≤◌, max, ◌&&◌, List, [], ◌∷◌, ◌++◌, length, map, filter, flat_map, sum_by, take, fold, slice_index, slice_range, nat_lt, ◌==◌, if◌then◌else◌, Some, None, IfSome, IsTrue}
+use Rattle.std.specs.Prelude.{◌≡◌, ◌≢◌, ◌↔◌, ℕ, zero, suc, ◌+◌, ◌-◌, ◌*◌, ◌%◌, ◌^◌, ◌<◌, ◌≤◌, max, ◌&&◌, List, [], ◌∷◌, ◌++◌, length, map, filter, flat_map, sum_by, take, drop, fold, slice_index, slice_range, nat_lt, ◌==◌, if◌then◌else◌, Some, None, IfSome, IsTrue}
 use Rattle.std.specs.Str.{bytes_eq}
 use Rattle.std.specs.List.{concat}
 use Rattle.bd_model.specs.declared.shape.Shape.{Shape}
@@ -10,7 +10,7 @@ use Rattle.bd_model.specs.declared.layout.Phase.{Phase}
 use Rattle.bd_model.specs.declared.layout.Phase.TheVariants.{Settled, Waiting}
 use Rattle.bd_model.specs.Chunks.{Cut, numbers, gear, window_hash, chunk_len, is_decided, chunks_after, chunks}
 use Rattle.bd_model.specs.FileMap.{FileMap}
-use Rattle.bd_model.specs.Folds.{HeldCommand, chunks_read, given}
+use Rattle.bd_model.specs.Folds.{HeldCommand, Point, after, chunks_read, given}
 use Rattle.bd_model.specs.History.{History, version, contains, distinct, newest, oldest, retained}
 use Rattle.bd_model.specs.Category.{category}
 use Rattle.bd_model.specs.Layout.{record_bytes, row_of, rows, row_chunks, closed_volume, open_category, arranged_to, is_arranged}
@@ -283,20 +283,24 @@ abbrev pub DistinctMarksAreNear : Type 0
 DistinctMarksAreNear = (h : History) → Distinct (flat_map (λ v. v) h.versions) → Near h
 
 -- Where marks tell apart the chunks of what a state keeps and commands read, they do so for the state's versions, for its
--- newest version with what the first command reads, and for the other commands in what the first leaves.
+-- newest version with what the first command reads, and for the other commands in what the first leaves; so too after any
+-- number of them.
 pub record GivenChunksStayApart : Type 0 where
   pub versions : (shape : Shape) (s : VersionState) (files : FileMap) (commands : List HeldCommand) → Distinct (given shape s files commands) → Distinct (flat_map (λ v. v) (history shape s).versions)
   pub first : (shape : Shape) (s : VersionState) (files : FileMap) (c : HeldCommand) (commands : List HeldCommand) → Distinct (given shape s files (c ∷ commands)) →
       Distinct (version (history shape s) (newest (history shape s)) ++ chunks_read shape s files c.command)
   pub others : (shape : Shape) (s : VersionState) (files : FileMap) (c : HeldCommand) (commands : List HeldCommand) (o : Outcome) → step shape c.held s files c.command ≡ Some o →
       Distinct (given shape s files (c ∷ commands)) → Distinct (given shape o.state o.files commands)
+  pub all : (shape : Shape) (s : VersionState) (files : FileMap) (commands : List HeldCommand) (k : ℕ) (p : Point) → after shape s files commands k ≡ Some p →
+      Distinct (given shape s files commands) → Distinct (given shape p.state p.files (drop k commands))
 
 -- the state that a command leaves is legal, and every phase that was legal before it leads to one that is
 pub record Keeps (shape : Shape) (s : VersionState) (o : Outcome) : Type 0 where
   pub state : IsState o.state
   pub phase : (phase : Phase) → IsPhase (history shape s) phase → IsPhase (history shape o.state) (phase_after o.state phase o.answer)
 
--- A command on a legal state leaves one, with a legal phase; so does a step of arranging.
+-- A command on a legal state leaves one, with a legal phase, and so do any number of them; so does a step of arranging.
 pub record StatesStayLegal : Type 0 where
   pub command : (shape : Shape) (held : ℕ) (s : VersionState) (files : FileMap) (command : Command) → IsState s → IfSome (step shape held s files command) (Keeps shape s)
+  pub all : (shape : Shape) (s : VersionState) (files : FileMap) (commands : List HeldCommand) (k : ℕ) (p : Point) → after shape s files commands k ≡ Some p → IsState s → IsState p.state
   pub arranging : (h : History) (phase : Phase) → IsPhase h phase → IsPhase h (phase_after_step h phase)

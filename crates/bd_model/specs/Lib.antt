@@ -12,9 +12,6 @@ pub mod Recipe
 pub mod Records
 pub mod Room
 pub mod Roomy
-pub mod Seen
-pub mod SeenState
-pub mod SeenStep
 pub mod Shapes
 pub mod Sizes
 pub mod State

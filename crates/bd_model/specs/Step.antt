@@ -1,5 +1,5 @@
 -- What every command answers, and what it leaves.
-use Rattle.std.specs.Prelude.{ℕ, ◌+◌, ◌-◌, ◌==◌, ◌&&◌, not, List, [], ◌∷◌, ◌++◌, Option, Some, None, option_map, map, find, length, nat_lt, nat_le, sum_by, filter, if◌then◌else◌}
+use Rattle.std.specs.Prelude.{ℕ, ◌+◌, ◌-◌, ◌==◌, ◌&&◌, List, [], ◌∷◌, ◌++◌, Option, Some, None, option_map, map, find, length, nat_lt, nat_le, sum_by, filter, if◌then◌else◌}
 use Rattle.std.specs.FinMap as map
 use Rattle.bd_model.specs.FileMap.{FileMap}
 use Rattle.bd_model.specs.declared.shape.Shape.{Shape}
@@ -13,7 +13,7 @@ use Rattle.bd_model.specs.declared.layout.Phase.{Phase}
 use Rattle.bd_model.specs.declared.layout.Phase.TheVariants.{Settled, Waiting}
 use Rattle.bd_model.specs.Chunks.{chunks, numbers}
 use Rattle.bd_model.specs.History.{History, version, newest, oldest, retained, distinct}
-use Rattle.bd_model.specs.State.{VersionState, Version, history, cut_of, stream_of, last_number}
+use Rattle.bd_model.specs.State.{VersionState, history, cut_of, stream_of, last_number}
 use Rattle.bd_model.specs.Category.{begins}
 use Rattle.bd_model.specs.Layout.{closed_volume, open_category, record_bytes}
 use Rattle.bd_model.specs.Room.{need, counted, owned, fresh, up, recipe_bytes}

@@ -1,10 +1,6 @@
 use crate::{Damage, Field, Findings, Mark, Name, NameFault, Owner, Shape};
 use std::test::Fail;
 
-mod chunks;
-mod layout;
-mod worked;
-
 /// A small shape, the defaults, the one that soaks, and the greatest one.
 fn four_shapes() -> [(u32, u32, u32); 4] {
     [

@@ -1,14 +1,11 @@
-use Rattle.std.proofs.Common.{◌≡◌, ◌+◌, ◌-◌, ◌*◌, ◌%◌, ◌≤◌, ◌<◌, ◌∙◌, ap, sym, subst, arith, length, take, drop, ◌++◌, length-append, length-take, refl}
+use Rattle.std.proofs.Common.{◌≡◌, ◌+◌, ◌-◌, ◌*◌, ◌%◌, ◌≤◌, ◌∙◌, ap, sym, arith, length, refl}
 use Rattle.bd_disk.specs.History.{contents}
 use Rattle.bd_disk.specs.Images.{bytes_at, overwritten}
-use Rattle.bd_disk.specs.Made.{WritesOnly}
-use Rattle.bd_disk.specs.Trace.{ReadsOnly}
 use Rattle.bd_disk.proofs.Agreeing.{length-bytes_at}
 use Rattle.bd_disk.proofs.Frames.{made_none, made_both, writes_wider}
 use Rattle.bd_disk.proofs.Traces.{reads_none, reads_both, write_reads}
 use Rattle.bd_model.specs.Sizes.{sizes_of, disk_bytes}
 use Rattle.bd_model.specs.Extents.{owner_bytes}
-use Rattle.bd_extio.specs.Ranges.{place_of, InOwner}
 use Rattle.bd_extio.proofs.Places.{range_small}
 use Rattle.bd_extio.proofs.Ranges.{overwritten-none, write_more, piece_in_owner}
 use Rattle.bd_extio.proofs.range.write_at.Goals as goal

@@ -1,0 +1,73 @@
+-- The calls of a commit, and what they write.
+use Rattle.std.proofs.Common.{◌≡◌, ℕ, zero, suc, ◌+◌, ◌≤◌, Bool, true, false, List, [], ◌∷◌, refl, ◌∙◌, ap, subst, arith}
+use Rattle.bd_disk.specs.Images.{InRange, overwritten}
+use Rattle.bd_disk.specs.History.{History, contents}
+use Rattle.bd_disk.specs.Made.{Makes, Stores, WritesOnly}
+use Rattle.bd_disk.proofs.Frames.{writes_wider}
+use Rattle.bd_model.specs.Sizes.{Sizes, half_bytes, half_place}
+use Rattle.bd_gate.specs.Superblock.{open_gate, closed_gate}
+use Rattle.bd_gate.specs.Halves.{InHalf}
+use Rattle.bd_gate.specs.Commits.{closing_calls}
+
+overwritten_none : (xs : List ℕ) (at : ℕ) → overwritten xs at [] ≡ xs
+unfolding overwritten
+overwritten_none [] at = refl
+overwritten_none (x ∷ xs) (suc at) = ap (λ (l : List ℕ). x ∷ l) (overwritten_none xs at)
+overwritten_none (x ∷ xs) zero = refl
+
+-- a byte before what was written behind it
+byte_before : (xs : List ℕ) (at byte : ℕ) (bytes : List ℕ) → overwritten (overwritten xs (at + 1) bytes) at (byte ∷ []) ≡ overwritten xs at (byte ∷ bytes)
+unfolding overwritten
+byte_before [] at byte bytes = refl
+byte_before (x ∷ xs) (suc at) byte bytes =
+    let e : suc at + 1 ≡ suc (at + 1) = omega arith in
+    ap (λ n. overwritten (overwritten (x ∷ xs) n bytes) (suc at) (byte ∷ [])) e ∙ ap (λ (l : List ℕ). x ∷ l) (byte_before xs at byte bytes)
+byte_before (x ∷ xs) zero byte bytes = ap (λ (l : List ℕ). byte ∷ l) (overwritten_none (overwritten xs zero bytes) zero)
+
+-- a byte that is written again
+byte_again : (xs : List ℕ) (at byte other : ℕ) (bytes : List ℕ) → overwritten (overwritten xs at (other ∷ [])) at (byte ∷ bytes) ≡ overwritten xs at (byte ∷ bytes)
+unfolding overwritten
+byte_again [] at byte other bytes = refl
+byte_again (x ∷ xs) (suc at) byte other bytes = ap (λ (l : List ℕ). x ∷ l) (byte_again xs at byte other bytes)
+byte_again (x ∷ xs) zero byte other bytes = ap (λ l. byte ∷ overwritten l zero bytes) (overwritten_none xs zero)
+
+-- whether the half was closed or not, the open gate and the frame stand over it
+closed_first : (s : Sizes) (number : ℕ) (was_open : Bool) (frame : List ℕ) {a b : History} → Makes (closing_calls s number was_open) a b
+    → overwritten (contents b) (half_place s number) (open_gate ∷ frame) ≡ overwritten (contents a) (half_place s number) (open_gate ∷ frame)
+closed_first s number true frame {a} {b} made =
+    ap (λ h. overwritten (contents h) (half_place s number) (open_gate ∷ frame)) made.so ∙ byte_again (contents a) (half_place s number) open_gate closed_gate frame
+closed_first s number false frame made = ap (λ h. overwritten (contents h) (half_place s number) (open_gate ∷ frame)) made.so
+
+-- the contents after a commit
+pub commit_stores : (s : Sizes) (number : ℕ) (was_open : Bool) (frame : List ℕ) {a b c d : History} → Makes (closing_calls s number was_open) a b
+    → Stores (half_place s number + 1) frame b c → Stores (half_place s number) (open_gate ∷ []) c d → Stores (half_place s number) (open_gate ∷ frame) a d
+commit_stores s number was_open frame {a} {b} {c} {d} closing filling opening = record {
+  holds = opening.holds
+      ∙ ap (λ image. overwritten image (half_place s number) (open_gate ∷ [])) filling.holds
+      ∙ byte_before (contents b) (half_place s number) open_gate frame
+      ∙ closed_first s number was_open frame closing;
+  settled = opening.settled;
+}
+
+-- ---- where it writes
+
+-- a range by another name of its place
+pub moved : (at other n : ℕ) {a b : History} → at ≡ other → WritesOnly (InRange at n) a b → WritesOnly (InRange other n) a b
+moved at other n {a} {b} e writes = subst (λ p. WritesOnly (InRange p n) a b) e writes
+
+pub stores_moved : (at other : ℕ) {bytes : List ℕ} {a b : History} → at ≡ other → Stores at bytes a b → Stores other bytes a b
+stores_moved at other {bytes} {a} {b} e stores = subst (λ p. Stores p bytes a b) e stores
+
+behind_gate : (at size n place : ℕ) → n + 1 ≤ size → InRange (at + 1) n place → InRange at size place
+behind_gate at size n place fits r = (omega (arith, r.0), omega (arith, r.1))
+
+gate_itself : (at size place : ℕ) → 1 ≤ size → InRange at 1 place → InRange at size place
+gate_itself at size place some r = (r.0, omega (arith, r.1))
+
+-- a gate lies in its half
+pub gate_writes : (s : Sizes) (number : ℕ) {a b : History} → WritesOnly (InRange (half_place s number) 1) a b → WritesOnly (InHalf s number) a b
+gate_writes s number writes = writes_wider _ (λ place r. gate_itself (half_place s number) (half_bytes s) place (omega arith) r) writes
+
+-- and a frame behind it
+pub frame_writes : (s : Sizes) (number n : ℕ) {a b : History} → n + 1 ≤ half_bytes s → WritesOnly (InRange (half_place s number + 1) n) a b → WritesOnly (InHalf s number) a b
+frame_writes s number n fits writes = writes_wider _ (λ place r. behind_gate (half_place s number) (half_bytes s) n place fits r) writes

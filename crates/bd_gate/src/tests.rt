@@ -1,0 +1,201 @@
+ghost use Rattle.std.specs.Prelude.{◌≤◌, length, IfOk, OnOk};
+ghost use Rattle.bd_disk.specs.History.{contents};
+ghost use Rattle.bd_disk.specs.Made.{IsSettled};
+ghost use Rattle.bd_model.specs.Sizes.{sizes_of, disk_bytes};
+
+use super::*;
+use bd_disk::{Disk, MemDisk, OutOfMemory, Touch, crash_image};
+use bd_model::Shape;
+use std::alloc::Global;
+use std::test::Fail;
+
+// The places of a disk of extent 64, extents 16 and retain 4.
+const DISK: usize = 133_894;
+
+const HALVES: [usize; 2] = [64, 66_467];
+
+const OPEN: u8 = 0x4F;
+
+fn put(image: &mut [u8], at: usize, bytes: &[u8]) {
+    if at < image.len() && bytes.len() <= image.len() - at {
+        image[at..at + bytes.len()].copy_from_slice(bytes);
+    }
+}
+
+// An image whose halves have these gates and turns, and payloads of 5 and of 3 bytes.
+fn image_of(alloc: Global, gates: [u8; 2], turns: [u8; 2]) -> Result<Vec<u8>, OutOfMemory> {
+    let mut image = vec![in alloc; 0u8; DISK]?;
+    put(
+        &mut image,
+        HALVES[0],
+        &[gates[0], turns[0], 0, 0, 0, 0, 0, 0, 0, 5],
+    );
+    put(
+        &mut image,
+        HALVES[1],
+        &[gates[1], turns[1], 0, 0, 0, 0, 0, 0, 0, 3],
+    );
+    Ok(image)
+}
+
+// A disk with these bytes whose calls fail from this one on.
+fn failing_from(alloc: Global, image: &[u8], call: u64) -> Result<MemDisk, OutOfMemory>
+    ensures { IfOk result (λ disk. IsSettled disk.history) }
+{
+    let mut disk = MemDisk::from_bytes(alloc, image)?;
+    disk.fail_from(call);
+    Ok(disk)
+}
+
+// The newest half, where the disk has room for a store.
+fn found(disk: &mut MemDisk, shape: &Shape) -> Option<Result<Half, GateFault>> {
+    if disk.size() < shape.disk_bytes() {
+        return None;
+    }
+    Some(newest_half(disk, shape))
+}
+
+// Puts a payload of two bytes in the place of the newest half, as a caller does.
+fn commit_pair(disk: &mut MemDisk, shape: &Shape, pair: [u8; 2]) -> Result<(), GateFault>
+    requires room { disk_bytes (sizes_of shape.now) ≤ length (contents disk.old.history) }
+    requires settled { IsSettled disk.old.history }
+    ensures room { disk_bytes (sizes_of shape.now) ≤ length (contents disk.new.history) }
+    ensures settled { OnOk result (IsSettled disk.new.history) }
+{
+    let half = newest_half(disk, shape)?;
+    let turn = (half.turn + 1) % 3;
+    let frame = [turn, 0, 0, 0, 0, 0, 0, 0, 2, pair[0], pair[1], 0];
+    commit_frame(disk, shape, 1 - half.number, half.other_open, &frame)?;
+    Ok(())
+}
+
+#[test]
+fn the_newest_half_is_told_by_gates_and_turns(rt: HostRuntime) -> Result<(), Fail> {
+    let alloc = rt.alloc();
+    let shape = Shape::new(64, 16, 4, 4, 0, 4)?;
+    let cases = [
+        ([OPEN, 0], [0, 0], Some(0)),
+        ([OPEN, 0xFF], [2, 0], Some(0)),
+        ([OPEN, 0], [3, 0], None),
+        ([0, OPEN], [7, 1], Some(1)),
+        ([0, OPEN], [2, 3], None),
+        ([OPEN, OPEN], [0, 1], Some(1)),
+        ([OPEN, OPEN], [1, 2], Some(1)),
+        ([OPEN, OPEN], [2, 0], Some(1)),
+        ([OPEN, OPEN], [1, 0], Some(0)),
+        ([OPEN, OPEN], [2, 1], Some(0)),
+        ([OPEN, OPEN], [0, 2], Some(0)),
+        ([OPEN, OPEN], [1, 1], None),
+        ([OPEN, OPEN], [0, 3], None),
+        ([OPEN, OPEN], [3, 0], None),
+        ([OPEN, OPEN], [255, 0], None),
+        ([0x4E, 0x50], [0, 1], None),
+        ([0, 0], [0, 0], None),
+    ];
+    for (gates, turns, wanted) in cases.iter() {
+        let image = image_of(alloc, *gates, *turns)?;
+        let mut disk = MemDisk::from_bytes(alloc, &image)?;
+        let half = match wanted {
+            Some(0) => Ok(Half {
+                number: 0,
+                turn: turns[0],
+                length: 5,
+                other_open: gates[1] == OPEN,
+            }),
+            Some(_) => Ok(Half {
+                number: 1,
+                turn: turns[1],
+                length: 3,
+                other_open: gates[0] == OPEN,
+            }),
+            None => Err(GateFault::NoHalf {
+                gates: *gates,
+                turns: *turns,
+            }),
+        };
+        assert_eq!(rt; found(&mut disk, &shape), Some(half));
+        assert_eq!(rt; disk.trace().len(), 2);
+    }
+    Ok(())
+}
+
+#[test]
+fn a_fault_of_the_disk_is_told_apart(rt: HostRuntime) -> Result<(), Fail> {
+    let alloc = rt.alloc();
+    let shape = Shape::new(64, 16, 4, 4, 0, 4)?;
+    for call in 0..2 {
+        let mut disk = MemDisk::from_bytes(alloc, &image_of(alloc, [OPEN, 0], [0, 0])?)?;
+        disk.fail_at(call);
+        assert_eq!(rt; found(&mut disk, &shape), Some(Err(GateFault::DiskFault)));
+    }
+    Ok(())
+}
+
+#[test]
+fn a_commit_makes_four_calls_or_six(rt: HostRuntime) -> Result<(), Fail> {
+    let alloc = rt.alloc();
+    let shape = Shape::new(64, 16, 4, 4, 0, 4)?;
+    let mut disk = MemDisk::from_bytes(alloc, &image_of(alloc, [OPEN, 0], [2, 0])?)?;
+    if disk.size() >= shape.disk_bytes() {
+        commit_pair(&mut disk, &shape, [7, 9])?;
+        commit_pair(&mut disk, &shape, [1, 2])?;
+        let half = newest_half(&mut disk, &shape)?;
+        let wanted = Half {
+            number: 0,
+            turn: 1,
+            length: 2,
+            other_open: true,
+        };
+        assert_eq!(rt; half, wanted);
+        let mut payload = [0u8; 2];
+        read_payload(&mut disk, &shape, &wanted, &mut payload)?;
+        assert_eq!(rt; payload, [1, 2]);
+    }
+    let read = |at| Touch::Read { at, length: 10 };
+    let write = |at, length| Touch::Write { at, length };
+    let calls = [
+        read(64),
+        read(66_467),
+        write(66_468, 12),
+        Touch::Sync,
+        write(66_467, 1),
+        Touch::Sync,
+        read(64),
+        read(66_467),
+        write(64, 1),
+        Touch::Sync,
+        write(65, 12),
+        Touch::Sync,
+        write(64, 1),
+        Touch::Sync,
+        read(64),
+        read(66_467),
+        Touch::Read { at: 74, length: 2 },
+    ];
+    assert_eq!(rt; disk.trace(), calls.as_slice());
+    Ok(())
+}
+
+#[test]
+fn a_stop_within_a_commit_leaves_the_old_half_or_the_new(rt: HostRuntime) -> Result<(), Fail> {
+    let alloc = rt.alloc();
+    let shape = Shape::new(64, 16, 4, 4, 0, 4)?;
+    // Two reads, and then close, sync, fill, sync, open and sync.
+    for stop in 0..9 {
+        let mut disk = failing_from(alloc, &image_of(alloc, [OPEN, OPEN], [1, 2])?, stop)?;
+        if disk.size() >= shape.disk_bytes() {
+            let done = commit_pair(&mut disk, &shape, [7, 9]);
+            assert_eq!(rt; done.is_ok(), stop == 8);
+        }
+        for filler in [0, OPEN, 0xFF] {
+            let image = crash_image(alloc, &disk, filler)?;
+            let mut left = MemDisk::from_bytes(alloc, &image)?;
+            let is_new = stop == 8 || stop >= 6 && filler == OPEN;
+            let (number, turn, length) = if is_new { (0, 0, 2) } else { (1, 2, 3) };
+            let half = found(&mut left, &shape).and_then(|answer| answer.ok());
+            let seen = half.map(|half| (half.number, half.turn, half.length));
+            assert_eq!(rt; seen, Some((number, turn, length)), "at {stop}");
+        }
+    }
+    Ok(())
+}

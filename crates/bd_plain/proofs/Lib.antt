@@ -1,0 +1,5 @@
+mod PlainCutLemmas
+mod PlainLemmas
+mod PlainRecipeLemmas
+mod PlainRoomLemmas
+mod PlainStateLemmas

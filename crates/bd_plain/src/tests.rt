@@ -1,0 +1,3 @@
+mod chunks;
+mod layout;
+mod worked;
