@@ -11,6 +11,7 @@ use crate::decode::take_contents;
 use crate::encode::put_contents;
 use crate::rows::{Actives, ClosedVolume, VersionRow};
 use crate::rules::obeys;
+use bd_gate::Half;
 use bd_model::{Phase, Shape};
 use bd_wire::Cursor;
 use std::alloc::{AllocError as OutOfMemory, Global};
@@ -22,11 +23,7 @@ use std::marker::Model;
 pub struct Catalog {
     shape: Shape,
     contents: Contents,
-    half: u8,
-    turn: u8,
-    // the bytes of the payload in the half
-    payload: u64,
-    other_open: bool,
+    half: Half,
     log_end: u64,
     // what a commit writes, from the turn to the first gate of the log
     frame: Vec<u8>,
@@ -43,7 +40,7 @@ impl Model for Catalog {
     ghost view = { λ c. record {
       found = record {
         sizes = sizes_of c.shape;
-        half = record { number = c.half; turn = c.turn; length = c.payload; other_open = c.other_open };
+        half = c.half;
         catalogue = catalogue_of_contents c.contents;
         log_end = c.log_end;
       };
@@ -108,10 +105,12 @@ impl Catalog {
         Ok(Catalog {
             shape,
             contents,
-            half: 0,
-            turn: 0,
-            payload,
-            other_open: false,
+            half: Half {
+                number: 0,
+                turn: 0,
+                length: payload,
+                other_open: false,
+            },
             log_end,
             frame,
         })

@@ -66,7 +66,6 @@ fn three_versions_decode_and_encode_back(rt: HostRuntime) -> Result<(), Fail> {
     assert_eq!(rt; catalog.actives().len(), 1);
 
     let mut buffer = vec![in alloc; 0xaau8; shape.payload_room() as usize]?;
-    let _ = catalog.shape();
     let count = catalog.encode(&mut buffer);
     assert_eq!(rt; count, 241);
     assert_eq!(rt; buffer.get(241).copied(), Some(0xaa));
@@ -100,7 +99,6 @@ fn an_empty_catalogue_is_21_zero_bytes(rt: HostRuntime) -> Result<(), Fail> {
     let mut catalog = Catalog::empty(alloc, shape)?;
     catalog.reserve()?;
     let mut buffer = vec![in alloc; 0xaau8; shape.payload_room() as usize]?;
-    let _ = catalog.shape();
     assert_eq!(rt; catalog.encode(&mut buffer), 21);
     assert_eq!(rt; &buffer[..21], &zeros[..21]);
     assert_eq!(rt; catalog.retained(), 0);
