@@ -90,7 +90,7 @@ impl Catalog {
     }
 
     // The catalogue, which takes so many bytes, in half 0 with an empty log; the other half is closed.
-    pub(crate) fn alone(
+    fn alone(
         alloc: Global,
         shape: Shape,
         contents: Contents,

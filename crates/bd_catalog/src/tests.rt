@@ -47,7 +47,8 @@ fn three_versions_decode_and_encode_back(rt: HostRuntime) -> Result<(), Fail> {
     let Some(mut catalog) = found else {
         return Ok(assert!(rt; false, "the bytes spell a catalogue"));
     };
-    catalog.reserve()?;
+    assert_eq!(rt; catalog.reserve().is_ok(), true);
+    assert_eq!(rt; catalog.shape(), shape);
     assert_eq!(rt; catalog.base(), 0);
     assert_eq!(rt; catalog.newest(), 3);
     assert_eq!(rt; catalog.retained(), 3);
@@ -97,7 +98,7 @@ fn an_empty_catalogue_is_21_zero_bytes(rt: HostRuntime) -> Result<(), Fail> {
     assert_eq!(rt; is_catalogue(alloc, 4, &zeros[..20])?, false);
 
     let mut catalog = Catalog::empty(alloc, shape)?;
-    catalog.reserve()?;
+    assert_eq!(rt; catalog.reserve().is_ok(), true);
     let mut buffer = vec![in alloc; 0xaau8; shape.payload_room() as usize]?;
     assert_eq!(rt; catalog.encode(&mut buffer), 21);
     assert_eq!(rt; &buffer[..21], &zeros[..21]);
