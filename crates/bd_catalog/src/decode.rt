@@ -1,7 +1,7 @@
-ghost use Rattle.std.specs.Prelude.{◌≡◌, ℕ, ◌+◌, ◌-◌, ◌^◌, ◌<◌, ◌≤◌, List, ◌++◌, length, map, All, IfSome, IfNone, IfOk, MatchOption};
+ghost use Rattle.std.specs.Prelude.{◌≡◌, ℕ, ◌+◌, ◌-◌, ◌^◌, ◌<◌, ◌≤◌, List, ◌++◌, length, map, All, IfSome, IfNone, IfOk};
 ghost use Rattle.std.specs.List.{flat_map};
 ghost use Rattle.bd_model.specs.Records.{four, eight};
-ghost use Rattle.bd_catalog.specs.Reading.{Took, SpellsNone, FitMany, spelled_rows, spelled_actives};
+ghost use Rattle.bd_catalog.specs.Reading.{Took, SpellsNone, Takes, FitMany, spelled_rows, spelled_actives};
 ghost use Rattle.bd_catalog.specs.Spelling.{spelled_extents, spelled_phase, spelled_row, spelled_version, spelled_volume, spelled_active, spelled};
 ghost use Rattle.bd_catalog.specs.Shown.{version_entry, volume_entry, open_entry, catalogue_of_contents};
 ghost use Rattle.bd_catalog.specs.Widths.{FitList, FitsFour, FitsRow, FitsVersion, FitsVolume, FitsOpen, FitsPhase, IsSpellable};
@@ -65,7 +65,7 @@ fn take_phase(cursor: &mut Cursor) -> Option<Phase>
 }
 
 fn take_extents(alloc: Global, cursor: &mut Cursor) -> Result<Option<Owned>, OutOfMemory>
-    ensures { IfOk result (λ found. MatchOption found (SpellsNone spelled_extents (FitList FitsFour) cursor.old) (λ owned. Took spelled_extents (FitList FitsFour) owned.numbers cursor.old cursor.new)) }
+    ensures { IfOk result (λ found. Takes spelled_extents (FitList FitsFour) (λ owned. owned.numbers) found cursor.old cursor.new) }
 {
     let Some(count) = cursor.take_u32() else {
         return Ok(None);
@@ -84,7 +84,7 @@ fn take_extents(alloc: Global, cursor: &mut Cursor) -> Result<Option<Owned>, Out
 }
 
 fn take_rows(alloc: Global, cursor: &mut Cursor) -> Result<Option<Rows>, OutOfMemory>
-    ensures { IfOk result (λ found. MatchOption found (SpellsNone spelled_rows (FitList FitsRow) cursor.old) (λ rows. Took spelled_rows (FitList FitsRow) rows.items cursor.old cursor.new)) }
+    ensures { IfOk result (λ found. Takes spelled_rows (FitList FitsRow) (λ rows. rows.items) found cursor.old cursor.new) }
 {
     let Some(count) = cursor.take_u32() else {
         return Ok(None);
@@ -104,7 +104,7 @@ fn take_rows(alloc: Global, cursor: &mut Cursor) -> Result<Option<Rows>, OutOfMe
 }
 
 fn take_version(alloc: Global, cursor: &mut Cursor) -> Result<Option<VersionRow>, OutOfMemory>
-    ensures { IfOk result (λ found. MatchOption found (SpellsNone spelled_version FitsVersion cursor.old) (λ row. Took spelled_version FitsVersion (version_entry row) cursor.old cursor.new)) }
+    ensures { IfOk result (λ found. Takes spelled_version FitsVersion version_entry found cursor.old cursor.new) }
 {
     let Some((length, chunks, fresh)) = take_sizes(cursor) else {
         return Ok(None);
@@ -122,7 +122,7 @@ fn take_version(alloc: Global, cursor: &mut Cursor) -> Result<Option<VersionRow>
 }
 
 fn take_volume(alloc: Global, cursor: &mut Cursor) -> Result<Option<ClosedVolume>, OutOfMemory>
-    ensures { IfOk result (λ found. MatchOption found (SpellsNone spelled_volume FitsVolume cursor.old) (λ volume. Took spelled_volume FitsVolume (volume_entry volume) cursor.old cursor.new)) }
+    ensures { IfOk result (λ found. Takes spelled_volume FitsVolume volume_entry found cursor.old cursor.new) }
 {
     let found = take_rows(alloc, cursor)?;
     let Some(rows) = found else {
@@ -136,7 +136,7 @@ fn take_volume(alloc: Global, cursor: &mut Cursor) -> Result<Option<ClosedVolume
 }
 
 fn take_active(alloc: Global, cursor: &mut Cursor) -> Result<Option<ActiveCategory>, OutOfMemory>
-    ensures { IfOk result (λ found. MatchOption found (SpellsNone spelled_active FitsOpen cursor.old) (λ active. Took spelled_active FitsOpen (open_entry active) cursor.old cursor.new)) }
+    ensures { IfOk result (λ found. Takes spelled_active FitsOpen open_entry found cursor.old cursor.new) }
 {
     let Some(row) = take_row(cursor) else {
         return Ok(None);
@@ -153,7 +153,7 @@ fn take_versions(
     cursor: &mut Cursor,
     count: u32,
 ) -> Result<Option<Vec<VersionRow>>, OutOfMemory>
-    ensures { IfOk result (λ found. MatchOption found (SpellsNone (flat_map spelled_version) (FitMany FitsVersion count) cursor.old) (λ rows. Took (flat_map spelled_version) (FitMany FitsVersion count) (map version_entry rows.items) cursor.old cursor.new)) }
+    ensures { IfOk result (λ found. Takes (flat_map spelled_version) (FitMany FitsVersion count) (λ rows. map version_entry rows.items) found cursor.old cursor.new) }
 {
     let mut rows = Vec::new(alloc);
     for _ in 0..count {
@@ -171,7 +171,7 @@ fn take_volumes(
     cursor: &mut Cursor,
     count: u32,
 ) -> Result<Option<Vec<ClosedVolume>>, OutOfMemory>
-    ensures { IfOk result (λ found. MatchOption found (SpellsNone (flat_map spelled_volume) (FitMany FitsVolume count) cursor.old) (λ volumes. Took (flat_map spelled_volume) (FitMany FitsVolume count) (map volume_entry volumes.items) cursor.old cursor.new)) }
+    ensures { IfOk result (λ found. Takes (flat_map spelled_volume) (FitMany FitsVolume count) (λ volumes. map volume_entry volumes.items) found cursor.old cursor.new) }
 {
     let mut volumes = Vec::new(alloc);
     for _ in 0..count {
@@ -185,7 +185,7 @@ fn take_volumes(
 }
 
 fn take_actives(alloc: Global, cursor: &mut Cursor) -> Result<Option<Actives>, OutOfMemory>
-    ensures { IfOk result (λ found. MatchOption found (SpellsNone spelled_actives (FitList FitsOpen) cursor.old) (λ actives. Took spelled_actives (FitList FitsOpen) (map open_entry actives.items) cursor.old cursor.new)) }
+    ensures { IfOk result (λ found. Takes spelled_actives (FitList FitsOpen) (λ actives. map open_entry actives.items) found cursor.old cursor.new) }
 {
     let Some(count) = cursor.take_u32() else {
         return Ok(None);
@@ -206,7 +206,7 @@ pub(crate) fn take_contents(
     alloc: Global,
     cursor: &mut Cursor,
 ) -> Result<Option<Contents>, OutOfMemory>
-    ensures { IfOk result (λ found. MatchOption found (SpellsNone spelled IsSpellable cursor.old) (λ x. Took spelled IsSpellable (catalogue_of_contents x) cursor.old cursor.new)) }
+    ensures { IfOk result (λ found. Takes spelled IsSpellable catalogue_of_contents found cursor.old cursor.new) }
 {
     let Some((base, newest, count)) = take_numbers(cursor) else {
         return Ok(None);
