@@ -1,8 +1,14 @@
 pub mod Catalogue
 pub mod Damages
+pub mod Ledger
 pub mod Opening
 pub mod Rules
+pub mod Shown
 pub mod Sound
 pub mod Spelling
 pub mod Standing
 pub mod Walks
+pub mod Widths
+pub mod Writing
+pub mod Checked
+pub mod Reading

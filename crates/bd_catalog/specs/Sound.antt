@@ -1,5 +1,5 @@
 -- Images whose recipes and records all hold, however they came about, and the content of their versions.
-use Rattle.std.specs.Prelude.{◌≡◌, ℕ, zero, suc, ◌+◌, ◌-◌, Bool, ◌&&◌, ◌==◌, List, [], ◌∷◌, ◌++◌, length, take, drop, map, filter, flat_map, sum_by, nat_le, nat_lt, bytes_eq, slice_index_or, IsTrue, Ok}
+use Rattle.std.specs.Prelude.{◌≡◌, ℕ, ◌+◌, ◌-◌, Bool, ◌&&◌, ◌==◌, List, [], ◌∷◌, ◌++◌, length, take, drop, map, filter, flat_map, sum_by, nat_le, nat_lt, bytes_eq, slice_index_or, IsTrue, Ok}
 use Rattle.std.specs.List.{list_all}
 use Rattle.bd_model.specs.Sizes.{Sizes}
 use Rattle.bd_model.specs.Marks.{mark}

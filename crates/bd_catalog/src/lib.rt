@@ -1,2 +1,19 @@
 //! The catalogue of a store, its one spelling, and what an image stands for.
 #![tactic(auto)]
+
+mod catalog;
+mod contents;
+mod decode;
+mod encode;
+mod laws;
+mod rows;
+mod rules;
+mod step;
+#[cfg(test)]
+mod tests;
+
+pub use bd_model::{CategoryRow, Phase};
+pub use catalog::Catalog;
+pub use laws::catalogues_read_back;
+pub use rows::{ActiveCategory, Actives, ClosedVolume, Rows, VersionRow};
+pub use step::{SplitRow, Splits, Step};

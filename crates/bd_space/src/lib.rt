@@ -73,6 +73,8 @@ mod tests {
         owner.reserve(2)?;
         owner.append(Owned::of(alloc, &[7, 5])?);
         assert_eq!(rt; owner.numbers(), [9u32, 4, 7, 5].as_slice());
+        let numbers = vec![in alloc; 3u32; 2]?;
+        assert_eq!(rt; Owned::from_vec(numbers).numbers(), [3u32, 3].as_slice());
         Ok(())
     }
 }

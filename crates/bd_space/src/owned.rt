@@ -38,6 +38,13 @@ impl Owned {
         Ok(Owned { numbers })
     }
 
+    /// These numbers, as `of` takes them, with no copy.
+    pub fn from_vec(numbers: Vec<u32>) -> Owned
+        ensures { result.numbers ≡ numbers.items }
+    {
+        Owned { numbers }
+    }
+
     /// Makes room for `more` numbers. It asks for memory only where that room is missing.
     pub fn reserve(&mut self, more: u32) -> Result<(), OutOfMemory>
         ensures numbers { self.new.numbers ≡ self.old.numbers }

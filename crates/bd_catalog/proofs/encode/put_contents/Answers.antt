@@ -1,0 +1,100 @@
+use Rattle.std.proofs.Common.{ℕ, ◌+◌, List, length, ◌∙◌, ap, arith}
+use Rattle.std.specs.List.{flat_map}
+use Rattle.bd_model.specs.Records.{four}
+use Rattle.bd_catalog.specs.declared.rows.VersionRow.{VersionRow}
+use Rattle.bd_catalog.specs.declared.rows.ClosedVolume.{ClosedVolume}
+use Rattle.bd_catalog.specs.declared.rows.ActiveCategory.{ActiveCategory}
+use Rattle.bd_catalog.specs.Shown.{version_entry, volume_entry, open_entry}
+use Rattle.bd_catalog.specs.Widths.{FitsVersion, FitsVolume, FitsOpen}
+use Rattle.bd_catalog.specs.Writing.{put_at, spelled_version_row, spelled_volume_row, spelled_active_row}
+use Rattle.bd_catalog.proofs.Writing.{All-unmap, length-spelled_parts, written_parts}
+use Rattle.bd_catalog.proofs.encode.put_contents.Goals as goal
+
+pub put_versions-place-requires-clause-room : goal.put_versions-place-requires-clause-room
+put_versions-place-requires-clause-room c =
+    omega (arith, c.requires.room, length-spelled_parts c.args.contents.now, c.put_head-place.ensures.behind, ap (λ (xs : List VersionRow). length (flat_map spelled_version_row xs)) c.deref.ensures.value)
+
+pub put_versions-place-requires-clause-fit : goal.put_versions-place-requires-clause-fit
+put_versions-place-requires-clause-fit c =
+    rw (c.deref.ensures.value) (All-unmap FitsVersion version_entry c.args.contents.now.versions.items c.requires.fits.versions.each)
+
+pub put_volumes-place-requires-clause-room : goal.put_volumes-place-requires-clause-room
+put_volumes-place-requires-clause-room c =
+    omega (
+      arith,
+      c.requires.room,
+      length-spelled_parts c.args.contents.now,
+      c.put_head-place.ensures.behind,
+      c.put_versions-place.ensures.behind,
+      ap (λ (xs : List VersionRow). length (flat_map spelled_version_row xs)) c.deref.ensures.value,
+      ap (λ (xs : List ClosedVolume). length (flat_map spelled_volume_row xs)) c.deref-2.ensures.value,
+    )
+
+pub put_volumes-place-requires-clause-fit : goal.put_volumes-place-requires-clause-fit
+put_volumes-place-requires-clause-fit c =
+    rw (c.deref-2.ensures.value) (All-unmap FitsVolume volume_entry c.args.contents.now.volumes.items c.requires.fits.volumes)
+
+pub put_u32-requires : goal.put_u32-requires
+put_u32-requires c =
+    omega (
+      arith,
+      c.requires.room,
+      length-spelled_parts c.args.contents.now,
+      c.put_head-place.ensures.behind,
+      c.put_versions-place.ensures.behind,
+      c.put_volumes-place.ensures.behind,
+      ap (λ (xs : List VersionRow). length (flat_map spelled_version_row xs)) c.deref.ensures.value,
+      ap (λ (xs : List ClosedVolume). length (flat_map spelled_volume_row xs)) c.deref-2.ensures.value,
+    )
+
+pub put_actives-requires-clause-room : goal.put_actives-requires-clause-room
+put_actives-requires-clause-room c =
+    omega (
+      arith,
+      c.requires.room,
+      length-spelled_parts c.args.contents.now,
+      c.put_head-place.ensures.behind,
+      c.put_versions-place.ensures.behind,
+      c.put_volumes-place.ensures.behind,
+      ap (λ (xs : List VersionRow). length (flat_map spelled_version_row xs)) c.deref.ensures.value,
+      ap (λ (xs : List ClosedVolume). length (flat_map spelled_volume_row xs)) c.deref-2.ensures.value,
+      ap (λ (xs : List ActiveCategory). length (flat_map spelled_active_row xs)) c.as_slice.ensures,
+    )
+
+pub put_actives-requires-clause-fit : goal.put_actives-requires-clause-fit
+put_actives-requires-clause-fit c =
+    rw (c.as_slice.ensures) (All-unmap FitsOpen open_entry c.args.contents.now.actives.items c.requires.fits.actives.each)
+
+pub returns-clause-written : goal.returns-clause-written
+returns-clause-written c =
+    let x = c.args.contents.now in
+    let buffer = c.args.into.now in
+    let versions : List VersionRow → List ℕ = λ xs. flat_map spelled_version_row xs in
+    let volumes : List ClosedVolume → List ℕ = λ xs. flat_map spelled_volume_row xs in
+    let actives : List ActiveCategory → List ℕ = λ xs. flat_map spelled_active_row xs in
+    written_parts x buffer c.put_head-place.new.into c.put_versions-place.new.into c.put_volumes-place.new.into c.put_u32.new.into c.put_actives.new.into
+    c.put_versions-place.result c.put_volumes-place.result c.put_actives.result c.requires.room
+    c.put_head-place.ensures.written
+    (c.put_versions-place.ensures.written
+    ∙ ap (λ (p : ℕ). put_at c.put_head-place.new.into p (versions c.deref.result.now)) c.put_head-place.ensures.behind
+    ∙ ap (λ (xs : List VersionRow). put_at c.put_head-place.new.into 17 (versions xs)) c.deref.ensures.value)
+    (omega (arith, c.put_versions-place.ensures.behind, c.put_head-place.ensures.behind, ap (λ (xs : List VersionRow). length (versions xs)) c.deref.ensures.value))
+    (c.put_volumes-place.ensures.written ∙ ap (λ (xs : List ClosedVolume). put_at c.put_versions-place.new.into c.put_versions-place.result (volumes xs)) c.deref-2.ensures.value)
+    (omega (arith, c.put_volumes-place.ensures.behind, ap (λ (xs : List ClosedVolume). length (volumes xs)) c.deref-2.ensures.value))
+    (c.put_u32.ensures ∙ ap (λ (n : ℕ). put_at c.put_volumes-place.new.into c.put_volumes-place.result (four n)) c.len.ensures)
+    (c.put_actives.ensures.written ∙ ap (λ (xs : List ActiveCategory). put_at c.put_u32.new.into (c.put_volumes-place.result + 4) (actives xs)) c.as_slice.ensures)
+    (omega (arith, c.put_actives.ensures.behind, ap (λ (xs : List ActiveCategory). length (actives xs)) c.as_slice.ensures))
+
+pub returns-clause-behind : goal.returns-clause-behind
+returns-clause-behind c =
+    omega (
+      arith,
+      length-spelled_parts c.args.contents.now,
+      c.put_head-place.ensures.behind,
+      c.put_versions-place.ensures.behind,
+      c.put_volumes-place.ensures.behind,
+      c.put_actives.ensures.behind,
+      ap (λ (xs : List VersionRow). length (flat_map spelled_version_row xs)) c.deref.ensures.value,
+      ap (λ (xs : List ClosedVolume). length (flat_map spelled_volume_row xs)) c.deref-2.ensures.value,
+      ap (λ (xs : List ActiveCategory). length (flat_map spelled_active_row xs)) c.as_slice.ensures,
+    )

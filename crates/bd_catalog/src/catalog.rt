@@ -1,0 +1,199 @@
+ghost use Rattle.std.specs.Prelude.{◌≡◌, ℕ, ◌+◌, ◌-◌, ◌≤◌, ◌<◌, ◌↔◌, ◌++◌, drop, map, length, IsTrue, IfOk, OnOk, IfSome, IfNone, Some, None, IsSome, slice_get};
+ghost use Rattle.bd_model.specs.Sizes.{sizes_of, payload_room};
+ghost use Rattle.bd_catalog.specs.Catalogue.{empty_catalogue, oldest_in, retained_in};
+ghost use Rattle.bd_catalog.specs.Ledger.{found_alone, HasRoom};
+ghost use Rattle.bd_catalog.specs.Rules.{obeys, catalogue_of};
+ghost use Rattle.bd_catalog.specs.Spelling.{spelled};
+ghost use Rattle.bd_catalog.specs.Shown.{catalogue_of_contents, version_entry, volume_entry, open_entry};
+
+use crate::contents::Contents;
+use crate::decode::take_contents;
+use crate::encode::put_contents;
+use crate::rows::{Actives, ClosedVolume, VersionRow};
+use crate::rules::obeys;
+use bd_gate::Half;
+use bd_model::{Phase, Shape};
+use bd_wire::Cursor;
+use std::alloc::{AllocError as OutOfMemory, Global};
+use std::marker::Model;
+
+/// The catalogue of a store: its versions, closed volumes and open categories with the extents of each, and where on the
+/// disk it stands. It always obeys the rules of catalogues for its shape.
+#[derive(Drop)]
+pub struct Catalog {
+    shape: Shape,
+    contents: Contents,
+    half: Half,
+    log_end: u64,
+    // what a commit writes, from the turn to the first gate of the log
+    frame: Vec<u8>,
+}
+
+impl Model for Catalog {
+    ghost use Rattle.std.specs.Prelude.{length};
+    ghost use Rattle.bd_model.specs.Sizes.{sizes_of};
+    ghost use Rattle.bd_catalog.specs.Shown.{catalogue_of_contents};
+    ghost use Rattle.bd_catalog.specs.Ledger.{Ledger, IsKept, room_of};
+
+    ghost Value = { Ledger };
+
+    ghost view = { λ c. record {
+      found = record {
+        sizes = sizes_of c.shape;
+        half = c.half;
+        catalogue = catalogue_of_contents c.contents;
+        log_end = c.log_end;
+      };
+      room = room_of c.contents;
+    } };
+
+    ghost invariant = { λ c. IsKept (sizes_of c.shape) (catalogue_of_contents c.contents) (length c.frame.items) };
+}
+
+impl Catalog {
+    /// The empty catalogue of a fresh store.
+    pub fn empty(alloc: Global, shape: Shape) -> Result<Catalog, OutOfMemory>
+        ensures { IfOk result (λ c. c.found ≡ found_alone (sizes_of shape) empty_catalogue) }
+    {
+        let contents = Contents {
+            base: 0,
+            newest: 0,
+            phase: Phase::Settled,
+            versions: Vec::new(alloc),
+            volumes: Vec::new(alloc),
+            actives: Actives::new(alloc),
+        };
+        Catalog::alone(alloc, shape, contents, 21)
+    }
+
+    /// The catalogue that the bytes spell, in half 0 with an empty log; the other half is closed. None exactly where the
+    /// bytes spell no catalogue that obeys the rules for the shape. It takes time linear in the bytes.
+    pub fn decode(alloc: Global, shape: Shape, bytes: &[u8]) -> Result<Option<Catalog>, OutOfMemory>
+        ensures none { IfOk result (λ found. IfNone found (catalogue_of (sizes_of shape) bytes.now ≡ None)) }
+        ensures some { IfOk result (λ found. IfSome found (λ c. catalogue_of (sizes_of shape) bytes.now ≡ Some c.found.catalogue)) }
+        ensures place { IfOk result (λ found. IfSome found (λ c. c.found ≡ found_alone (sizes_of shape) c.found.catalogue)) }
+    {
+        let mut cursor = Cursor::new(bytes);
+        let taken = take_contents(alloc, &mut cursor)?;
+        let Some(contents) = taken else {
+            return Ok(None);
+        };
+        if cursor.left() > 0 {
+            return Ok(None);
+        }
+        let obeyed = obeys(alloc, &shape, &contents)?;
+        if !obeyed {
+            return Ok(None);
+        }
+        let catalog = Catalog::alone(alloc, shape, contents, bytes.len() as u64)?;
+        Ok(Some(catalog))
+    }
+
+    // The catalogue, which takes so many bytes, in half 0 with an empty log; the other half is closed.
+    fn alone(
+        alloc: Global,
+        shape: Shape,
+        contents: Contents,
+        payload: u64,
+    ) -> Result<Catalog, OutOfMemory>
+        requires rules { IsTrue (obeys (sizes_of shape) (catalogue_of_contents contents)) }
+        requires spelled { payload ≡ length (spelled (catalogue_of_contents contents)) }
+        ensures { IfOk result (λ c. c.found ≡ found_alone (sizes_of shape) (catalogue_of_contents contents)) }
+    {
+        let frame = vec![in alloc; 0u8; shape.payload_room() as usize + 10]?;
+        let log_end = 64 + 10 + payload;
+        Ok(Catalog {
+            shape,
+            contents,
+            half: Half {
+                number: 0,
+                turn: 0,
+                length: payload,
+                other_open: false,
+            },
+            log_end,
+            frame,
+        })
+    }
+
+    /// Writes the spelling of the catalogue to the front of `into`, and answers how many bytes that is. What lies behind
+    /// stays.
+    pub fn encode(&self, into: &mut [u8]) -> usize
+        requires { payload_room self.now.found.sizes ≤ length into.old }
+        ensures written { into.new ≡ spelled self.now.found.catalogue ++ drop result into.old }
+        ensures bytes { result ≡ length (spelled self.now.found.catalogue) }
+        ensures room { result ≤ payload_room self.now.found.sizes }
+    {
+        put_contents(into, &self.contents)
+    }
+
+    /// Makes room for one step: for one more version, volume and open category, and in the last volume for one more row
+    /// and as many more extents as there are. Nothing else changes.
+    pub fn reserve(&mut self) -> Result<(), OutOfMemory>
+        ensures found { self.new.found ≡ self.old.found }
+        ensures room { OnOk result (HasRoom self.new) }
+    {
+        self.contents.reserve(self.shape.extents())
+    }
+
+    /// The shape of the store. The catalogue obeys the rules for it.
+    pub fn shape(&self) -> Shape
+        ensures sizes { sizes_of result ≡ self.now.found.sizes }
+        ensures rules { IsTrue (obeys self.now.found.sizes self.now.found.catalogue) }
+    {
+        self.shape
+    }
+
+    /// The number that the newest version had when the store was last empty.
+    pub fn base(&self) -> u32
+        ensures { result ≡ self.now.found.catalogue.base }
+    {
+        self.contents.base
+    }
+
+    /// The number of the newest version; where nothing is retained, of the last one that there was.
+    pub fn newest(&self) -> u32
+        ensures { result ≡ self.now.found.catalogue.newest }
+    {
+        self.contents.newest
+    }
+
+    /// How many versions are retained.
+    pub fn retained(&self) -> u32
+        ensures { result ≡ retained_in self.now.found.catalogue }
+    {
+        self.contents.versions.len() as u32
+    }
+
+    /// How far the newest version is arranged.
+    pub fn phase(&self) -> Phase
+        ensures { result ≡ self.now.found.catalogue.phase }
+    {
+        self.contents.phase
+    }
+
+    /// The retained version of this number.
+    pub fn version(&self, number: u32) -> Option<&VersionRow>
+        ensures retained { IsSome result ↔ ((oldest_in self.now.found.catalogue ≤ number) × (number ≤ self.now.found.catalogue.newest)) }
+        ensures row { IfSome result (λ row. slice_get self.now.found.catalogue.versions (number - oldest_in self.now.found.catalogue) ≡ Some (version_entry row.now)) }
+    {
+        let index = u64::from(number).checked_sub(self.contents.oldest())?;
+        self.contents.versions.get(index as usize)
+    }
+
+    /// The closed volume of this number.
+    pub fn volume(&self, number: u32) -> Option<&ClosedVolume>
+        ensures closed { IsSome result ↔ ((oldest_in self.now.found.catalogue ≤ number) × (number < self.now.found.catalogue.newest)) }
+        ensures row { IfSome result (λ row. slice_get self.now.found.catalogue.volumes (number - oldest_in self.now.found.catalogue) ≡ Some (volume_entry row.now)) }
+    {
+        let index = u64::from(number).checked_sub(self.contents.oldest())?;
+        self.contents.volumes.get(index as usize)
+    }
+
+    /// The open categories, ascending by their starts.
+    pub fn actives(&self) -> &Actives
+        ensures { map open_entry result.now.items ≡ self.now.found.catalogue.actives }
+    {
+        &self.contents.actives
+    }
+}

@@ -1,0 +1,174 @@
+ghost use Rattle.std.specs.Prelude.{◌≡◌, ℕ, ◌+◌, ◌*◌, ◌^◌, ◌<◌, ◌≤◌, List, ◌∷◌, ◌++◌, length, drop, map, All};
+ghost use Rattle.std.specs.List.{flat_map};
+ghost use Rattle.bd_model.specs.Records.{four};
+ghost use Rattle.bd_catalog.specs.Spelling.{spelled_extents, spelled_phase, spelled_row, spelled_version, spelled_volume, spelled_active, spelled};
+ghost use Rattle.bd_catalog.specs.Shown.{version_entry, volume_entry, open_entry, catalogue_of_contents};
+ghost use Rattle.bd_catalog.specs.Widths.{FitList, FitsFour, FitsRow, FitsVersion, FitsVolume, FitsOpen, IsSpellable};
+ghost use Rattle.bd_catalog.specs.Writing.{put_at, spelled_version_row, spelled_volume_row, spelled_active_row, spelled_head};
+
+use crate::contents::Contents;
+use crate::rows::{ActiveCategory, ClosedVolume, VersionRow};
+use bd_model::{CategoryRow, Phase};
+use bd_wire::{put_u8, put_u32, put_u64};
+
+// Each of these writes from place `at` on and answers the place behind what it wrote.
+
+fn put_extents(into: &mut [u8], at: usize, numbers: &[u32]) -> usize
+    requires room { at + length (spelled_extents numbers.now) ≤ length into.old }
+    requires count { length numbers.now < 2 ^ 32 }
+    ensures written { into.new ≡ put_at into.old at (spelled_extents numbers.now) }
+    ensures behind { result ≡ at + length (spelled_extents numbers.now) }
+{
+    put_u32(into, at, numbers.len() as u32);
+    let mut place = at + 4;
+    for number in numbers {
+        put_u32(into, place, *number);
+        place += 4;
+    }
+    place
+}
+
+fn put_row(into: &mut [u8], at: usize, row: &CategoryRow) -> usize
+    requires { at + 20 ≤ length into.old }
+    ensures written { into.new ≡ put_at into.old at (spelled_row row.now) }
+    ensures behind { result ≡ at + 20 }
+{
+    put_u32(into, at, row.start);
+    put_u64(into, at + 4, row.chunks);
+    put_u64(into, at + 12, row.bytes);
+    at + 20
+}
+
+fn put_rows(into: &mut [u8], at: usize, rows: &[CategoryRow]) -> usize
+    requires room { at + length (four (length rows.now) ++ flat_map spelled_row rows.now) ≤ length into.old }
+    requires count { length rows.now < 2 ^ 32 }
+    ensures written { into.new ≡ put_at into.old at (four (length rows.now) ++ flat_map spelled_row rows.now) }
+    ensures behind { result ≡ at + length (four (length rows.now) ++ flat_map spelled_row rows.now) }
+{
+    put_u32(into, at, rows.len() as u32);
+    let mut place = at + 4;
+    for row in rows {
+        place = put_row(into, place, row);
+    }
+    place
+}
+
+fn put_version(into: &mut [u8], at: usize, row: &VersionRow) -> usize
+    requires room { at + length (spelled_version_row row.now) ≤ length into.old }
+    requires fits { FitsVersion (version_entry row.now) }
+    ensures written { into.new ≡ put_at into.old at (spelled_version_row row.now) }
+    ensures behind { result ≡ at + length (spelled_version_row row.now) }
+{
+    put_u64(into, at, row.length);
+    put_u64(into, at + 8, row.chunks);
+    put_u64(into, at + 16, row.fresh);
+    put_extents(into, at + 24, row.recipe.numbers())
+}
+
+fn put_versions(into: &mut [u8], at: usize, rows: &[VersionRow]) -> usize
+    requires room { at + length (flat_map spelled_version_row rows.now) ≤ length into.old }
+    requires fit { All (λ v. FitsVersion (version_entry v)) rows.now }
+    ensures written { into.new ≡ put_at into.old at (flat_map spelled_version_row rows.now) }
+    ensures behind { result ≡ at + length (flat_map spelled_version_row rows.now) }
+{
+    let mut place = at;
+    for row in rows {
+        place = put_version(into, place, row);
+    }
+    place
+}
+
+fn put_volume(into: &mut [u8], at: usize, volume: &ClosedVolume) -> usize
+    requires room { at + length (spelled_volume_row volume.now) ≤ length into.old }
+    requires fits { FitsVolume (volume_entry volume.now) }
+    ensures written { into.new ≡ put_at into.old at (spelled_volume_row volume.now) }
+    ensures behind { result ≡ at + length (spelled_volume_row volume.now) }
+{
+    let place = put_rows(into, at, volume.rows.as_slice());
+    put_extents(into, place, volume.extents.numbers())
+}
+
+fn put_volumes(into: &mut [u8], at: usize, volumes: &[ClosedVolume]) -> usize
+    requires room { at + length (flat_map spelled_volume_row volumes.now) ≤ length into.old }
+    requires fit { All (λ v. FitsVolume (volume_entry v)) volumes.now }
+    ensures written { into.new ≡ put_at into.old at (flat_map spelled_volume_row volumes.now) }
+    ensures behind { result ≡ at + length (flat_map spelled_volume_row volumes.now) }
+{
+    let mut place = at;
+    for volume in volumes {
+        place = put_volume(into, place, volume);
+    }
+    place
+}
+
+fn put_active(into: &mut [u8], at: usize, active: &ActiveCategory) -> usize
+    requires room { at + length (spelled_active_row active.now) ≤ length into.old }
+    requires fits { FitsOpen (open_entry active.now) }
+    ensures written { into.new ≡ put_at into.old at (spelled_active_row active.now) }
+    ensures behind { result ≡ at + length (spelled_active_row active.now) }
+{
+    let place = put_row(into, at, &active.row);
+    put_extents(into, place, active.extents.numbers())
+}
+
+fn put_actives(into: &mut [u8], at: usize, actives: &[ActiveCategory]) -> usize
+    requires room { at + length (flat_map spelled_active_row actives.now) ≤ length into.old }
+    requires fit { All (λ a. FitsOpen (open_entry a)) actives.now }
+    ensures written { into.new ≡ put_at into.old at (flat_map spelled_active_row actives.now) }
+    ensures behind { result ≡ at + length (flat_map spelled_active_row actives.now) }
+{
+    let mut place = at;
+    for active in actives {
+        place = put_active(into, place, active);
+    }
+    place
+}
+
+// Whether it waits, and the cursor.
+fn put_waiting(into: &mut [u8], at: usize, waiting: u8, cursor: u32) -> usize
+    requires { at + 5 ≤ length into.old }
+    ensures written { into.new ≡ put_at into.old at (waiting ∷ four cursor) }
+    ensures behind { result ≡ at + 5 }
+{
+    put_u8(into, at, waiting);
+    put_u32(into, at + 1, cursor);
+    at + 5
+}
+
+fn put_phase(into: &mut [u8], at: usize, phase: Phase) -> usize
+    requires { at + 5 ≤ length into.old }
+    ensures written { into.new ≡ put_at into.old at (spelled_phase phase) }
+    ensures behind { result ≡ at + 5 }
+{
+    match phase {
+        Phase::Settled => put_waiting(into, at, 0, 0),
+        Phase::Waiting { cursor } => put_waiting(into, at, 1, cursor),
+    }
+}
+
+// The base, the newest number, how many versions there are, and the phase.
+fn put_head(into: &mut [u8], contents: &Contents) -> usize
+    requires room { 17 ≤ length into.old }
+    requires count { length contents.now.versions.items < 2 ^ 32 }
+    ensures written { into.new ≡ put_at into.old 0 (spelled_head (catalogue_of_contents contents.now)) }
+    ensures behind { result ≡ 17 }
+{
+    put_u32(into, 0, contents.base);
+    put_u32(into, 4, contents.newest);
+    put_u32(into, 8, contents.versions.len() as u32);
+    put_phase(into, 12, contents.phase)
+}
+
+// Writes the spelling to the front, and answers its length.
+pub(crate) fn put_contents(into: &mut [u8], contents: &Contents) -> usize
+    requires fits { IsSpellable (catalogue_of_contents contents.now) }
+    requires room { length (spelled (catalogue_of_contents contents.now)) ≤ length into.old }
+    ensures written { into.new ≡ spelled (catalogue_of_contents contents.now) ++ drop result into.old }
+    ensures behind { result ≡ length (spelled (catalogue_of_contents contents.now)) }
+{
+    let place = put_head(into, contents);
+    let place = put_versions(into, place, &contents.versions);
+    let place = put_volumes(into, place, &contents.volumes);
+    put_u32(into, place, contents.actives.len() as u32);
+    put_actives(into, place + 4, contents.actives.as_slice())
+}
