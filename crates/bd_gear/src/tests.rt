@@ -79,11 +79,11 @@ fn gears_are_those_of_sha_256(rt: HostRuntime) -> Result<(), Fail> {
 
 #[test]
 fn pieces_make_no_difference(rt: HostRuntime) -> Result<(), Fail> {
-    let stream = mixed(rt.alloc(), 3_000)?;
-    for (min, bits, max) in [(100, 0, 1_000), (5, 4, 40), (128, 8, 2_000)] {
+    let stream = mixed(rt.alloc(), 300_000)?;
+    for (min, bits, max) in [(100, 0, 1_000), (5, 4, 40), (2_048, 13, 65_536)] {
         let shape = Shape::new(4_096, 16, 4, min, bits, max)?;
         let plain = bd_plain::chunks(rt.alloc(), &shape, &stream)?;
-        for piece in [1, 7, 4_096] {
+        for piece in [1, 7, 4_096, 131_072] {
             let found = cut_in_pieces(rt.alloc(), shape, &stream, piece)?;
             assert!(rt; found == plain, "at bits {bits}, pieces of {piece}");
         }
