@@ -14,8 +14,9 @@ use crate::half::{CLOSED_GATE, OPEN_GATE, place_of_half};
 use bd_disk::{Disk, Failed};
 use bd_model::Shape;
 
-// Writes, and makes sure of it.
-fn store<D: Disk>(disk: &mut D, at: u64, from: &[u8]) -> Result<(), Failed>
+/// Writes these bytes with one call, and makes sure of them with another. At Ok the contents hold them, and a stop leaves the
+/// contents and nothing else.
+pub fn store<D: Disk>(disk: &mut D, at: u64, from: &[u8]) -> Result<(), Failed>
     requires { at + length from.now ≤ D.bytes disk.old }
     ensures bytes { D.bytes disk.new ≡ D.bytes disk.old }
     ensures cause { HasCause (D.faults disk.old) (D.faults disk.new) result }

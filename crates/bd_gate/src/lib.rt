@@ -4,7 +4,7 @@
 mod commit;
 mod half;
 
-pub use commit::{close_half, commit_frame, fill_half, open_half};
+pub use commit::{close_half, commit_frame, fill_half, open_half, store};
 pub use half::{CLOSED_GATE, GateFault, Half, OPEN_GATE, newest_half, read_payload};
 
 #[cfg(test)]

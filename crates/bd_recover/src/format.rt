@@ -2,7 +2,7 @@ ghost use Rattle.std.specs.Prelude.{◌≡◌, ◌≢◌, ◌+◌, ◌≤◌, �
 ghost use Rattle.bd_disk.specs.Calls.{HasCause};
 ghost use Rattle.bd_disk.specs.History.{contents};
 ghost use Rattle.bd_disk.specs.Images.{InRange};
-ghost use Rattle.bd_disk.specs.Made.{IsSettled, LeavesSince, Stores, WritesNothing, WritesOnly};
+ghost use Rattle.bd_disk.specs.Made.{IsSettled, LeavesSince, WritesNothing, WritesOnly};
 ghost use Rattle.bd_model.specs.Sizes.{sizes_of, disk_bytes, extent_place};
 ghost use Rattle.bd_gate.specs.Superblock.{is_marked, byte_at, open_gate};
 ghost use Rattle.bd_catalog.specs.Opening.{opened};
@@ -12,9 +12,8 @@ ghost use Rattle.bd_recover.specs.Answers.{AnswersFormat, ByCount, MeasuresForma
 use crate::fault::FormatFault;
 use crate::fresh::{fresh_half, superblock_body};
 use bd_disk::{Disk, Failed};
+use bd_gate::{CLOSED_GATE, OPEN_GATE, store};
 use bd_model::Shape;
-
-const OPEN_GATE: u8 = 0x4F;
 
 /// Makes the empty store of this shape on a disk that is large enough and isn't a store already. The gate of the
 /// superblock is closed first and opened last, so that a stop leaves no store or the empty one.
@@ -35,7 +34,7 @@ pub fn format_disk<D: Disk>(disk: &mut D, shape: &Shape) -> Result<(), FormatFau
 {
     shut_gate(disk, shape)?;
     write_parts(disk, shape)?;
-    write_and_sync(disk, 0, &[OPEN_GATE])?;
+    store(disk, 0, &[OPEN_GATE])?;
     Ok(())
 }
 
@@ -54,7 +53,7 @@ fn shut_gate<D: Disk>(disk: &mut D, shape: &Shape) -> Result<(), FormatFault>
         → LeavesSince (IsNoneOrFresh (sizes_of shape.now)) (D.history disk.old) (D.history disk.new) }
 {
     if asks_for_closing(disk, shape)? {
-        write_and_sync(disk, 0, &[0])?;
+        store(disk, 0, &[CLOSED_GATE])?;
     }
     Ok(())
 }
@@ -103,21 +102,8 @@ fn write_parts<D: Disk>(disk: &mut D, shape: &Shape) -> Result<(), Failed>
     ensures settled { OnOk result (D.tells → IsSettled (D.history disk.new)) }
 {
     disk.write(64, &fresh_half())?;
-    disk.write(64 + shape.half_bytes(), &[0])?;
+    disk.write(64 + shape.half_bytes(), &[CLOSED_GATE])?;
     disk.write(1, &superblock_body(shape))?;
-    disk.sync()?;
-    Ok(())
-}
-
-// Writes, and makes sure of it.
-fn write_and_sync<D: Disk>(disk: &mut D, at: u64, from: &[u8]) -> Result<(), Failed>
-    requires { at + length from.now ≤ D.bytes disk.old }
-    ensures bytes { D.bytes disk.new ≡ D.bytes disk.old }
-    ensures cause { HasCause (D.faults disk.old) (D.faults disk.new) result }
-    ensures writes { D.tells → WritesOnly (InRange at (length from.now)) (D.history disk.old) (D.history disk.new) }
-    ensures stores { OnOk result (D.tells → Stores at from.now (D.history disk.old) (D.history disk.new)) }
-{
-    disk.write(at, from)?;
     disk.sync()?;
     Ok(())
 }

@@ -2,6 +2,7 @@ ghost use Rattle.std.specs.Prelude.{◌≡◌};
 ghost use Rattle.bd_model.specs.Sizes.{sizes_of};
 ghost use Rattle.bd_recover.specs.Fresh.{fresh_half, superblock_body};
 
+use bd_gate::OPEN_GATE;
 use bd_model::Shape;
 use bd_wire::{put_u8, put_u32, put_u64};
 
@@ -26,7 +27,7 @@ pub(crate) fn fresh_half() -> [u8; 32]
     ensures { result ≡ fresh_half }
 {
     let mut bytes = [0u8; 32];
-    put_u8(&mut bytes, 0, 0x4F);
+    put_u8(&mut bytes, 0, OPEN_GATE);
     put_u64(&mut bytes, 2, 21);
     bytes
 }

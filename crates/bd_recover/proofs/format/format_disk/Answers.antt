@@ -16,29 +16,29 @@ returns-in_err-write_parts-clause-stops g c = λ told none settled.
     leaves_both (c.shut_gate.ensures.stops told none settled)
     (behind (sizes_of c.args.shape.now) (c.in_ok-shut_gate.ensures.shut told) (c.in_ok-shut_gate.ensures.settled told settled) (c.write_parts.ensures.writes told))
 
-pub returns-in_err-write_and_sync-clause-writes : goal.returns-in_err-write_and_sync-clause-writes
-returns-in_err-write_and_sync-clause-writes g c = λ told.
+pub returns-in_err-store-clause-writes : goal.returns-in_err-store-clause-writes
+returns-in_err-store-clause-writes g c = λ told.
     let s = sizes_of c.args.shape.now in
     made_both (gate_before s refl (c.shut_gate.ensures.writes told))
-    (made_both (parts_before s (c.write_parts.ensures.writes told)) (gate_before s refl (c.write_and_sync.ensures.writes told)))
+    (made_both (parts_before s (c.write_parts.ensures.writes told)) (gate_before s refl (c.store.ensures.writes told)))
 
-pub returns-in_err-write_and_sync-clause-stops : goal.returns-in_err-write_and_sync-clause-stops
-returns-in_err-write_and_sync-clause-stops g c = λ told none settled.
+pub returns-in_err-store-clause-stops : goal.returns-in_err-store-clause-stops
+returns-in_err-store-clause-stops g c = λ told none settled.
     let s = sizes_of c.args.shape.now in
     leaves_both (c.shut_gate.ensures.stops told none settled)
     (leaves_both
     (behind s (c.in_ok-shut_gate.ensures.shut told) (c.in_ok-shut_gate.ensures.settled told settled) (c.write_parts.ensures.writes told))
-    (opens s c.args.shape.now.in_range (c.in_ok-write_parts.ensures.fresh told) (c.in_ok-write_parts.ensures.settled told) (c.write_and_sync.ensures.writes told)))
+    (opens s c.args.shape.now.in_range (c.in_ok-write_parts.ensures.fresh told) (c.in_ok-write_parts.ensures.settled told) (c.store.ensures.writes told)))
 
 pub returns-clause-writes : goal.returns-clause-writes
 returns-clause-writes g c = λ told.
     let s = sizes_of c.args.shape.now in
     made_both (gate_before s refl (c.shut_gate.ensures.writes told))
-    (made_both (parts_before s (c.write_parts.ensures.writes told)) (gate_before s refl (c.write_and_sync.ensures.writes told)))
+    (made_both (parts_before s (c.write_parts.ensures.writes told)) (gate_before s refl (c.store.ensures.writes told)))
 
 pub returns-clause-made : goal.returns-clause-made
 returns-clause-made g c = λ told.
-    made (sizes_of c.args.shape.now) c.args.shape.now.in_range (c.in_ok-write_parts.ensures.fresh told) (c.in_ok-write_and_sync.ensures.stores told)
+    made (sizes_of c.args.shape.now) c.args.shape.now.in_range (c.in_ok-write_parts.ensures.fresh told) (c.in_ok-store.ensures.stores told)
 
 pub returns-clause-stops : goal.returns-clause-stops
 returns-clause-stops g c = λ told none settled.
@@ -46,4 +46,4 @@ returns-clause-stops g c = λ told none settled.
     leaves_both (c.shut_gate.ensures.stops told none settled)
     (leaves_both
     (behind s (c.in_ok-shut_gate.ensures.shut told) (c.in_ok-shut_gate.ensures.settled told settled) (c.write_parts.ensures.writes told))
-    (opens s c.args.shape.now.in_range (c.in_ok-write_parts.ensures.fresh told) (c.in_ok-write_parts.ensures.settled told) (c.write_and_sync.ensures.writes told)))
+    (opens s c.args.shape.now.in_range (c.in_ok-write_parts.ensures.fresh told) (c.in_ok-write_parts.ensures.settled told) (c.store.ensures.writes told)))

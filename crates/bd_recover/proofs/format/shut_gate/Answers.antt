@@ -9,26 +9,26 @@ pub returns-in_err-asks_for_closing-clause-stops :
     goal.returns-in_err-asks_for_closing-clause-stops
 returns-in_err-asks_for_closing-clause-stops g c = λ told none settled. asked _ none settled (c.asks_for_closing.ensures.writes told)
 
-pub returns-in_err-write_and_sync-clause-writes : goal.returns-in_err-write_and_sync-clause-writes
-returns-in_err-write_and_sync-clause-writes g c = λ told.
-    made_both (nothing_within (InRange 0 1) (c.asks_for_closing.ensures.writes told)) (c.write_and_sync.ensures.writes told)
+pub returns-in_err-store-clause-writes : goal.returns-in_err-store-clause-writes
+returns-in_err-store-clause-writes g c = λ told.
+    made_both (nothing_within (InRange 0 1) (c.asks_for_closing.ensures.writes told)) (c.store.ensures.writes told)
 
-pub returns-in_err-write_and_sync-clause-stops : goal.returns-in_err-write_and_sync-clause-stops
-returns-in_err-write_and_sync-clause-stops g c = λ told none settled.
+pub returns-in_err-store-clause-stops : goal.returns-in_err-store-clause-stops
+returns-in_err-store-clause-stops g c = λ told none settled.
     asked_and_closes (sizes_of c.args.shape.now) none (sym (c.in_ok-asks_for_closing.ensures.gate told) ∙ c.if-branch.true) settled
-    (c.asks_for_closing.ensures.writes told) (c.write_and_sync.ensures.writes told)
+    (c.asks_for_closing.ensures.writes told) (c.store.ensures.writes told)
 
-pub returns-in_ok-write_and_sync-clause-writes : goal.returns-in_ok-write_and_sync-clause-writes
-returns-in_ok-write_and_sync-clause-writes g c = λ told.
-    made_both (nothing_within (InRange 0 1) (c.asks_for_closing.ensures.writes told)) (c.write_and_sync.ensures.writes told)
+pub returns-in_ok-store-clause-writes : goal.returns-in_ok-store-clause-writes
+returns-in_ok-store-clause-writes g c = λ told.
+    made_both (nothing_within (InRange 0 1) (c.asks_for_closing.ensures.writes told)) (c.store.ensures.writes told)
 
-pub returns-in_ok-write_and_sync-clause-shut : goal.returns-in_ok-write_and_sync-clause-shut
-returns-in_ok-write_and_sync-clause-shut g c = λ told. closed (sizes_of c.args.shape.now) (c.in_ok-write_and_sync.ensures.stores told)
+pub returns-in_ok-store-clause-shut : goal.returns-in_ok-store-clause-shut
+returns-in_ok-store-clause-shut g c = λ told. closed (sizes_of c.args.shape.now) (c.in_ok-store.ensures.stores told)
 
-pub returns-in_ok-write_and_sync-clause-stops : goal.returns-in_ok-write_and_sync-clause-stops
-returns-in_ok-write_and_sync-clause-stops g c = λ told none settled.
+pub returns-in_ok-store-clause-stops : goal.returns-in_ok-store-clause-stops
+returns-in_ok-store-clause-stops g c = λ told none settled.
     asked_and_closes (sizes_of c.args.shape.now) none (sym (c.in_ok-asks_for_closing.ensures.gate told) ∙ c.if-branch.true) settled
-    (c.asks_for_closing.ensures.writes told) (c.write_and_sync.ensures.writes told)
+    (c.asks_for_closing.ensures.writes told) (c.store.ensures.writes told)
 
 pub returns-else-branch-clause-writes : goal.returns-else-branch-clause-writes
 returns-else-branch-clause-writes g c = λ told. nothing_within (InRange 0 1) (c.asks_for_closing.ensures.writes told)
