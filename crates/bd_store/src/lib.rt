@@ -2,6 +2,7 @@
 #![tactic(auto)]
 
 mod fault;
+mod listing;
 mod store;
 
 pub use bd_recover::FormatFault;

@@ -23,6 +23,7 @@ ghost use Rattle.bd_store.specs.Stops.{IsSafeAtStops};
 ghost use Rattle.bd_store.specs.Touches.{AnswersByNumbers, AnswersFirst, BackupReads};
 
 use crate::fault::{OpenFault, StoreFault};
+use crate::listing::lines_of;
 use bd_catalog::Catalog;
 use bd_disk::Disk;
 use bd_files::Files;
@@ -170,7 +171,8 @@ impl Store {
     pub fn list(&self, alloc: Global) -> Result<Answer, OutOfMemory>
         ensures lines { IfOk result (λ answer. without_room answer ≡ Listed (record { items = lines_from (oldest_in self.now.found.catalogue) self.now.found.catalogue.versions; spare = 0 })) }
     {
-        Err(OutOfMemory)
+        let lines = lines_of(alloc, &self.catalog)?;
+        Ok(Answer::Listed { lines })
     }
 
     /// Whether a call met a fault of the disk. The disk is then opened anew.
