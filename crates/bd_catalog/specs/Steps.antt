@@ -3,6 +3,7 @@ use Rattle.std.specs.Prelude.{◌≡◌, ◌⊎◌, ℕ, ◌+◌, ◌-◌, ◌%�
 use Rattle.bd_disk.specs.History.{History, contents, Now}
 use Rattle.bd_disk.specs.Images.{AgreeBut}
 use Rattle.bd_model.specs.Sizes.{Sizes}
+use Rattle.bd_gate.specs.Commits.{frame_of}
 use Rattle.bd_gate.specs.Halves.{Half, InHalf, log_place}
 use Rattle.bd_catalog.specs.declared.rows.ActiveCategory.{ActiveCategory}
 use Rattle.bd_catalog.specs.declared.step.Step.{Step}
@@ -45,6 +46,10 @@ Fits s c (Arrange volume splits) = ⊥
 -- the half that a commit of so many bytes of payload makes the newest
 abbrev pub next_half : Half → ℕ → Half
 next_half half bytes = record { number = 1 - half.number; turn = (half.turn + 1) % 3; length = bytes; other_open = true }
+
+-- the frame that a commit of this catalogue writes beside this half
+abbrev pub frame_beside : Half → Catalogue → List ℕ
+frame_beside half c = frame_of ((half.turn + 1) % 3) (spelled c)
 
 -- what an opening finds after a commit of this catalogue
 abbrev pub committed : Found → Catalogue → Found

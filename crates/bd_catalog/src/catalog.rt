@@ -1,7 +1,7 @@
 ghost use Rattle.std.specs.Prelude.{◌≡◌, ℕ, ◌+◌, ◌-◌, ◌≤◌, ◌<◌, ◌↔◌, ◌++◌, drop, map, length, IsTrue, IfOk, OnOk, IfSome, IfNone, Some, None, IsSome, slice_get};
 ghost use Rattle.bd_model.specs.Sizes.{sizes_of, payload_room};
 ghost use Rattle.bd_catalog.specs.Catalogue.{empty_catalogue, oldest_in, retained_in};
-ghost use Rattle.bd_catalog.specs.Ledger.{found_alone, HasRoom};
+ghost use Rattle.bd_catalog.specs.Ledger.{found_alone, found_in, IsPlaced, HasRoom};
 ghost use Rattle.bd_catalog.specs.Rules.{obeys, catalogue_of};
 ghost use Rattle.bd_catalog.specs.Spelling.{spelled};
 ghost use Rattle.bd_catalog.specs.Shown.{catalogue_of_contents, version_entry, volume_entry, open_entry};
@@ -21,6 +21,7 @@ use std::marker::Model;
 /// disk it stands. It always obeys the rules of catalogues for its shape.
 #[derive(Drop)]
 pub struct Catalog {
+    alloc: Global,
     shape: Shape,
     contents: Contents,
     half: Half,
@@ -47,7 +48,7 @@ impl Model for Catalog {
       room = room_of c.contents;
     } };
 
-    ghost invariant = { λ c. IsKept (sizes_of c.shape) (catalogue_of_contents c.contents) (length c.frame.items) };
+    ghost invariant = { λ c. IsKept (sizes_of c.shape) (catalogue_of_contents c.contents) c.half c.log_end (length c.frame.items) };
 }
 
 impl Catalog {
@@ -100,17 +101,33 @@ impl Catalog {
         requires spelled { payload ≡ length (spelled (catalogue_of_contents contents)) }
         ensures { IfOk result (λ c. c.found ≡ found_alone (sizes_of shape) (catalogue_of_contents contents)) }
     {
+        let half = Half {
+            number: 0,
+            turn: 0,
+            length: payload,
+            other_open: false,
+        };
+        Catalog::placed(alloc, shape, contents, half, 64 + 10 + payload)
+    }
+
+    // The catalogue in this half, with the end of its log.
+    pub(crate) fn placed(
+        alloc: Global,
+        shape: Shape,
+        contents: Contents,
+        half: Half,
+        log_end: u64,
+    ) -> Result<Catalog, OutOfMemory>
+        requires rules { IsTrue (obeys (sizes_of shape) (catalogue_of_contents contents)) }
+        requires place { IsPlaced (sizes_of shape) half log_end }
+        ensures { IfOk result (λ c. c.found ≡ found_in (sizes_of shape) half (catalogue_of_contents contents) log_end) }
+    {
         let frame = vec![in alloc; 0u8; shape.payload_room() as usize + 10]?;
-        let log_end = 64 + 10 + payload;
         Ok(Catalog {
+            alloc,
             shape,
             contents,
-            half: Half {
-                number: 0,
-                turn: 0,
-                length: payload,
-                other_open: false,
-            },
+            half,
             log_end,
             frame,
         })
