@@ -54,7 +54,7 @@ module _ (found : Found) (h : History) (agrees : Agrees found h) where
         let s = found.sizes in
         let k = 1 - found.half.number in
         let fits : length (spelled c) ≤ payload_room s = length-spelled s bounded c rules in
-        let finds : FindsPayload s k ((found.half.turn + 1) % 3) (spelled c) (contents h) image =
+        let finds : FindsPayload s k ((found.half.turn + 1) % 3) (spelled c) image =
         committed_payload s k ((found.half.turn + 1) % 3) (spelled c) (contents h) image (other_below found.half.number) (omega (arith, fits, payload_room-small s bounded)) other-beside.newest frame in
         let agree : Agree InSuperblock (contents h) image =
         agree_fewer (λ place. InHalf s k place → ⊥) InSuperblock (contents h) image (λ place lt inside. superblock_apart s place lt (within_halves s k place (other_below found.half.number) inside)) frame.elsewhere in
@@ -79,13 +79,13 @@ module _ (found : Found) (h : History) (agrees : Agrees found h) where
         let k = 1 - found.half.number in
         let past : (before : List ℕ) × Now h before × AgreeBut (InOtherHalf found) before image = same_since image writes since in
         let before = past.0 in
-        let stood : SameStanding s (contents h) before = standing_of_halves s (contents h) before (agrees.sure.each before past.1.0) in
+        let stood : SameStanding s (contents h) before = standing_of_halves s (contents h) before (agrees.sure.each before past.1) in
         let agree : Agree InSuperblock before image =
-        agree_fewer (λ place. InHalf s k place → ⊥) InSuperblock before image (λ place lt inside. superblock_apart s place lt (within_halves s k place (other_below found.half.number) inside)) past.1.1 in
+        agree_fewer (λ place. InHalf s k place → ⊥) InSuperblock before image (λ place lt inside. superblock_apart s place lt (within_halves s k place (other_below found.half.number) inside)) past.2 in
         record {
           before = before;
-          was = past.1.0;
-          elsewhere = past.1.1;
+          was = past.1;
+          elsewhere = past.2;
           opens = λ old opens sizes.
               same_standing_opens old before image opens agree (subst (λ t. SameStanding t before image) (sym sizes) (same ∙ sym stood));
         }

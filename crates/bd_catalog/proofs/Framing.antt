@@ -1,5 +1,5 @@
 -- A frame that is put together in a buffer.
-use Rattle.std.proofs.Common.{◌≡◌, ℕ, ◌+◌, ◌≤◌, List, [], ◌∷◌, ◌++◌, length, take, drop, refl, ◌∙◌, ap, arith, append_assoc}
+use Rattle.std.proofs.Common.{◌≡◌, ℕ, ◌+◌, ◌≤◌, List, [], ◌∷◌, ◌++◌, length, take, drop, refl, ◌∙◌, ap, arith, append_assoc, length-append, length-take, length-drop}
 use Rattle.std.proofs.lemmas.List.{drop-drop, drop_at, length-take-le}
 use Rattle.std.proofs.lemmas.List.Edits.{paste_all, length-paste}
 use Rattle.std.proofs.Math.Seq.{paste, take-append_seam, take-append-add}
@@ -47,3 +47,8 @@ frame_put turn n payload rest into part behind one two three size front part_is 
     ap (take (n + 10)) all
     ∙ ap (λ (m : ℕ). take (m + 10) (filled m)) size
     ∙ frame_written turn payload (rest ++ behind) buffer inner (omega (arith, size, room))
+
+-- a list that was written back over its front has the length that it had
+pub length-written_back : (n : ℕ) (part whole : List ℕ) → n ≡ length whole → length part ≡ length whole → length (take n (part ++ drop (length part) whole)) ≡ length whole
+length-written_back n part whole size same =
+    omega (arith, length-take n (part ++ drop (length part) whole), length-append part (drop (length part) whole), length-drop (length part) whole)
