@@ -1,8 +1,9 @@
 -- What a step makes of a catalogue, when it fits, and what a stop within its commit leaves.
 use Rattle.std.specs.Prelude.{◌≡◌, ◌⊎◌, ℕ, ◌+◌, ◌-◌, ◌%◌, true, List, [], ◌∷◌, ◌++◌, length, flat_map, Option, Some, None, All, IsTrue, Ok}
-use Rattle.bd_disk.specs.History.{History, contents, Now}
+use Rattle.bd_disk.specs.History.{Call, History, contents, Now}
 use Rattle.bd_disk.specs.Images.{AgreeBut}
 use Rattle.bd_model.specs.Sizes.{Sizes}
+use Rattle.bd_gate.specs.Commits.{commit_calls, frame_of}
 use Rattle.bd_gate.specs.Halves.{Half, InHalf, log_place}
 use Rattle.bd_catalog.specs.declared.rows.ActiveCategory.{ActiveCategory}
 use Rattle.bd_catalog.specs.declared.step.Step.{Step}
@@ -45,6 +46,18 @@ Fits s c (Arrange volume splits) = ⊥
 -- the half that a commit of so many bytes of payload makes the newest
 abbrev pub next_half : Half → ℕ → Half
 next_half half bytes = record { number = 1 - half.number; turn = (half.turn + 1) % 3; length = bytes; other_open = true }
+
+-- the frame that a commit of this catalogue writes beside this half
+abbrev pub frame_beside : Half → Catalogue → List ℕ
+frame_beside half c = frame_of ((half.turn + 1) % 3) (spelled c)
+
+-- the calls of that commit
+abbrev pub catalogue_calls : Found → Catalogue → List Call
+catalogue_calls found c = commit_calls found.sizes (1 - found.half.number) found.half.other_open (frame_beside found.half c)
+
+-- another catalogue in the same place
+abbrev pub with_catalogue : Found → Catalogue → Found
+with_catalogue found c = record { sizes = found.sizes; half = found.half; catalogue = c; log_end = found.log_end }
 
 -- what an opening finds after a commit of this catalogue
 abbrev pub committed : Found → Catalogue → Found
