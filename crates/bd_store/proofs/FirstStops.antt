@@ -22,14 +22,14 @@ use Rattle.bd_model.specs.Sizes.{Sizes, sizes_of, half_bytes}
 use Rattle.bd_model.specs.State.{VersionState, history, cut_of, last_number}
 use Rattle.bd_gate.specs.Halves.{InHalf, InHalves}
 use Rattle.bd_catalog.specs.Agreement.{Agrees}
-use Rattle.bd_catalog.specs.Catalogue.{retained_in}
+use Rattle.bd_catalog.specs.Catalogue.{all_extents, retained_in}
 use Rattle.bd_catalog.specs.Opening.{Found, opened}
 use Rattle.bd_catalog.specs.Standing.{StandsFor, Stands}
-use Rattle.bd_catalog.specs.Steps.{InOtherHalf, KeepsCatalogue, HasCommitted, IsOldOrCommitted}
-use Rattle.bd_catalog.proofs.Standing.{stands-shows}
+use Rattle.bd_catalog.specs.Steps.{InOtherHalf, KeepsCatalogue, HasCommitted, IsOldOrCommitted, IsKeptOrCommitted}
+use Rattle.bd_catalog.proofs.Standing.{stands-shows, stands_opened}
 use Rattle.bd_store.specs.Steps.{Task, task, Answered, StandsOnEitherSide}
 use Rattle.bd_store.specs.Stops.{IsSureOf, IsSureAfter}
-use Rattle.bd_store.proofs.First.{InBack, HoldsFirst, NamesFirst, back_opens, back_stands, back_stands_for, none_retained, none_stands_opened, first_answered}
+use Rattle.bd_store.proofs.First.{InBack, HoldsFirst, NamesFirst, back_stands, in_none, none_retained, none_stands_opened, owns_nothing, first_answered}
 
 -- one half lies among both
 one_of_two : (s : Sizes) (k place : ℕ) → k ≤ 1 → InHalf s k place → InHalves s place
@@ -103,3 +103,12 @@ module _ (shape : Shape) (held : ℕ) (st : VersionState) (files : FileMap) (nam
           leads = done.leads;
           sure = record { each = λ image now. subst (Stands shape held done.outcome.state) (sym (settled.each image now)) (record { phase = _; so = done.stands }) };
         }
+
+    -- the contents after a commit that may have failed
+    pub contents_either : (phase : Phase) (h1 h2 : History) → IsReady phase (contents h1) → IsKeptOrCommitted found after (contents h1) (contents h2) → StandsOnEitherSide t (contents h2)
+    contents_either phase h1 h2 ready either =
+        ⊎_elim
+        (λ kept. inl (stands_opened found kept.again ready.opens kept.opens kept.sizes kept.catalogue
+        (record { size = kept.elsewhere.size; each = λ place inside. absurd (in_none found.sizes (all_extents found.catalogue) place (owns_nothing ready.stands ready.opens none) inside) })
+        (record { phase = phase; so = ready.stands })))
+        (λ made. made_either phase (contents h1) (contents h2) ready made) either
