@@ -4,7 +4,9 @@
 mod answer;
 mod damage;
 mod line;
+mod text;
 
-pub use answer::short_text;
+pub use answer::{short_line, short_text};
 pub use damage::damage_line;
 pub use line::Line;
+pub use text::answer_text;

@@ -1,4 +1,4 @@
-ghost use Rattle.std.specs.Prelude.{◌≡◌, ◌==◌, ◌+◌, ◌≤◌, [], ◌∷◌, ◌++◌, length, decimal};
+ghost use Rattle.std.specs.Prelude.{◌≡◌, ◌+◌, ◌≤◌, ◌↔◌, [], ◌∷◌, ◌++◌, length, decimal, IsTrue};
 ghost use Rattle.bd_model.specs.Texts.{named, hex};
 
 use bd_model::Mark;
@@ -53,7 +53,7 @@ impl Line {
 
     /// Whether there is no byte.
     pub fn is_empty(&self) -> bool
-        ensures { result ≡ (length self.now == 0) }
+        ensures { IsTrue result ↔ (self.now ≡ []) }
     {
         self.used == 0
     }
