@@ -1,4 +1,4 @@
--- Which answers have a text of more than one line, or one that no store gives.
+-- Which answers have no short text: lists, reports of scrubs, and ends of runs over drawn streams.
 use Rattle.std.specs.Prelude.{Bool, true, false}
 use Rattle.bd_model.specs.declared.answer.Answer.{Answer}
 use Rattle.bd_model.specs.declared.answer.Answer.TheVariants.{Scrubbed, Listed, Soaked}

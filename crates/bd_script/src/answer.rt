@@ -6,8 +6,8 @@ ghost use Rattle.bd_script.specs.Long.{is_long};
 use crate::line::Line;
 use bd_model::Answer;
 
-/// Puts the text of an answer at the front, and answers how many bytes it has. It takes no memory. None where the
-/// answer is a list, the report of a scrub or the end of a run over drawn streams, which have texts of any length.
+/// Puts the text of an answer at the front, and answers how many bytes it has. It takes no memory. None for a list, the
+/// report of a scrub and the end of a run over drawn streams.
 pub fn short_text(answer: &Answer, into: &mut [u8; 256]) -> Option<usize>
     ensures text { IfSome result (λ n. take n into.new ≡ answer_text answer.now) }
     ensures fits { IfSome result (λ n. n ≤ 256) }
@@ -19,7 +19,7 @@ pub fn short_text(answer: &Answer, into: &mut [u8; 256]) -> Option<usize>
     Some(text.len())
 }
 
-/// The line of an answer. None where the answer has a text of any length.
+/// The line of an answer. None for the same answers.
 pub fn short_line(answer: &Answer) -> Option<Line>
     ensures text { IfSome result (λ line. line ≡ answer_text answer.now) }
     ensures none { IsNone result ↔ IsTrue (is_long answer.now) }

@@ -4,6 +4,8 @@
 mod answer;
 mod damage;
 mod line;
+#[cfg(test)]
+mod tests;
 mod text;
 
 pub use answer::{short_line, short_text};

@@ -36,6 +36,7 @@ impl Line {
         }
     }
 
+    /// The bytes so far.
     pub fn bytes(&self) -> &[u8]
         ensures value { result.now ≡ self.now }
         ensures short { length result.now ≤ 256 }
@@ -58,7 +59,7 @@ impl Line {
         self.used == 0
     }
 
-    /// Puts a text behind the others.
+    /// Puts a text behind the bytes so far.
     pub fn push_text(&mut self, text: &[u8])
         requires { length self.old + length text.now ≤ 256 }
         ensures { self.new ≡ self.old ++ text.now }
@@ -78,7 +79,7 @@ impl Line {
         self.push_text(digits.format(number).as_bytes());
     }
 
-    /// Puts a number behind the words that stand before it.
+    /// Puts words, and the number that they announce.
     pub fn push_named(&mut self, word: &[u8], number: u64)
         requires { length self.old + length word.now + 20 ≤ 256 }
         ensures text { self.new ≡ self.old ++ named word.now number }
