@@ -29,7 +29,7 @@ use Rattle.bd_catalog.specs.Steps.{InOtherHalf, KeepsCatalogue, HasCommitted, Is
 use Rattle.bd_catalog.proofs.Standing.{stands-shows, stands_opened}
 use Rattle.bd_store.specs.Steps.{Task, task, Answered, StandsOnEitherSide}
 use Rattle.bd_store.specs.Stops.{IsSureOf, IsSureAfter}
-use Rattle.bd_store.proofs.First.{InBack, HoldsFirst, NamesFirst, back_stands, in_none, none_retained, none_stands_opened, owns_nothing, first_answered}
+use Rattle.bd_store.proofs.FirstImages.{InBack, HoldsFirst, NamesFirst, back_stands, in_none, none_retained, none_stands_opened, owns_nothing, first_answered}
 
 -- one half lies among both
 one_of_two : (s : Sizes) (k place : ℕ) → k ≤ 1 → InHalf s k place → InHalves s place

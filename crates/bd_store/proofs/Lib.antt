@@ -1,5 +1,7 @@
-pub mod First
+pub mod FirstImages
 pub mod FirstStops
+pub mod FirstCall
+pub mod FirstSteps
 pub mod LineLemmas
 pub mod Quiet
 pub mod Refusing

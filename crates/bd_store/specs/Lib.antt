@@ -1,5 +1,6 @@
 pub mod Causes
 pub mod Kept
+pub mod Naming
 pub mod Openings
 pub mod Shown
 pub mod Steps

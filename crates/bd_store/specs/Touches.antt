@@ -29,11 +29,13 @@ AnswersByNumbers found (Ok answer) = (numbers_used_up found || versions_used_up 
 AnswersByNumbers found (Err Unbuilt) = is_unbuilt found ≡ true
 AnswersByNumbers found (Err fault) = (numbers_used_up found || versions_used_up found ≡ false) × (is_unbuilt found ≡ false)
 
--- a backup into a store that retains nothing reads nothing, and one that is refused for a number touches nothing
+-- A backup into a store that retains nothing reads nothing, and one that is refused for a number touches nothing. Of what
+-- was read before the disk failed nothing is said.
 abbrev pub BackupReads : History → History → Result Answer StoreFault → Type 0
 BackupReads old new (Ok FullNumbers) = TouchesNothing old new
 BackupReads old new (Ok (FullVersions retained)) = TouchesNothing old new
 BackupReads old new (Err Unbuilt) = TouchesNothing old new
+BackupReads old new (Err DiskFault) = Unit {0}
 BackupReads old new result = ReadsOnly [] old new
 
 -- no answer that goes by numbers

@@ -1,3 +1,6 @@
+ghost use Rattle.std.specs.Prelude.{◌≡◌, ◌↔◌, true, Err};
+
+use bd_model::Answer;
 use bd_model::{Damage, Place};
 
 /// Why a store wasn't opened.
@@ -24,4 +27,11 @@ pub enum StoreFault {
     OutOfMemory,
     /// This form of the command is still to come. Nothing is changed.
     Unbuilt,
+}
+
+/// Whether a command met a fault of the disk.
+pub(crate) fn is_disk_fault(outcome: &Result<Answer, StoreFault>) -> bool
+    ensures { (result ≡ true) ↔ (outcome.now ≡ Err StoreFault.DiskFault) }
+{
+    matches!(outcome, Err(StoreFault::DiskFault))
 }

@@ -22,7 +22,8 @@ ghost use Rattle.bd_store.specs.Steps.{IsOneStep};
 ghost use Rattle.bd_store.specs.Stops.{IsSafeAtStops};
 ghost use Rattle.bd_store.specs.Touches.{AnswersByNumbers, AnswersFirst, BackupReads};
 
-use crate::fault::{OpenFault, StoreFault};
+use crate::fault::{OpenFault, StoreFault, is_disk_fault};
+use crate::first::take_first;
 use crate::listing::lines_of;
 use bd_catalog::Catalog;
 use bd_disk::Disk;
@@ -164,7 +165,16 @@ impl Store {
         // A stop at any moment leaves the state before it or the one after.
         ensures stops { D.tells → F.tells → IsSafeAtStops (Backup name.now) self.old.held (D.history disk.old) (D.history disk.new) (F.files files.old) result }
     {
-        Err(StoreFault::OutOfMemory)
+        let result = take_first(
+            alloc,
+            disk,
+            &mut self.catalog,
+            &mut self.space,
+            files,
+            name,
+        );
+        self.worn = is_disk_fault(&result);
+        result
     }
 
     /// The retained versions, ascending.

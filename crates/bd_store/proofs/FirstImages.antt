@@ -22,7 +22,7 @@ use Rattle.bd_model.specs.Records.{records_of, spelled_recipe}
 use Rattle.bd_model.specs.Room.{owned, fresh, need, counted, need_of, counted_of}
 use Rattle.bd_model.specs.Sizes.{Sizes, sizes_of, extent_place}
 use Rattle.bd_model.specs.State.{VersionState, history, cut_of, last_number}
-use Rattle.bd_model.specs.Step.{free_extents}
+use Rattle.bd_model.specs.Step.{free_extents, unchanged}
 use Rattle.std.proofs.lemmas.Simd.{map-map}
 use Rattle.bd_model.proofs.HistoryLemmas.{version-base}
 use Rattle.bd_model.proofs.ExpiryLemmas.{nothing_owned}
@@ -36,8 +36,8 @@ use Rattle.bd_catalog.proofs.Agreeing.{InFront, InExtents, begin_with_agrees, op
 use Rattle.bd_catalog.proofs.Standing.{Shows, InStore, stands-shows, stands_agrees, stands_for_agrees, stands_opened, halves_agree}
 use Rattle.bd_catalog.proofs.StandingEmpty.{nothing_from, catalogue_from, found-catalogue, found-nothing, fresh-first, recipe-first}
 use Rattle.bd_catalog.proofs.StandingBackup.{first_catalogue, next_catalogue, backup_catalogue}
-use Rattle.bd_catalog.proofs.StandingAnswers.{IsAnswered, backup_answered, refused_answered}
-use Rattle.bd_store.specs.Steps.{task, Answered}
+use Rattle.bd_catalog.proofs.StandingAnswers.{IsAnswered, backup_answered, backup_refused, backup_step, refused_answered}
+use Rattle.bd_store.specs.Steps.{task, Answered, LeadsTo}
 
 -- ---- images that stand for a state that retains nothing
 
@@ -218,6 +218,13 @@ module _ (shape : Shape) (held : ℕ) (st : VersionState) (phase : Phase) (files
       as_answered (FullExtents (counted shape.extent (history shape st) w (free_extents shape held st)) (free_extents shape held st) held) (FullExtents count free held) old
       (λ k. FullExtents (counts k) (freed k) held)
       (refused_answered shape held st files name stream old settled_stands few room there (omega (arith, more, counts, freed)))
+
+  -- it leads to the state as it was
+  pub refused_leads : free < count → LeadsTo (task shape held st files (Backup name)) (unchanged st files (FullExtents count free held))
+  refused_leads more =
+      backup_step shape held st files name stream few room there
+      ∙ ap Some (backup_refused shape held st files name stream (omega (arith, more, counts, freed)))
+      ∙ (λ k. Some (unchanged st files (FullExtents (counts k) (freed k) held)))
 
   -- and the answer after it was committed
   pub first_answered : (xs ys new : List ℕ) (after : Found) → count ≤ free → AgreeBut (InHalves (sizes_of shape)) old new → opened new ≡ Ok after → NamesFirst found after stream w xs ys →
