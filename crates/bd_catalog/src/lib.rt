@@ -11,6 +11,8 @@ mod rows;
 mod rules;
 mod step;
 #[cfg(test)]
+mod commit_tests;
+#[cfg(test)]
 mod tests;
 
 pub use bd_model::{CategoryRow, Phase};
