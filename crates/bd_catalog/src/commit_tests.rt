@@ -130,7 +130,11 @@ fn a_stop_within_a_commit_leaves_the_old_catalogue_or_the_new(rt: HostRuntime) -
             let image = crash_image(alloc, &disk, filler)?;
             let payload = payload_left(alloc, &image)?;
             let is_new = stop == 4 || stop >= 2 && filler == 0x4F;
-            let wanted = if is_new { FIRST.as_slice() } else { [0u8; 21].as_slice() };
+            let wanted = if is_new {
+                FIRST.as_slice()
+            } else {
+                [0u8; 21].as_slice()
+            };
             assert_eq!(rt; payload.as_deref(), Some(wanted), "at {stop}");
         }
     }

@@ -2,6 +2,8 @@
 #![tactic(auto)]
 
 mod catalog;
+#[cfg(test)]
+mod commit_tests;
 mod contents;
 mod decode;
 mod encode;
@@ -10,8 +12,6 @@ mod laws;
 mod rows;
 mod rules;
 mod step;
-#[cfg(test)]
-mod commit_tests;
 #[cfg(test)]
 mod tests;
 
