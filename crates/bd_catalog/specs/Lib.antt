@@ -6,6 +6,7 @@ pub mod Ledger
 pub mod Opening
 pub mod Rules
 pub mod Shown
+pub mod Small
 pub mod Sound
 pub mod Spelling
 pub mod Standing

@@ -217,7 +217,13 @@ impl Catalog {
         ensures held { held_count space.new ≡ held_count space.old }
     {
         self.make(step);
-        let half = write_beside(disk, &self.shape, &self.half, &self.contents, &mut self.frame)?;
+        let half = write_beside(
+            disk,
+            &self.shape,
+            &self.half,
+            &self.contents,
+            &mut self.frame,
+        )?;
         self.log_end = log_place(&self.shape, &half);
         self.half = half;
         Ok(())

@@ -2,6 +2,8 @@
 #![tactic(auto)]
 
 mod catalog;
+#[cfg(test)]
+mod commit_tests;
 mod contents;
 mod decode;
 mod encode;
