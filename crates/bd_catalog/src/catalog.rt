@@ -1,5 +1,6 @@
 ghost use Rattle.std.specs.Prelude.{◌≡◌, ℕ, ◌+◌, ◌-◌, ◌≤◌, ◌<◌, ◌↔◌, ◌++◌, drop, map, length, IsTrue, IfOk, OnOk, IfSome, IfNone, Some, None, IsSome, slice_get};
 ghost use Rattle.bd_model.specs.Sizes.{sizes_of, payload_room};
+ghost use Rattle.bd_gate.specs.Halves.{log_place};
 ghost use Rattle.bd_catalog.specs.Catalogue.{empty_catalogue, oldest_in, retained_in};
 ghost use Rattle.bd_catalog.specs.Ledger.{found_alone, HasRoom};
 ghost use Rattle.bd_catalog.specs.Rules.{obeys, catalogue_of};
@@ -114,6 +115,19 @@ impl Catalog {
             log_end,
             frame,
         })
+    }
+
+    // The same catalogue, in this half with an empty log.
+    pub(crate) fn placed(self, half: Half) -> Catalog
+        requires number { half.number < 2 }
+        requires turn { half.turn ≤ 2 }
+        requires fits { half.length ≤ payload_room self.found.sizes }
+        ensures { result.found ≡ record self.found { half = half; log_end = log_place self.found.sizes half } }
+    {
+        let mut placed = self;
+        placed.log_end = 64 + u64::from(half.number) * placed.shape.half_bytes() + 10 + half.length;
+        placed.half = half;
+        placed
     }
 
     /// Writes the spelling of the catalogue to the front of `into`, and answers how many bytes that is. What lies behind
