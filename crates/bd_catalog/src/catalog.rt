@@ -186,6 +186,20 @@ impl Catalog {
         self.contents.phase
     }
 
+    /// The retained versions, from the oldest on.
+    pub fn versions(&self) -> &[VersionRow]
+        ensures { map version_entry result.now ≡ self.now.found.catalogue.versions }
+    {
+        &self.contents.versions
+    }
+
+    /// The closed volumes, from that of the oldest retained version on.
+    pub fn volumes(&self) -> &[ClosedVolume]
+        ensures { map volume_entry result.now ≡ self.now.found.catalogue.volumes }
+    {
+        &self.contents.volumes
+    }
+
     /// The retained version of this number.
     pub fn version(&self, number: u32) -> Option<&VersionRow>
         ensures retained { IsSome result ↔ ((oldest_in self.now.found.catalogue ≤ number) × (number ≤ self.now.found.catalogue.newest)) }
