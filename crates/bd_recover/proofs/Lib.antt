@@ -1,3 +1,6 @@
+mod Answering
 mod Bytes
+mod Checks
+mod Claiming
 mod Found
 mod Stops
