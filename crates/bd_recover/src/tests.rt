@@ -1,0 +1,192 @@
+use super::*;
+use bd_disk::{Disk, MemDisk, Touch, crash_image};
+use bd_model::{Place, Shape};
+use std::alloc::Global;
+use std::test::Fail;
+
+// The bytes of a disk of extent 64, extents 16 and retain 4, and where its second half begins.
+const DISK: usize = 133_894;
+
+const OTHER_HALF: usize = 66_467;
+
+// The superblock of this shape, and the half behind it.
+const FRONT: [u8; 96] = [
+    0x4F, 0x42, 0x44, 0x53, 0x54, 0x4F, 0x52, 0x45, 0, 0, 0, 1, 0, 0, 0, 0x40, 0, 0, 0, 0x10, 0, 0,
+    0, 4, 0, 0, 0, 4, 0, 0, 0, 0, 0, 0, 0, 4, 0, 0, 0, 0, 0, 0, 0, 0, 0, 0, 0, 0, 0, 0, 0, 0, 0, 0,
+    0, 0, 0, 0, 0, 0, 0, 0, 0, 0, 0x4F, 0, 0, 0, 0, 0, 0, 0, 0, 21, 0, 0, 0, 0, 0, 0, 0, 0, 0, 0,
+    0, 0, 0, 0, 0, 0, 0, 0, 0, 0, 0, 0,
+];
+
+#[test]
+fn a_disk_is_formatted_once(rt: HostRuntime) -> Result<(), Fail> {
+    let alloc = rt.alloc();
+    let shape = Shape::new(64, 16, 4, 4, 0, 4)?;
+    let mut disk = MemDisk::from_bytes(alloc, &vec![in alloc; 0x4Fu8; DISK]?)?;
+    assert_eq!(rt; format_disk(&mut disk, &shape), Ok(()));
+    let image = crash_image(alloc, &disk, 0xFF)?;
+    assert_eq!(rt; image.get(..96), Some(FRONT.as_slice()));
+    assert_eq!(rt; image.get(OTHER_HALF), Some(&0));
+    assert_eq!(rt; image.get(OTHER_HALF + 1), Some(&0x4F));
+    let write = |at, length| Touch::Write { at, length };
+    let calls = [
+        Touch::Sync,
+        Touch::Read { at: 0, length: 64 },
+        write(0, 1),
+        Touch::Sync,
+        write(64, 32),
+        write(66_467, 1),
+        write(1, 63),
+        Touch::Sync,
+        write(0, 1),
+        Touch::Sync,
+    ];
+    assert_eq!(rt; disk.trace(), calls.as_slice());
+    assert_eq!(rt;
+        format_disk(&mut disk, &shape),
+        Err(FormatFault::AlreadyAStore)
+    );
+    assert_eq!(rt; disk.trace().len(), 12);
+    Ok(())
+}
+
+#[test]
+fn a_disk_that_is_too_small_is_refused(rt: HostRuntime) -> Result<(), Fail> {
+    let alloc = rt.alloc();
+    let shape = Shape::new(64, 16, 4, 4, 0, 4)?;
+    for bytes in [0, 63, 64, DISK - 1] {
+        let mut disk = MemDisk::from_bytes(alloc, &vec![in alloc; 0u8; bytes]?)?;
+        let refused = FormatFault::TooSmall {
+            need: 133_894,
+            have: bytes as u64,
+        };
+        assert_eq!(rt; format_disk(&mut disk, &shape), Err(refused));
+    }
+    // 4,096 extents of a megabyte
+    let large = Shape::new(1_048_576, 4_096, 64, 2_048, 13, 65_536)?;
+    let mut disk = MemDisk::from_bytes(alloc, &vec![in alloc; 0u8; 64]?)?;
+    let refused = FormatFault::TooSmall {
+        need: 4_295_415_766,
+        have: 64,
+    };
+    assert_eq!(rt; format(alloc, &mut disk, large).err(), Some(refused));
+    let mut marked = MemDisk::from_bytes(alloc, &FRONT[..64])?;
+    assert_eq!(rt;
+        format_disk(&mut marked, &shape),
+        Err(FormatFault::AlreadyAStore)
+    );
+    Ok(())
+}
+
+#[test]
+fn a_stop_within_a_format_leaves_a_closed_gate_or_all(rt: HostRuntime) -> Result<(), Fail> {
+    let alloc = rt.alloc();
+    let shape = Shape::new(64, 16, 4, 4, 0, 4)?;
+    // Of ten calls, a disk whose first gate is open.
+    for stop in 0..11 {
+        let mut disk = MemDisk::from_bytes(alloc, &vec![in alloc; 0x4Fu8; DISK]?)?;
+        disk.fail_from(stop);
+        let done = format_disk(&mut disk, &shape);
+        let answer = if stop < 10 {
+            Err(FormatFault::DiskFault)
+        } else {
+            Ok(())
+        };
+        assert_eq!(rt; done, answer);
+        let image = crash_image(alloc, &disk, 0x4F)?;
+        let is_marked = image.get(..8) == FRONT.get(..8);
+        assert_eq!(rt; is_marked, stop >= 8, "at {stop}");
+        assert_eq!(rt; is_marked, image.get(..96) == Some(FRONT.as_slice()));
+    }
+    Ok(())
+}
+
+// How many versions an opening of the image finds, and how many extents are free.
+fn opened_from(alloc: Global, image: &[u8]) -> Result<Result<(u32, u32), OpenFault>, Fail> {
+    let mut disk = MemDisk::from_bytes(alloc, image)?;
+    let found = open_image(alloc, &mut disk);
+    Ok(found.map(|opened| (opened.catalog.retained(), opened.space.free())))
+}
+
+fn fresh_image(alloc: Global) -> Result<Vec<u8>, Fail> {
+    let shape = Shape::new(64, 16, 4, 4, 0, 4)?;
+    let mut disk = MemDisk::from_bytes(alloc, &vec![in alloc; 0x4Fu8; DISK]?)?;
+    let _ = format(alloc, &mut disk, shape);
+    let image = crash_image(alloc, &disk, 0xFF)?;
+    Ok(image)
+}
+
+#[test]
+fn a_fresh_store_opens_and_an_altered_one_names_its_first_fault(
+    rt: HostRuntime,
+) -> Result<(), Fail> {
+    let alloc = rt.alloc();
+    let mut image = fresh_image(alloc)?;
+    assert_eq!(rt; opened_from(alloc, &image)?, Ok((0, 16)));
+    let cases = [
+        (0, 0, Place::Gate),
+        (1, 0, Place::Magic),
+        (11, 2, Place::Number),
+        (15, 0x41, Place::Shape),
+        (36, 1, Place::Padding),
+        (64, 0, Place::Halves),
+        (65, 3, Place::Halves),
+        (73, 0x14, Place::Payload),
+        (86, 1, Place::Payload),
+    ];
+    for (at, value, place) in cases {
+        let mut was = 0;
+        if let Some(byte) = image.get_mut(at) {
+            was = *byte;
+            *byte = value;
+        }
+        assert_eq!(rt;
+            opened_from(alloc, &image)?,
+            Err(OpenFault::NotAStore { place }),
+            "at {at}"
+        );
+        if let Some(byte) = image.get_mut(at) {
+            *byte = was;
+        }
+    }
+    for (bytes, place) in [(DISK - 1, Place::Room), (63, Place::Short)] {
+        image.truncate(bytes);
+        assert_eq!(rt;
+            opened_from(alloc, &image)?,
+            Err(OpenFault::NotAStore { place })
+        );
+    }
+    Ok(())
+}
+
+#[test]
+fn what_owners_have_is_not_free(rt: HostRuntime) -> Result<(), Fail> {
+    let alloc = rt.alloc();
+    let mut image = fresh_image(alloc)?;
+    // Version 1 has one chunk of 4 bytes, its recipe extent 0, and its open category extent 3.
+    let payload = [
+        0, 0, 0, 0, 0, 0, 0, 1, 0, 0, 0, 1, 0, 0, 0, 0, 0, 0, 0, 0, 0, 0, 0, 0, 4, 0, 0, 0, 0, 0,
+        0, 0, 1, 0, 0, 0, 0, 0, 0, 0, 1, 0, 0, 0, 1, 0, 0, 0, 0, 0, 0, 0, 1, 0, 0, 0, 1, 0, 0, 0,
+        0, 0, 0, 0, 1, 0, 0, 0, 0, 0, 0, 0, 40, 0, 0, 0, 1, 0, 0, 0, 3,
+    ];
+    if let Some(byte) = image.get_mut(73) {
+        *byte = 81;
+    }
+    for (index, value) in payload.iter().enumerate() {
+        if let Some(byte) = image.get_mut(74 + index) {
+            *byte = *value;
+        }
+    }
+    assert_eq!(rt; opened_from(alloc, &image)?, Ok((1, 14)));
+    let mut disk = MemDisk::from_bytes(alloc, &image)?;
+    let _ = open_image(alloc, &mut disk);
+    let read = |at, length| Touch::Read { at, length };
+    let calls = [
+        Touch::Sync,
+        read(0, 64),
+        read(64, 10),
+        read(66_467, 10),
+        read(74, 81),
+    ];
+    assert_eq!(rt; disk.trace(), calls.as_slice());
+    Ok(())
+}
