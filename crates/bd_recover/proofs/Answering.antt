@@ -1,9 +1,9 @@
 -- What an opening answers of a superblock and of the half that was loaded.
-use Rattle.std.proofs.Common.{◌≡◌, ℕ, ◌<◌, List, sym, ◌∙◌, ap, subst, arith, Result, Ok, Err}
+use Rattle.std.proofs.Common.{◌≡◌, ℕ, ◌<◌, sym, ◌∙◌, ap, subst, arith, Result, Ok, Err}
 use Rattle.bd_disk.specs.Calls.{Done}
 use Rattle.bd_disk.specs.Images.{InRange}
 use Rattle.bd_disk.specs.History.{Flush, History, contents}
-use Rattle.bd_disk.specs.Looks.{Looks, LooksOnlyAt}
+use Rattle.bd_disk.specs.Looks.{LooksOnlyAt}
 use Rattle.bd_disk.specs.Made.{IsSettled, WritesNothing}
 use Rattle.bd_disk.proofs.Frames.{made_both, made_done, settled, settled_sure, still_settled, unchanged}
 use Rattle.bd_disk.proofs.Looking.{looks_wider}

@@ -1,8 +1,8 @@
 -- What the superblock decides of an opening.
-use Rattle.std.proofs.Common.{◌≡◌, ℕ, ◌+◌, ◌<◌, ◌≤◌, Bool, true, false, not, ◌==◌, List, length, take, drop, get_or, refl, sym, ◌∙◌, ap, arith, replicate, Option, Some, None, Ok, Err, Result, nat_lt, le-ltb, lt-ltb, zero-add, if◌then◌else◌}
+use Rattle.std.proofs.Common.{◌≡◌, ℕ, ◌+◌, ◌<◌, ◌≤◌, Bool, true, false, not, ◌==◌, List, length, refl, sym, ◌∙◌, ap, arith, replicate, Some, None, Err, Result, nat_lt, le-ltb, lt-ltb, zero-add, if◌then◌else◌}
 use Rattle.std.specs.Prelude.{bytes_eq}
 use Rattle.std.specs.Int.{w32, from_be_bytes}
-use Rattle.bd_disk.specs.Images.{InRange, bytes_at}
+use Rattle.bd_disk.specs.Images.{bytes_at}
 use Rattle.bd_disk.proofs.Agreeing.{get_or-bytes_at}
 use Rattle.bd_model.specs.Sizes.{Sizes, is_shape, disk_bytes}
 use Rattle.bd_model.specs.declared.place.Place.{Place}

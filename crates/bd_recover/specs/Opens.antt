@@ -1,11 +1,11 @@
 -- What an opening answers.
-use Rattle.std.specs.Prelude.{◌≡◌, ℕ, ◌≤◌, ◌==◌, Bool, not, List, length, replicate, Option, Some, None, Result, Ok, Err, bytes_eq, if◌then◌else◌}
+use Rattle.std.specs.Prelude.{◌≡◌, ℕ, ◌==◌, Bool, not, List, replicate, Option, Some, None, Result, Ok, Err, bytes_eq, if◌then◌else◌}
 use Rattle.bd_disk.specs.Calls.{Rose}
 use Rattle.bd_disk.specs.Images.{bytes_at}
 use Rattle.bd_model.specs.declared.shape.Shape.{Shape as StructShape}
 use Rattle.bd_model.specs.declared.place.Place.{Place}
 use Rattle.bd_model.specs.declared.place.Place.TheVariants.{Short, Gate, Magic, Number, Shape, Padding}
-use Rattle.bd_model.specs.Sizes.{Sizes, sizes_of, is_shape, disk_bytes}
+use Rattle.bd_model.specs.Sizes.{sizes_of, is_shape}
 use Rattle.bd_gate.specs.Halves.{newest_half}
 use Rattle.bd_gate.specs.Superblock.{open_gate, magic, byte_at, four_at, sizes_at}
 use Rattle.bd_catalog.specs.Opening.{Found, opened_half, opened}

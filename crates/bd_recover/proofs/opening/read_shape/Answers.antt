@@ -1,8 +1,8 @@
-use Rattle.std.proofs.Common.{◌≡◌, ◌<◌, ◌≤◌, sym, ◌∙◌, ap, arith, length}
+use Rattle.std.proofs.Common.{arith}
 use Rattle.std.proofs.lemmas.Result.{err_from_is_err_and}
 use Rattle.bd_disk.specs.History.{contents}
 use Rattle.bd_disk.proofs.Looking.{read_looks}
-use Rattle.bd_model.specs.Sizes.{sizes_of, disk_bytes}
+use Rattle.bd_model.specs.Sizes.{sizes_of}
 use Rattle.bd_recover.proofs.Checks.{too_short, superblock_fails, no_room, goes_on}
 use Rattle.bd_recover.proofs.opening.read_shape.Goals as goal
 

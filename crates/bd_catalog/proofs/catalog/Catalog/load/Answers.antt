@@ -1,10 +1,9 @@
-use Rattle.std.proofs.Common.{◌≡◌, sym, ◌∙◌, ap, arith, Some, None, Ok}
+use Rattle.std.proofs.Common.{◌∙◌, ap, arith}
 use Rattle.bd_disk.specs.History.{contents}
 use Rattle.bd_disk.proofs.Frames.{made_both, unchanged}
 use Rattle.bd_model.specs.Sizes.{sizes_of}
-use Rattle.bd_gate.specs.Halves.{Half, payload_of, log_place}
+use Rattle.bd_gate.specs.Halves.{payload_of}
 use Rattle.bd_catalog.specs.Opening.{Found}
-use Rattle.bd_catalog.specs.Catalogue.{Catalogue}
 use Rattle.bd_catalog.proofs.Loading.{load_finds, placed_finds, filled}
 use Rattle.bd_catalog.proofs.catalog.Catalog.load.Goals as goal
 
