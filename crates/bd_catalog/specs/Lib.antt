@@ -3,6 +3,7 @@ pub mod Catalogue
 pub mod Damages
 pub mod Growing
 pub mod Ledger
+pub mod Loading
 pub mod Opening
 pub mod Rules
 pub mod Shown

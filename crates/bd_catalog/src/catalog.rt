@@ -5,6 +5,7 @@ ghost use Rattle.bd_disk.specs.Images.{AgreeBut};
 ghost use Rattle.bd_disk.specs.Made.{IsSettled, LeavesSince, Makes, WritesOnly};
 ghost use Rattle.bd_disk.specs.Trace.{ReadsOnly};
 ghost use Rattle.bd_model.specs.Sizes.{sizes_of, disk_bytes, payload_room};
+ghost use Rattle.bd_gate.specs.Halves.{log_place};
 ghost use Rattle.bd_space.specs.Allotment.{extent_count, held_count, TakenExactly};
 ghost use Rattle.bd_catalog.specs.Agreement.{Agrees};
 ghost use Rattle.bd_catalog.specs.Catalogue.{all_extents, empty_catalogue, oldest_in, retained_in};
@@ -145,6 +146,19 @@ impl Catalog {
         })
     }
 
+    // The same catalogue, in this half with an empty log.
+    pub(crate) fn moved_to(self, half: Half) -> Catalog
+        requires number { half.number < 2 }
+        requires turn { half.turn ≤ 2 }
+        requires fits { half.length ≤ payload_room self.found.sizes }
+        ensures { result.found ≡ record self.found { half = half; log_end = log_place self.found.sizes half } }
+    {
+        let mut moved = self;
+        moved.log_end = 64 + u64::from(half.number) * moved.shape.half_bytes() + 10 + half.length;
+        moved.half = half;
+        moved
+    }
+
     /// Writes the spelling of the catalogue to the front of `into`, and answers how many bytes that is. What lies behind
     /// stays.
     pub fn encode(&self, into: &mut [u8]) -> usize
@@ -263,6 +277,20 @@ impl Catalog {
         ensures { result ≡ self.now.found.catalogue.phase }
     {
         self.contents.phase
+    }
+
+    /// The retained versions, from the oldest on.
+    pub fn versions(&self) -> &[VersionRow]
+        ensures { map version_entry result.now ≡ self.now.found.catalogue.versions }
+    {
+        &self.contents.versions
+    }
+
+    /// The closed volumes, from that of the oldest retained version on.
+    pub fn volumes(&self) -> &[ClosedVolume]
+        ensures { map volume_entry result.now ≡ self.now.found.catalogue.volumes }
+    {
+        &self.contents.volumes
     }
 
     /// The retained version of this number.

@@ -1,3 +1,6 @@
-pub mod Bytes
+mod Answering
+mod Bytes
+mod Checks
+mod Claiming
 pub mod Found
-pub mod Stops
+mod Stops

@@ -37,3 +37,8 @@ RefusesUntouched _ old new = Unit {0}
 abbrev pub ByCount : {T : Type 0} → ℕ → ℕ → Result T FormatFault → Type 0
 ByCount before now (Err DiskFault) = Rose before now
 ByCount before now _ = now ≡ before
+
+-- memory isn't asked for
+abbrev pub TakesNoMemory : {T : Type 0} → Result T FormatFault → Type 0
+TakesNoMemory (Err OutOfMemory) = ⊥
+TakesNoMemory _ = Unit {0}

@@ -1,12 +1,16 @@
-//! Making the empty store on a disk.
+//! Making the empty store on a disk, and opening a store.
 #![tactic(auto)]
 
+mod claims;
 mod fault;
-mod format;
+mod formatting;
 mod fresh;
+mod opening;
+mod superblock;
 
-pub use fault::FormatFault;
-pub use format::format_disk;
+pub use fault::{FormatFault, OpenFault};
+pub use formatting::{format, format_disk};
+pub use opening::{Opened, open_image};
 
 #[cfg(test)]
 mod tests;

@@ -1,6 +1,7 @@
 use super::*;
 use bd_disk::{Disk, MemDisk, Touch, crash_image};
-use bd_model::Shape;
+use bd_model::{Place, Shape};
+use std::alloc::Global;
 use std::test::Fail;
 
 // The bytes of a disk of extent 64, extents 16 and retain 4, and where its second half begins.
@@ -60,6 +61,14 @@ fn a_disk_that_is_too_small_is_refused(rt: HostRuntime) -> Result<(), Fail> {
         };
         assert_eq!(rt; format_disk(&mut disk, &shape), Err(refused));
     }
+    // 4,096 extents of a megabyte
+    let large = Shape::new(1_048_576, 4_096, 64, 2_048, 13, 65_536)?;
+    let mut disk = MemDisk::from_bytes(alloc, &vec![in alloc; 0u8; 64]?)?;
+    let refused = FormatFault::TooSmall {
+        need: 4_295_415_766,
+        have: 64,
+    };
+    assert_eq!(rt; format(alloc, &mut disk, large).err(), Some(refused));
     let mut marked = MemDisk::from_bytes(alloc, &FRONT[..64])?;
     assert_eq!(rt;
         format_disk(&mut marked, &shape),
@@ -88,5 +97,96 @@ fn a_stop_within_a_format_leaves_a_closed_gate_or_all(rt: HostRuntime) -> Result
         assert_eq!(rt; is_marked, stop >= 8, "at {stop}");
         assert_eq!(rt; is_marked, image.get(..96) == Some(FRONT.as_slice()));
     }
+    Ok(())
+}
+
+// How many versions an opening of the image finds, and how many extents are free.
+fn opened_from(alloc: Global, image: &[u8]) -> Result<Result<(u32, u32), OpenFault>, Fail> {
+    let mut disk = MemDisk::from_bytes(alloc, image)?;
+    let found = open_image(alloc, &mut disk);
+    Ok(found.map(|opened| (opened.catalog.retained(), opened.space.free())))
+}
+
+fn fresh_image(alloc: Global) -> Result<Vec<u8>, Fail> {
+    let shape = Shape::new(64, 16, 4, 4, 0, 4)?;
+    let mut disk = MemDisk::from_bytes(alloc, &vec![in alloc; 0x4Fu8; DISK]?)?;
+    let _ = format(alloc, &mut disk, shape);
+    let image = crash_image(alloc, &disk, 0xFF)?;
+    Ok(image)
+}
+
+#[test]
+fn a_fresh_store_opens_and_an_altered_one_names_its_first_fault(
+    rt: HostRuntime,
+) -> Result<(), Fail> {
+    let alloc = rt.alloc();
+    let mut image = fresh_image(alloc)?;
+    assert_eq!(rt; opened_from(alloc, &image)?, Ok((0, 16)));
+    let cases = [
+        (0, 0, Place::Gate),
+        (1, 0, Place::Magic),
+        (11, 2, Place::Number),
+        (15, 0x41, Place::Shape),
+        (36, 1, Place::Padding),
+        (64, 0, Place::Halves),
+        (65, 3, Place::Halves),
+        (73, 0x14, Place::Payload),
+        (86, 1, Place::Payload),
+    ];
+    for (at, value, place) in cases {
+        let mut was = 0;
+        if let Some(byte) = image.get_mut(at) {
+            was = *byte;
+            *byte = value;
+        }
+        assert_eq!(rt;
+            opened_from(alloc, &image)?,
+            Err(OpenFault::NotAStore { place }),
+            "at {at}"
+        );
+        if let Some(byte) = image.get_mut(at) {
+            *byte = was;
+        }
+    }
+    for (bytes, place) in [(DISK - 1, Place::Room), (63, Place::Short)] {
+        image.truncate(bytes);
+        assert_eq!(rt;
+            opened_from(alloc, &image)?,
+            Err(OpenFault::NotAStore { place })
+        );
+    }
+    Ok(())
+}
+
+#[test]
+fn what_owners_have_is_not_free(rt: HostRuntime) -> Result<(), Fail> {
+    let alloc = rt.alloc();
+    let mut image = fresh_image(alloc)?;
+    // Version 1 has one chunk of 4 bytes, its recipe extent 0, and its open category extent 3.
+    let payload = [
+        0, 0, 0, 0, 0, 0, 0, 1, 0, 0, 0, 1, 0, 0, 0, 0, 0, 0, 0, 0, 0, 0, 0, 0, 4, 0, 0, 0, 0, 0,
+        0, 0, 1, 0, 0, 0, 0, 0, 0, 0, 1, 0, 0, 0, 1, 0, 0, 0, 0, 0, 0, 0, 1, 0, 0, 0, 1, 0, 0, 0,
+        0, 0, 0, 0, 1, 0, 0, 0, 0, 0, 0, 0, 40, 0, 0, 0, 1, 0, 0, 0, 3,
+    ];
+    if let Some(byte) = image.get_mut(73) {
+        *byte = 81;
+    }
+    for (index, value) in payload.iter().enumerate() {
+        if let Some(byte) = image.get_mut(74 + index) {
+            *byte = *value;
+        }
+    }
+    assert_eq!(rt; opened_from(alloc, &image)?, Ok((1, 14)));
+    let mut disk = MemDisk::from_bytes(alloc, &image)?;
+    let _ = open_image(alloc, &mut disk);
+    let read = |at, length| Touch::Read { at, length };
+    let calls = [
+        Touch::Sync,
+        read(0, 64),
+        read(64, 10),
+        read(66_467, 10),
+        read(74, 81),
+    ];
+    assert_eq!(rt; disk.trace(), calls.as_slice());
     Ok(())
 }

@@ -3,7 +3,7 @@ use Rattle.bd_disk.specs.Images.{InRange}
 use Rattle.bd_disk.proofs.Frames.{nothing_within, made_both, still_settled}
 use Rattle.bd_model.specs.Sizes.{sizes_of}
 use Rattle.bd_recover.proofs.Stops.{asked, asked_and_closes, closed, not_open}
-use Rattle.bd_recover.proofs.format.shut_gate.Goals as goal
+use Rattle.bd_recover.proofs.formatting.shut_gate.Goals as goal
 
 pub returns-in_err-asks_for_closing-clause-stops :
     goal.returns-in_err-asks_for_closing-clause-stops

@@ -5,7 +5,7 @@ use Rattle.bd_disk.proofs.Frames.{made_both, nothing_within, settled}
 use Rattle.bd_model.specs.Sizes.{sizes_of, disk_bytes, half_place}
 use Rattle.bd_recover.specs.Fresh.{HoldsFresh, fresh_half, superblock_body}
 use Rattle.bd_recover.proofs.Bytes.{holds_fresh, first_in_parts, other_in_parts, body_in_parts}
-use Rattle.bd_recover.proofs.format.write_parts.Goals as goal
+use Rattle.bd_recover.proofs.formatting.write_parts.Goals as goal
 
 pub returns-in_err-write-clause-writes : goal.returns-in_err-write-clause-writes
 returns-in_err-write-clause-writes g c = λ told. first_in_parts (sizes_of c.args.shape.now) (ap length c.fresh_half.ensures) (c.write.ensures.writes told)

@@ -1,5 +1,5 @@
 use Rattle.bd_disk.proofs.Frames.{made_both}
-use Rattle.bd_recover.proofs.format.asks_for_closing.Goals as goal
+use Rattle.bd_recover.proofs.formatting.asks_for_closing.Goals as goal
 
 pub returns-in_err-read-clause-writes : goal.returns-in_err-read-clause-writes
 returns-in_err-read-clause-writes g c = λ told. made_both (c.sync.ensures.writes told) (c.read.ensures.writes told)

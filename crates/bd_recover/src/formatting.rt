@@ -1,19 +1,53 @@
-ghost use Rattle.std.specs.Prelude.{◌≡◌, ◌≢◌, ◌+◌, ◌≤◌, ◌<◌, ◌==◌, false, length, OnOk, IfOk, Ok};
+ghost use Rattle.std.specs.Prelude.{◌≡◌, ◌≢◌, Err, ◌+◌, ◌≤◌, ◌<◌, ◌==◌, false, length, OnOk, IfOk, Ok};
 ghost use Rattle.bd_disk.specs.Calls.{HasCause};
 ghost use Rattle.bd_disk.specs.History.{contents};
 ghost use Rattle.bd_disk.specs.Images.{InRange};
-ghost use Rattle.bd_disk.specs.Made.{IsSettled, LeavesSince, WritesNothing, WritesOnly};
+ghost use Rattle.bd_disk.specs.Made.{IsSettled, LeavesSince, TouchesNothing, WritesNothing, WritesOnly};
 ghost use Rattle.bd_model.specs.Sizes.{sizes_of, disk_bytes, extent_place};
 ghost use Rattle.bd_gate.specs.Superblock.{is_marked, byte_at, open_gate};
+ghost use Rattle.bd_space.specs.Allotment.{TakenExactly, extent_count, held_count};
+ghost use Rattle.bd_catalog.specs.Agreement.{Agrees};
+ghost use Rattle.bd_catalog.specs.Catalogue.{all_extents};
 ghost use Rattle.bd_catalog.specs.Opening.{opened};
 ghost use Rattle.bd_recover.specs.Fresh.{HoldsFresh, InParts, IsNoneOrFresh, fresh_found};
-ghost use Rattle.bd_recover.specs.Answers.{AnswersFormat, ByCount, MeasuresFormat, RefusesUntouched, format_refusal};
+ghost use Rattle.bd_recover.specs.Answers.{AnswersFormat, ByCount, MeasuresFormat, RefusesUntouched, TakesNoMemory, format_refusal};
 
 use crate::fault::FormatFault;
 use crate::fresh::{fresh_half, superblock_body};
+use crate::opening::Opened;
+use bd_catalog::Catalog;
 use bd_disk::{Disk, Failed};
 use bd_gate::{CLOSED_GATE, OPEN_GATE, store};
 use bd_model::Shape;
+use bd_space::Space;
+use std::alloc::Global;
+
+/// Makes the empty store of this shape on a disk, as `format_disk` does, and opens it. All memory is taken before the disk
+/// is asked for anything.
+pub fn format<D: Disk>(alloc: Global, disk: &mut D, shape: Shape) -> Result<Opened, FormatFault>
+    ensures bytes { D.bytes disk.new ≡ D.bytes disk.old }
+    ensures later { D.faults disk.old ≤ D.faults disk.new }
+    ensures cause { ByCount (D.faults disk.old) (D.faults disk.new) result }
+    ensures memory { result ≡ Err FormatFault.OutOfMemory → D.tells → TouchesNothing (D.history disk.old) (D.history disk.new) }
+    ensures size { MeasuresFormat (sizes_of shape) (D.bytes disk.old) result }
+    ensures refused { D.tells → AnswersFormat (format_refusal (sizes_of shape) (D.bytes disk.old) (contents (D.history disk.old))) result }
+    ensures untouched { D.tells → RefusesUntouched result (D.history disk.old) (D.history disk.new) }
+    ensures writes { D.tells → WritesOnly (λ place. place < extent_place (sizes_of shape) 0) (D.history disk.old) (D.history disk.new) }
+    ensures made { IfOk result (λ made. made.catalog.found ≡ fresh_found (sizes_of shape)) }
+    ensures agrees { IfOk result (λ made. D.tells → Agrees made.catalog.found (D.history disk.new)) }
+    ensures settled { OnOk result (D.tells → IsSettled (D.history disk.new)) }
+    ensures owners { IfOk result (λ made. TakenExactly made.space (all_extents made.catalog.found.catalogue)) }
+    ensures extents { IfOk result (λ made. extent_count made.space ≡ made.catalog.found.sizes.extents) }
+    ensures held { IfOk result (λ made. held_count made.space ≡ 0) }
+    // A stop at any moment leaves no store or the empty one.
+    ensures stops { D.tells → is_marked (contents (D.history disk.old)) ≡ false → IsSettled (D.history disk.old)
+        → LeavesSince (IsNoneOrFresh (sizes_of shape)) (D.history disk.old) (D.history disk.new) }
+{
+    let catalog = Catalog::empty(alloc, shape)?;
+    let space = Space::new(alloc, shape.extents())?;
+    format_disk(disk, &shape)?;
+    Ok(Opened { catalog, space })
+}
 
 /// Makes the empty store of this shape on a disk that is large enough and isn't a store already. The gate of the
 /// superblock is closed first and opened last, so that a stop leaves no store or the empty one.
@@ -21,6 +55,7 @@ pub fn format_disk<D: Disk>(disk: &mut D, shape: &Shape) -> Result<(), FormatFau
     ensures bytes { D.bytes disk.new ≡ D.bytes disk.old }
     ensures later { D.faults disk.old ≤ D.faults disk.new }
     ensures cause { ByCount (D.faults disk.old) (D.faults disk.new) result }
+    ensures memory { TakesNoMemory result }
     ensures size { MeasuresFormat (sizes_of shape.now) (D.bytes disk.old) result }
     ensures refused { D.tells → AnswersFormat (format_refusal (sizes_of shape.now) (D.bytes disk.old) (contents (D.history disk.old))) result }
     ensures untouched { D.tells → RefusesUntouched result (D.history disk.old) (D.history disk.new) }
@@ -43,6 +78,7 @@ fn shut_gate<D: Disk>(disk: &mut D, shape: &Shape) -> Result<(), FormatFault>
     ensures bytes { D.bytes disk.new ≡ D.bytes disk.old }
     ensures later { D.faults disk.old ≤ D.faults disk.new }
     ensures cause { ByCount (D.faults disk.old) (D.faults disk.new) result }
+    ensures memory { TakesNoMemory result }
     ensures size { MeasuresFormat (sizes_of shape.now) (D.bytes disk.old) result }
     ensures refused { D.tells → AnswersFormat (format_refusal (sizes_of shape.now) (D.bytes disk.old) (contents (D.history disk.old))) result }
     ensures untouched { D.tells → RefusesUntouched result (D.history disk.old) (D.history disk.new) }
@@ -63,6 +99,7 @@ fn asks_for_closing<D: Disk>(disk: &mut D, shape: &Shape) -> Result<bool, Format
     ensures bytes { D.bytes disk.new ≡ D.bytes disk.old }
     ensures later { D.faults disk.old ≤ D.faults disk.new }
     ensures cause { ByCount (D.faults disk.old) (D.faults disk.new) result }
+    ensures memory { TakesNoMemory result }
     ensures size { MeasuresFormat (sizes_of shape.now) (D.bytes disk.old) result }
     ensures refused { D.tells → AnswersFormat (format_refusal (sizes_of shape.now) (D.bytes disk.old) (contents (D.history disk.old))) result }
     ensures writes { D.tells → WritesNothing (D.history disk.old) (D.history disk.new) }

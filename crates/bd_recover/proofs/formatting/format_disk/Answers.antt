@@ -2,7 +2,7 @@ use Rattle.bd_disk.proofs.Frames.{made_both, leaves_both}
 use Rattle.bd_model.specs.Sizes.{sizes_of}
 use Rattle.bd_recover.proofs.Stops.{behind, gate_before, made, opens, parts_before}
 use Rattle.std.proofs.Common.{refl}
-use Rattle.bd_recover.proofs.format.format_disk.Goals as goal
+use Rattle.bd_recover.proofs.formatting.format_disk.Goals as goal
 
 pub returns-in_err-shut_gate-clause-writes : goal.returns-in_err-shut_gate-clause-writes
 returns-in_err-shut_gate-clause-writes g c = λ told. gate_before (sizes_of c.args.shape.now) refl (c.shut_gate.ensures.writes told)

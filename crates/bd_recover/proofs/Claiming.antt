@@ -1,0 +1,172 @@
+-- The extents of owners that are claimed one after the other.
+use Rattle.std.proofs.Common.{◌≡◌, inl, inr, ℕ, zero, suc, ◌+◌, ◌<◌, ◌≤◌, Bool, true, List, [], ◌∷◌, ◌++◌, length, drop, get_or, map, refl, sym, ◌∙◌, ap, subst, arith, replicate, All, Contains, slice_get, Some, nat_eq, nat_lt}
+use Rattle.std.specs.List.{IsDistinct, flat_map, list_all}
+use Rattle.std.proofs.lemmas.Bool.{ltb-true}
+use Rattle.std.proofs.lemmas.List.{at_drop_more, drop_all}
+use Rattle.std.proofs.lemmas.List.Elements.{All-nil, All-cons, All-append, All-contains, All-contains_itself, All-weaker, Contains-append_left, Contains-append_right}
+use Rattle.bd_model.proofs.ListLemmas.{left_and, right_and}
+use Rattle.bd_space.specs.declared.space.Use.{Use}
+use Rattle.bd_space.specs.declared.space.Use.TheVariants.{Free, Taken}
+use Rattle.bd_space.specs.Allotment.{Allotment, IsFree, Marks, TakenExactly, held_count}
+use Rattle.bd_space.proofs.Distinct.{distinct_left, distinct_right, distinct_apart}
+use Rattle.bd_space.proofs.Exact.{TakenExactly-new, TakenExactly-append}
+use Rattle.bd_space.proofs.Numbers.{Contains_decided}
+use Rattle.bd_model.specs.Sizes.{Sizes, sizes_of}
+use Rattle.bd_model.specs.declared.shape.Shape.{Shape}
+use Rattle.bd_catalog.specs.declared.rows.ActiveCategory.{ActiveCategory}
+use Rattle.bd_catalog.specs.declared.rows.ClosedVolume.{ClosedVolume}
+use Rattle.bd_catalog.specs.declared.rows.VersionRow.{VersionRow}
+use Rattle.bd_catalog.specs.Catalogue.{Catalogue, VersionEntry, VolumeEntry, OpenEntry, all_extents}
+use Rattle.bd_catalog.specs.Shown.{version_entry, volume_entry, open_entry}
+use Rattle.bd_catalog.specs.Rules.{obeys, all_differ}
+use Rattle.bd_catalog.proofs.Obeying.{rules_of, distinct_of}
+
+marks_none : (u : Use) (space : Allotment) → Marks [] u space space
+marks_none u space = record { size = refl; marked = All-nil (λ n. slice_get space.uses n ≡ Some u); others = λ n out. refl }
+
+marks_both : (u : Use) (xs ys : List ℕ) (a b c : Allotment) → Marks xs u a b → Marks ys u b c → Marks (xs ++ ys) u a c
+marks_both u xs ys a b c first then = record {
+  size = then.size ∙ first.size;
+  marked =
+      All-append (λ n. slice_get c.uses n ≡ Some u) xs ys
+      (All-weaker (λ n. slice_get b.uses n ≡ Some u) (λ n. slice_get c.uses n ≡ Some u)
+      (λ n h. elim (Contains_decided ys n) [
+        | inl here ↦ All-contains (λ m. slice_get c.uses m ≡ Some u) ys n then.marked here
+        | inr out ↦ then.others n out ∙ h
+      ]) xs first.marked)
+      then.marked;
+  others = λ n out. then.others n (λ here. out (Contains-append_right xs ys n here)) ∙ first.others n (λ here. out (Contains-append_left xs ys n here));
+}
+
+-- numbers that are free and don't stand among those that are marked stay free
+free_behind : (u : Use) (xs ys : List ℕ) (a b : Allotment) → All (IsFree a) (xs ++ ys) → IsDistinct nat_eq (xs ++ ys) → Marks xs u a b → All (IsFree b) ys
+free_behind u xs ys a b free distinct marks =
+    All-weaker (Contains ys) (IsFree b)
+    (λ n here. marks.others n (λ left. distinct_apart xs ys n distinct left here) ∙ All-contains (IsFree a) (xs ++ ys) n free (Contains-append_right xs ys n here))
+    ys (All-contains_itself ys)
+
+free_front : (a : Allotment) (xs ys : List ℕ) → All (IsFree a) (xs ++ ys) → All (IsFree a) xs
+free_front a xs ys free =
+    All-weaker (Contains xs) (IsFree a) (λ n here. All-contains (IsFree a) (xs ++ ys) n free (Contains-append_left xs ys n here)) xs (All-contains_itself xs)
+
+-- of all numbers these are still to claim
+pub record IsClaiming (rest all : List ℕ) (old now : Allotment) : Type 0 where
+  pub free : All (IsFree now) rest
+  pub distinct : IsDistinct nat_eq rest
+  pub taken : (new : Allotment) → Marks rest Taken now new → Marks all Taken old new
+  pub held : held_count now ≡ held_count old
+
+pub claiming_all : (all : List ℕ) (old : Allotment) → All (IsFree old) all → IsDistinct nat_eq all → IsClaiming all all old old
+claiming_all all old free distinct = record { free = free; distinct = distinct; taken = λ new marks. marks; held = refl }
+
+module _ {X : Type 0} (f : X → List ℕ) (xs : List X) (all : List ℕ) (old : Allotment) where
+  -- the next owner's numbers stand first
+  module _ (i : ℕ) (x : X) (is : x ≡ get_or xs i x) (more : i < length xs) (now : Allotment) (claiming : IsClaiming (flat_map f (drop i xs)) all old now) where
+    abbrev behind : List ℕ
+    behind = flat_map f (drop (i + 1) xs)
+
+    here : flat_map f (drop i xs) ≡ f x ++ behind
+    here = at_drop_more (λ (ys : List X). flat_map f ys) xs i x more ∙ ap (λ (y : X). f y ++ behind) (sym is)
+
+    pub next_free : All (IsFree now) (f x)
+    next_free = free_front now (f x) behind (subst (All (IsFree now)) here claiming.free)
+
+    pub next_distinct : IsDistinct nat_eq (f x)
+    next_distinct = distinct_left (f x) behind (subst (IsDistinct nat_eq) here claiming.distinct)
+
+    pub next_claimed : (new : Allotment) → Marks (f x) Taken now new → held_count new ≡ held_count now → IsClaiming behind all old new
+    next_claimed new marks held =
+        let free : All (IsFree now) (f x ++ behind) = subst (All (IsFree now)) here claiming.free in
+        let distinct : IsDistinct nat_eq (f x ++ behind) = subst (IsDistinct nat_eq) here claiming.distinct in
+        record {
+          free = free_behind Taken (f x) behind now new free distinct marks;
+          distinct = distinct_right (f x) behind distinct;
+          taken = λ last rest. claiming.taken last (subst (λ ns. Marks ns Taken now last) (sym here) (marks_both Taken (f x) behind now new last marks rest));
+          held = held ∙ claiming.held;
+        }
+
+  -- once none is left
+  pub all_claimed : (i : ℕ) (now : Allotment) → length xs ≤ i → IsClaiming (flat_map f (drop i xs)) all old now → Marks all Taken old now
+  all_claimed i now past claiming =
+      let none : flat_map f (drop i xs) ≡ [] = ap (flat_map f) (drop_all i xs past) in
+      claiming.taken now (subst (λ ns. Marks ns Taken now now) (sym none) (marks_none Taken now))
+
+-- ---- a whole catalogue
+
+free_of : (k n : ℕ) → n < k → slice_get (replicate k Free) n ≡ Some Free
+free_of zero n below = absurd (omega arith)
+free_of (suc k) zero below = refl
+free_of (suc k) (suc n) below = free_of k n (omega arith)
+
+all_free : (top : ℕ) (space : Allotment) (ns : List ℕ) → space.uses ≡ replicate top Free → list_all (λ n. nat_lt n top) ns ≡ true → All (IsFree space) ns
+all_free top space [] new below = All-nil (IsFree space)
+all_free top space (n ∷ ns) new below =
+    All-cons (IsFree space) n ns
+    (ap (λ us. slice_get us n) new ∙ free_of top n (ltb-true n top (left_and (nat_lt n top) (list_all (λ m. nat_lt m top) ns) below)))
+    (all_free top space ns new (right_and (nat_lt n top) (list_all (λ m. nat_lt m top) ns) below))
+
+pub mapped : {X Y : Type 0} (f : Y → List ℕ) (g : X → Y) (xs : List X) → flat_map f (map g xs) ≡ flat_map (λ x. f (g x)) xs
+mapped f g [] = refl
+mapped f g (x ∷ xs) = ap (λ ns. f (g x) ++ ns) (mapped f g xs)
+
+-- the lists of three kinds of owners, of a catalogue that obeys its rules
+pub record IsOwned (s : Sizes) (c : Catalogue) (xs ys zs : List ℕ) (space : Allotment) : Type 0 where
+  pub obeyed : obeys s c ≡ true
+  pub lists : all_extents c ≡ xs ++ ys ++ zs
+  pub new : space.uses ≡ replicate s.extents Free
+
+module _ (s : Sizes) (c : Catalogue) (xs ys zs : List ℕ) (space : Allotment) (owned : IsOwned s c xs ys zs space) where
+  abbrev below : Bool
+  below = list_all (λ n. nat_lt n s.extents) (all_extents c)
+
+  free_all : All (IsFree space) (xs ++ ys ++ zs)
+  free_all = subst (All (IsFree space)) owned.lists (all_free s.extents space (all_extents c) owned.new (left_and below (all_differ (all_extents c)) (rules_of s c owned.obeyed).extents))
+
+  distinct_all : IsDistinct nat_eq (xs ++ ys ++ zs)
+  distinct_all = subst (IsDistinct nat_eq) owned.lists (distinct_of (all_extents c) (right_and below (all_differ (all_extents c)) (rules_of s c owned.obeyed).extents))
+
+  pub first_free : All (IsFree space) xs
+  first_free = free_front space xs ys (free_front space (xs ++ ys) zs free_all)
+
+  pub first_distinct : IsDistinct nat_eq xs
+  first_distinct = distinct_left xs ys (distinct_left (xs ++ ys) zs distinct_all)
+
+  module _ (one : Allotment) (first : Marks xs Taken space one) where
+    pub second_free : All (IsFree one) ys
+    second_free = free_behind Taken xs ys space one (free_front space (xs ++ ys) zs free_all) (distinct_left (xs ++ ys) zs distinct_all) first
+
+    pub second_distinct : IsDistinct nat_eq ys
+    second_distinct = distinct_right xs ys (distinct_left (xs ++ ys) zs distinct_all)
+
+    module _ (two : Allotment) (second : Marks ys Taken one two) where
+      pub third_free : All (IsFree two) zs
+      third_free = free_behind Taken (xs ++ ys) zs space two free_all distinct_all (marks_both Taken xs ys space one two first second)
+
+      pub third_distinct : IsDistinct nat_eq zs
+      third_distinct = distinct_right (xs ++ ys) zs distinct_all
+
+      pub all_taken : (three : Allotment) → Marks zs Taken two three → TakenExactly three (all_extents c)
+      all_taken three third =
+          subst (TakenExactly three) (sym owned.lists)
+          (TakenExactly-append space three [] (xs ++ ys ++ zs) (TakenExactly-new space s.extents owned.new) free_all distinct_all
+          (marks_both Taken (xs ++ ys) zs space two three (marks_both Taken xs ys space one two first second) third))
+
+pub owned : (shape : Shape) (s : Sizes) (c : Catalogue) (xs ys zs : List ℕ) (space : Allotment) (n : ℕ) → obeys s c ≡ true → sizes_of shape ≡ s → n ≡ shape.extents → space.uses ≡ replicate n Free
+    → flat_map (λ (e : VersionEntry). e.extents) c.versions ≡ xs → flat_map (λ (e : VolumeEntry). e.extents) c.volumes ≡ ys → flat_map (λ (e : OpenEntry). e.extents) c.actives ≡ zs
+    → IsOwned s c xs ys zs space
+owned shape s c xs ys zs space n obeyed sizes count new first second third = record {
+  obeyed = obeyed;
+  lists = λ i. first i ++ second i ++ third i;
+  new = new ∙ ap (λ m. replicate m Free) (count ∙ ap (λ (t : Sizes). t.extents) sizes);
+}
+
+-- the extents of rows in memory are those of their entries
+pub recipes : (rows : List VersionRow) (entries : List VersionEntry) → map version_entry rows ≡ entries → flat_map (λ (e : VersionEntry). e.extents) entries ≡ flat_map (λ (x : VersionRow). x.recipe.numbers) rows
+recipes rows entries same = ap (flat_map (λ (e : VersionEntry). e.extents)) (sym same) ∙ mapped (λ (e : VersionEntry). e.extents) version_entry rows
+
+pub closed : (rows : List ClosedVolume) (entries : List VolumeEntry) → map volume_entry rows ≡ entries → flat_map (λ (e : VolumeEntry). e.extents) entries ≡ flat_map (λ (x : ClosedVolume). x.extents.numbers) rows
+closed rows entries same = ap (flat_map (λ (e : VolumeEntry). e.extents)) (sym same) ∙ mapped (λ (e : VolumeEntry). e.extents) volume_entry rows
+
+pub opens : (rows items : List ActiveCategory) (entries : List OpenEntry) → rows ≡ items → map open_entry items ≡ entries → flat_map (λ (e : OpenEntry). e.extents) entries ≡ flat_map (λ (x : ActiveCategory). x.extents.numbers) rows
+opens rows items entries slice same =
+    ap (flat_map (λ (e : OpenEntry). e.extents)) (sym same ∙ ap (map open_entry) (sym slice)) ∙ mapped (λ (e : OpenEntry). e.extents) open_entry rows

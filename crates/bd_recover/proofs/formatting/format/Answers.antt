@@ -1,0 +1,21 @@
+use Rattle.std.proofs.Common.{subst, sym}
+use Rattle.bd_disk.specs.Made.{IsNoWrite}
+use Rattle.bd_disk.proofs.Frames.{made_none}
+use Rattle.bd_model.specs.Sizes.{sizes_of}
+use Rattle.bd_space.specs.Allotment.{TakenExactly}
+use Rattle.bd_catalog.specs.Catalogue.{all_extents}
+use Rattle.bd_catalog.specs.Opening.{Found}
+use Rattle.bd_space.proofs.Exact.{TakenExactly-new}
+use Rattle.bd_recover.proofs.Stops.{asked}
+use Rattle.bd_recover.proofs.formatting.format.Goals as goal
+
+pub returns-in_err-catalog-clause-stops : goal.returns-in_err-catalog-clause-stops
+returns-in_err-catalog-clause-stops g c = λ told none settled. asked (sizes_of c.args.shape) none settled (made_none IsNoWrite (g.D.Disk.history c.args.disk.now))
+
+pub returns-in_err-space-clause-stops : goal.returns-in_err-space-clause-stops
+returns-in_err-space-clause-stops g c = λ told none settled. asked (sizes_of c.args.shape) none settled (made_none IsNoWrite (g.D.Disk.history c.args.disk.now))
+
+pub returns-clause-owners : goal.returns-clause-owners
+returns-clause-owners g c =
+    subst (λ (f : Found). TakenExactly c.in_ok-space.space (all_extents f.catalogue)) (sym c.in_ok-catalog.ensures)
+    (TakenExactly-new c.in_ok-space.space _ c.in_ok-space.ensures.uses)
