@@ -2,5 +2,10 @@
 #![tactic(auto)]
 
 mod entry;
+mod fault;
+mod limits;
+mod recipe;
 
 pub use entry::write_entry;
+pub use fault::ReadFault;
+pub use recipe::Recipe;
