@@ -1,10 +1,12 @@
 -- Entries that stand behind each other, and the first that fails.
-use Rattle.std.proofs.Common.{◌≡◌, ℕ, zero, suc, ◌+◌, ◌*◌, ◌≤◌, ◌-◌, Bool, true, false, cond, ◌&&◌, List, [], ◌∷◌, ◌++◌, length, take, drop, get_or, refl, sym, ◌∙◌, ap, subst, arith, Option, Some, None, slice_get, length-append, drop-drop, map}
+use Rattle.std.proofs.Common.{◌≡◌, ℕ, zero, suc, ◌+◌, ◌*◌, ◌≤◌, ◌<◌, ◌^◌, ◌-◌, Bool, true, false, cond, ◌&&◌, List, [], ◌∷◌, ◌++◌, length, take, drop, get_or, refl, sym, ◌∙◌, ap, subst, arith, Option, Some, None, slice_get, length-append, drop-drop, map}
 use Rattle.std.proofs.lemmas.List.{take-take, drop-take}
+use Rattle.std.proofs.lemmas.List.Folds.{list_all-append}
+use Rattle.std.proofs.lemmas.Nat.{from_be_bytes-to_be_bytes_4}
 use Rattle.std.specs.List.{list_all}
 use Rattle.std.specs.Int.{w32, from_be_bytes}
 use Rattle.bd_model.proofs.ListLemmas.{left_and, right_and}
-use Rattle.bd_model.specs.Records.{entry_at, entries_in}
+use Rattle.bd_model.specs.Records.{four, entry_at, entries_in}
 use Rattle.bd_model.specs.declared.layout.RecipeEntry.{RecipeEntry}
 use Rattle.bd_model.specs.declared.damage.Damage.{Damage}
 use Rattle.bd_model.specs.declared.damage.Damage.TheVariants.{Entry}
@@ -99,3 +101,41 @@ module _ (holds : RecipeEntry → Bool) (v : ℕ) where
             let here : index ≡ index + 0 = omega arith in
             record { place = 0; entry = x; there = refl; fails = fails; so = sym same ∙ ap (λ k. Entry v k x.length x.start) here }
       ] refl is
+
+-- ---- one entry more
+
+module _ (holds : RecipeEntry → Bool) where
+  pub all-more : (xs : List RecipeEntry) (x : RecipeEntry) → list_all holds xs ≡ true → holds x ≡ true → list_all holds (xs ++ x ∷ []) ≡ true
+  all-more xs x all here = list_all-append holds xs (x ∷ []) ∙ ap (λ b. b && (holds x && true)) all ∙ ap (λ b. b && true) here
+
+  -- of the entries of a piece all before the one of this index hold
+  pub all-behind : (xs ys : List RecipeEntry) → list_all holds (xs ++ ys) ≡ true → list_all holds ys ≡ true
+  all-behind xs ys all = right_and (list_all holds xs) (list_all holds ys) (sym (list_all-append holds xs ys) ∙ all)
+
+-- an entry of a piece fails
+pub first_bad-at : (holds : RecipeEntry → Bool) (v : ℕ) (xs : List RecipeEntry) (bytes : List ℕ) (at count : ℕ) → at < count → list_all holds (xs ++ entries_in at bytes) ≡ true → holds (entry_at (drop (40 * at) bytes)) ≡ false →
+    let e = entry_at (drop (40 * at) bytes) in
+    first_bad holds v (length xs) (entries_in count bytes) ≡ Some (Entry v (length (xs ++ entries_in at bytes)) e.length e.start)
+first_bad-at holds v xs bytes at count lt all fails =
+    let front = entries_in at bytes in
+    let behind = drop (40 * at) bytes in
+    let e = entry_at behind in
+    let rest = count - at - 1 in
+    let is : count ≡ at + suc rest = omega arith in
+    let place : length xs + length front ≡ length (xs ++ front) = sym (length-append xs front) in
+    ap (λ n. first_bad holds v (length xs) (entries_in n bytes)) is
+    ∙ ap (first_bad holds v (length xs)) (entries_in-add at (suc rest) bytes)
+    ∙ first_bad-behind holds v (length xs) front (entries_in (suc rest) behind) (all-behind holds xs front all)
+    ∙ first_bad-here holds v (length xs + length front) e (entries_in rest (drop 40 behind)) fails
+    ∙ ap (λ k. Some (Entry v k e.length e.start)) place
+
+-- ---- the fields of an entry
+
+pub entry_at-fields : (bytes mark second third : List ℕ) (n start : ℕ) → n < 2 ^ 32 → start < 2 ^ 32 →
+    mark ≡ take 32 bytes → drop 32 bytes ≡ four n ++ second → second ≡ four start ++ third →
+    ◌≡◌ {A = RecipeEntry} (record { mark = record { 0 = mark }; length = n; start = start }) (entry_at bytes)
+entry_at-fields bytes mark second third n start fits_n fits_start marked one two =
+    let last : drop 36 bytes ≡ four start ++ third = sym (drop-drop 4 32 bytes) ∙ ap (drop 4) one ∙ two in
+    let size : n ≡ from_be_bytes w32 (take 4 (drop 32 bytes)) = sym (ap (λ l. from_be_bytes w32 (take 4 l)) one ∙ from_be_bytes-to_be_bytes_4 n fits_n) in
+    let begins : start ≡ from_be_bytes w32 (take 4 (drop 36 bytes)) = sym (ap (λ l. from_be_bytes w32 (take 4 l)) last ∙ from_be_bytes-to_be_bytes_4 start fits_start) in
+    λ i. record { mark = record { 0 = marked i }; length = size i; start = begins i }

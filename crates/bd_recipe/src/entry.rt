@@ -1,18 +1,18 @@
-ghost use Rattle.std.specs.Prelude.{◌≡◌, ◌+◌, ◌*◌, ◌≤◌, [], length, OnOk};
+ghost use Rattle.std.specs.Prelude.{◌≡◌, ◌+◌, ◌*◌, ◌≤◌, [], length, drop, OnOk};
 ghost use Rattle.bd_disk.specs.Calls.{HasCause};
 ghost use Rattle.bd_disk.specs.History.{contents};
 ghost use Rattle.bd_disk.specs.Images.{overwritten};
 ghost use Rattle.bd_disk.specs.Made.{WritesOnly};
 ghost use Rattle.bd_disk.specs.Trace.{ReadsOnly};
 ghost use Rattle.bd_model.specs.Sizes.{sizes_of, disk_bytes};
-ghost use Rattle.bd_model.specs.Records.{spelled_entry};
+ghost use Rattle.bd_model.specs.Records.{entry_at, spelled_entry};
 ghost use Rattle.bd_model.specs.Extents.{owner_bytes};
 ghost use Rattle.bd_extio.specs.Ranges.{AreExtents, InOwner, IsWithin};
 
 use bd_disk::{Disk, Failed};
 use bd_extio::write_at;
 use bd_model::{Mark, RecipeEntry, Shape};
-use bd_wire::put_u32;
+use bd_wire::{Cursor, put_u32};
 
 /// The bytes of an entry.
 pub(crate) const ENTRY: usize = 40;
@@ -57,4 +57,21 @@ fn put_mark(into: &mut [u8], at: usize, mark: &Mark)
     ensures sized { length mark.now.0 ≡ 32 }
 {
     into[at..at + 32].copy_from_slice(&mark.0);
+}
+
+// The entry that the 40 bytes from place `at` on say.
+pub(crate) fn entry_from(bytes: &[u8], at: usize) -> RecipeEntry
+    requires { at + 40 ≤ length bytes.now }
+    ensures { result ≡ entry_at (drop at bytes.now) }
+{
+    let mut mark = [0u8; 32];
+    mark.copy_from_slice(&bytes[at..at + 32]);
+    let mut fields = Cursor::new(&bytes[at + 32..]);
+    let length = fields.take_u32().unwrap();
+    let start = fields.take_u32().unwrap();
+    RecipeEntry {
+        mark: Mark(mark),
+        length,
+        start,
+    }
 }
