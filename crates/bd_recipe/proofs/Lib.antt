@@ -1,2 +1,4 @@
+pub mod Answering
 pub mod Entries
+pub mod Pieces
 pub mod Spelling

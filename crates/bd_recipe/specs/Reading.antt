@@ -2,6 +2,9 @@
 use Rattle.std.specs.Prelude.{◌≡◌, ℕ, ◌+◌, ◌-◌, ◌*◌, ◌≤◌, ◌==◌, List, length, map, sum_by, slice_index_or, All, IsTrue, Option, Some, None, Result, Ok, Err, if◌then◌else◌}
 use Rattle.bd_disk.specs.Calls.{Rose}
 use Rattle.bd_disk.specs.History.{History}
+use Rattle.bd_disk.specs.Trace.{ReadsOnly}
+use Rattle.bd_model.specs.Extents.{places_at}
+use Rattle.bd_model.specs.Records.{entries_in}
 use Rattle.bd_model.specs.Roomy.{Roomy}
 use Rattle.bd_model.specs.Sizes.{Sizes}
 use Rattle.bd_model.specs.declared.layout.RecipeEntry.{RecipeEntry}
@@ -10,7 +13,8 @@ use Rattle.bd_model.specs.declared.damage.Damage.TheVariants.{Sum}
 use Rattle.bd_catalog.specs.Catalogue.{Catalogue, oldest_in}
 use Rattle.bd_catalog.specs.Damages.{IsSeen}
 use Rattle.bd_catalog.specs.Sound.{recipe_of, entry_holds}
-use Rattle.bd_recipe.specs.Entries.{first_bad}
+use Rattle.bd_recipe.specs.Entries.{first_bad, is_within}
+use Rattle.bd_recipe.specs.declared.limits.Limits.{Limits}
 use Rattle.bd_recipe.specs.declared.fault.ReadFault.{ReadFault}
 use Rattle.bd_recipe.specs.declared.fault.ReadFault.TheVariants.{DiskFault, Damaged, OutOfMemory}
 
@@ -55,6 +59,20 @@ IfDamaged (Ok value) P = Unit {0}
 IfDamaged (Err DiskFault) P = Unit {0}
 IfDamaged (Err (Damaged damage)) P = P damage
 IfDamaged (Err OutOfMemory) P = Unit {0}
+
+-- of every answer that comes after all was read
+abbrev pub OnRead : {T : Type 0} → Result T ReadFault → Type 0 → Type 0
+OnRead (Ok value) P = P
+OnRead (Err DiskFault) P = Unit {0}
+OnRead (Err (Damaged damage)) P = P
+OnRead (Err OutOfMemory) P = Unit {0}
+
+-- so many entries were read of an owner's bytes, and the first among them that isn't within the limits is this damage
+pub record ReadsTo (limits : Limits) (s : Sizes) (extents owner : List ℕ) (chunks : ℕ) (damage : Damage) (old new : History) : Type 0 where
+  pub count : ℕ
+  pub inside : count ≤ chunks
+  pub bad : first_bad (is_within limits) limits.version 0 (entries_in count owner) ≡ Some damage
+  pub reads : ReadsOnly (places_at s extents 0 (40 * count)) old new
 
 -- a fault of the disk comes only where its count rose, and every other answer only where it stayed
 abbrev pub ByCount : {T : Type 0} → ℕ → ℕ → Result T ReadFault → Type 0
