@@ -3,9 +3,19 @@ use Rattle.std.proofs.Common.{◌≡◌, sym, subst}
 use Rattle.std.specs.Prelude.{Result, Ok, Err, IsErrAnd}
 use Rattle.bd_model.specs.declared.damage.Damage.{Damage}
 use Rattle.bd_recipe.specs.declared.fault.ReadFault.{ReadFault}
-use Rattle.bd_recipe.specs.declared.fault.ReadFault.TheVariants.{Damaged}
-use Rattle.bd_recipe.specs.Reading.{IfDamaged}
+use Rattle.bd_recipe.specs.declared.fault.ReadFault.TheVariants.{DiskFault, Damaged, OutOfMemory}
+use Rattle.bd_recipe.specs.Reading.{IfDamaged, OnRead}
 
 pub if_damaged : {T : Type 0} (P : Damage → Type 0) (damage : Damage) (result : Result T ReadFault) → IsErrAnd result (λ e. e ≡ Damaged damage) → P damage → IfDamaged result P
 if_damaged P damage (Ok value) is p = absurd is
 if_damaged {T} P damage (Err e) is p = subst (λ f. IfDamaged {T = T} (Err f) P) (sym is) p
+
+-- a fault that is passed on, after all was read
+pub if_damaged_on : (T : Type 0) {U : Type 0} (P R : Damage → Type 0) (Q : Type 0) (fault : ReadFault) (result : Result U ReadFault) → IsErrAnd result (λ e. e ≡ fault) →
+    IfDamaged {T = T} (Err fault) P → OnRead {T = T} (Err fault) Q → ((damage : Damage) → P damage → Q → R damage) → IfDamaged result R
+if_damaged_on T P R Q fault (Ok value) is p q step = absurd is
+if_damaged_on T {U} P R Q fault (Err e) is p q step = subst (λ f. IfDamaged {T = U} (Err f) R) (sym is) (same fault p q) where
+  same : (f : ReadFault) → IfDamaged {T = T} (Err f) P → OnRead {T = T} (Err f) Q → IfDamaged {T = U} (Err f) R
+  same DiskFault p q = tt
+  same (Damaged damage) p q = step damage p q
+  same OutOfMemory p q = tt
