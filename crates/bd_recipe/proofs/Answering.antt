@@ -1,10 +1,12 @@
 -- What is known of an answer that a damage made.
-use Rattle.std.proofs.Common.{◌≡◌, sym, subst}
+use Rattle.std.proofs.Common.{◌≡◌, List, sym, subst}
 use Rattle.std.specs.Prelude.{Result, Ok, Err, IsErrAnd}
+use Rattle.bd_model.specs.Roomy.{Roomy}
 use Rattle.bd_model.specs.declared.damage.Damage.{Damage}
+use Rattle.bd_model.specs.declared.layout.RecipeEntry.{RecipeEntry}
 use Rattle.bd_recipe.specs.declared.fault.ReadFault.{ReadFault}
 use Rattle.bd_recipe.specs.declared.fault.ReadFault.TheVariants.{DiskFault, Damaged, OutOfMemory}
-use Rattle.bd_recipe.specs.Reading.{IfDamaged, OnRead}
+use Rattle.bd_recipe.specs.Reading.{AnswersRecipe, IfDamaged, OnRead}
 
 pub if_damaged : {T : Type 0} (P : Damage → Type 0) (damage : Damage) (result : Result T ReadFault) → IsErrAnd result (λ e. e ≡ Damaged damage) → P damage → IfDamaged result P
 if_damaged P damage (Ok value) is p = absurd is
@@ -19,3 +21,22 @@ if_damaged_on T {U} P R Q fault (Err e) is p q step = subst (λ f. IfDamaged {T 
   same DiskFault p q = tt
   same (Damaged damage) p q = step damage p q
   same OutOfMemory p q = tt
+
+-- the answer that is expected, where a fault is passed on
+pub answers_on : (P : Damage → Type 0) (expected : Result (List RecipeEntry) Damage) (fault : ReadFault) (result : Result (Roomy RecipeEntry) ReadFault) → IsErrAnd result (λ e. e ≡ fault) →
+    IfDamaged {T = Roomy RecipeEntry} (Err fault) P → ((damage : Damage) → P damage → expected ≡ Err damage) → AnswersRecipe expected result
+answers_on P expected fault (Ok value) is p step = absurd is
+answers_on P expected fault (Err e) is p step = subst (λ f. AnswersRecipe expected (Err f)) (sym is) (same fault p) where
+  same : (f : ReadFault) → IfDamaged {T = Roomy RecipeEntry} (Err f) P → AnswersRecipe expected (Err f)
+  same DiskFault p = tt
+  same (Damaged damage) p = step damage p
+  same OutOfMemory p = tt
+
+pub damaged_on : (P R : Damage → Type 0) (fault : ReadFault) (result : Result (Roomy RecipeEntry) ReadFault) → IsErrAnd result (λ e. e ≡ fault) →
+    IfDamaged {T = Roomy RecipeEntry} (Err fault) P → ((damage : Damage) → P damage → R damage) → IfDamaged result R
+damaged_on P R fault (Ok value) is p step = absurd is
+damaged_on P R fault (Err e) is p step = subst (λ f. IfDamaged {T = Roomy RecipeEntry} (Err f) R) (sym is) (same fault p) where
+  same : (f : ReadFault) → IfDamaged {T = Roomy RecipeEntry} (Err f) P → IfDamaged {T = Roomy RecipeEntry} (Err f) R
+  same DiskFault p = tt
+  same (Damaged damage) p = step damage p
+  same OutOfMemory p = tt

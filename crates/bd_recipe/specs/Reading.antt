@@ -10,9 +10,10 @@ use Rattle.bd_model.specs.Sizes.{Sizes}
 use Rattle.bd_model.specs.declared.layout.RecipeEntry.{RecipeEntry}
 use Rattle.bd_model.specs.declared.damage.Damage.{Damage}
 use Rattle.bd_model.specs.declared.damage.Damage.TheVariants.{Sum}
-use Rattle.bd_catalog.specs.Catalogue.{Catalogue, oldest_in}
+use Rattle.bd_catalog.specs.Catalogue.{Catalogue, oldest_in, recipe_extents}
 use Rattle.bd_catalog.specs.Damages.{IsSeen}
 use Rattle.bd_catalog.specs.Sound.{recipe_of, entry_holds}
+use Rattle.bd_extio.specs.Ranges.{InOwner}
 use Rattle.bd_recipe.specs.Entries.{first_bad, is_within}
 use Rattle.bd_recipe.specs.declared.limits.Limits.{Limits}
 use Rattle.bd_recipe.specs.declared.fault.ReadFault.{ReadFault}
@@ -59,6 +60,13 @@ IfDamaged (Ok value) P = Unit {0}
 IfDamaged (Err DiskFault) P = Unit {0}
 IfDamaged (Err (Damaged damage)) P = P damage
 IfDamaged (Err OutOfMemory) P = Unit {0}
+
+-- where the recipe of version v lies
+abbrev pub recipe_places : Sizes → Catalogue → ℕ → List ℕ
+recipe_places s c v = places_at s (recipe_extents c v) 0 (40 * chunks_in c v)
+
+abbrev pub InRecipe : Sizes → Catalogue → ℕ → ℕ → Type 0
+InRecipe s c v place = InOwner s (recipe_extents c v) 0 (40 * chunks_in c v) place
 
 -- of every answer that comes after all was read
 abbrev pub OnRead : {T : Type 0} → Result T ReadFault → Type 0 → Type 0

@@ -8,4 +8,4 @@ mod recipe;
 
 pub use entry::write_entry;
 pub use fault::ReadFault;
-pub use recipe::Recipe;
+pub use recipe::{Recipe, read_recipe};

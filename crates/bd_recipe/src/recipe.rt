@@ -8,12 +8,15 @@ ghost use Rattle.bd_model.specs.Sizes.{sizes_of, disk_bytes};
 ghost use Rattle.bd_model.specs.Extents.{owner_bytes, places_at};
 ghost use Rattle.bd_model.specs.Records.{entries_in};
 ghost use Rattle.bd_extio.specs.Ranges.{AreExtents, InOwner, IsWithin};
+ghost use Rattle.bd_catalog.specs.Catalogue.{oldest_in};
+ghost use Rattle.bd_catalog.specs.Damages.{IsSeen};
 ghost use Rattle.bd_recipe.specs.Entries.{first_bad, is_within};
-ghost use Rattle.bd_recipe.specs.Reading.{FailsByCount, IfDamaged, OnRead, ReadsTo, total};
+ghost use Rattle.bd_recipe.specs.Reading.{AnswersRecipe, FailsByCount, IfDamaged, InRecipe, IsRecipe, OnRead, ReadsTo, recipe_found, recipe_places, total};
 
 use crate::entry::{ENTRY, entry_from};
 use crate::fault::ReadFault;
 use crate::limits::Limits;
+use bd_catalog::Catalog;
 use bd_disk::Disk;
 use bd_extio::read_at;
 use bd_model::{Damage, RecipeEntry, Sequence, Shape};
@@ -21,6 +24,43 @@ use std::alloc::Global;
 
 /// The entries of a version, one for each chunk of its stream, in order.
 pub type Recipe = Sequence<RecipeEntry>;
+
+/// Reads the recipe of a retained version, and checks that each entry has a length of 1 to `max` and a start past the base
+/// and up to the version, and that the lengths add up to the version's. It takes memory for the entries alone.
+pub fn read_recipe<D: Disk>(
+    alloc: Global,
+    disk: &mut D,
+    catalog: &Catalog,
+    version: u32,
+) -> Result<Recipe, ReadFault>
+    requires room { disk_bytes catalog.now.found.sizes ≤ D.bytes disk.old }
+    requires oldest { oldest_in catalog.now.found.catalogue ≤ version }
+    requires newest { version ≤ catalog.now.found.catalogue.newest }
+    ensures bytes { D.bytes disk.new ≡ D.bytes disk.old }
+    ensures cause { FailsByCount (D.faults disk.old) (D.faults disk.new) result }
+    ensures recipe { IfOk result (λ recipe. IsRecipe catalog.now.found.sizes catalog.now.found.catalogue version recipe.items) }
+    ensures writes { D.tells → WritesNothing (D.history disk.old) (D.history disk.new) }
+    ensures looks { D.tells → LooksOnlyAt (InRecipe catalog.now.found.sizes catalog.now.found.catalogue version) (D.history disk.old) (D.history disk.new) }
+    ensures entries { D.tells → AnswersRecipe (recipe_found catalog.now.found.sizes catalog.now.found.catalogue (contents (D.history disk.old)) version) result }
+    ensures places { OnOk result (D.tells → ReadsOnly (recipe_places catalog.now.found.sizes catalog.now.found.catalogue version) (D.history disk.old) (D.history disk.new)) }
+    ensures seen { IfDamaged result (λ damage. D.tells → IsSeen catalog.now.found.sizes catalog.now.found.catalogue (contents (D.history disk.old)) damage (D.history disk.old) (D.history disk.new)) }
+{
+    let shape = catalog.shape();
+    let row = catalog.version(version).unwrap();
+    let limits = Limits::of(catalog, version);
+    let extents = row.recipe.numbers();
+    let recipe = read_entries(alloc, disk, &shape, extents, row.chunks, &limits)?;
+    let found = total_of(recipe.as_slice());
+    if found != row.length {
+        let damage = Damage::Sum {
+            version,
+            recorded: row.length,
+            found,
+        };
+        return Err(ReadFault::Damaged { damage });
+    }
+    Ok(recipe)
+}
 
 // How many entries are read at a time.
 const PIECE: usize = 1024;
