@@ -1,6 +1,6 @@
 -- What was read of a version's recipe, as the answer that is expected.
-use Rattle.std.proofs.Common.{◌≡◌, ◌≢◌, ℕ, zero, suc, ◌+◌, ◌-◌, ◌*◌, ◌≤◌, Bool, true, false, cond, List, [], ◌∷◌, ◌++◌, length, map, take, drop, refl, sym, ◌∙◌, ap, subst, arith, Option, Some, None, slice_get, append_assoc}
-use Rattle.std.specs.Prelude.{IsTrue, Ok, Err, ◌==◌}
+use Rattle.std.proofs.Common.{◌≡◌, ◌≢◌, ℕ, zero, suc, ◌+◌, ◌-◌, ◌*◌, ◌≤◌, true, cond, List, [], ◌∷◌, ◌++◌, length, take, drop, refl, sym, ◌∙◌, ap, subst, arith, Some, None, slice_get}
+use Rattle.std.specs.Prelude.{Ok, Err}
 use Rattle.std.specs.List.{All, Contains, list_all}
 use Rattle.std.proofs.Math.Seq.{take-add}
 use Rattle.std.proofs.lemmas.Bool.{eq-eqb, ne_eqb}
@@ -21,7 +21,7 @@ use Rattle.bd_catalog.specs.Sound.{recipe_of, entry_holds}
 use Rattle.bd_recipe.specs.Entries.{first_bad, limits_for}
 use Rattle.bd_recipe.specs.Reading.{IsRecipe, ReadsTo, chunks_in, length_in, recipe_found, total, with_sum}
 use Rattle.bd_recipe.specs.declared.limits.Limits.{Limits}
-use Rattle.bd_recipe.proofs.Entries.{IsBad, entries_in-add, first_bad-front, first_bad-is, first_bad-none, length-entries_in}
+use Rattle.bd_recipe.proofs.Entries.{entries_in-add, first_bad-front, first_bad-is, first_bad-none, length-entries_in}
 
 -- the same of equal sizes, extents, counts and limits
 pub moved : (F : Sizes → List ℕ → ℕ → Limits → Type 0) {s s' : Sizes} {extents extents' : List ℕ} {n n' : ℕ} {l l' : Limits} → s' ≡ s → extents' ≡ extents → n' ≡ n → l' ≡ l → F s' extents' n' l' → F s extents n l

@@ -1,7 +1,7 @@
 -- What the rules of a catalogue say of a retained version's recipe.
-use Rattle.std.proofs.Common.{◌≡◌, ◌≢◌, ℕ, zero, suc, ◌+◌, ◌-◌, ◌*◌, ◌/◌, ◌<◌, ◌≤◌, Bool, true, ◌&&◌, List, [], ◌∷◌, ◌++◌, length, map, get_or, refl, sym, ◌∙◌, ap, subst, arith, Option, Some, None, slice_get, nat_le, nat_lt}
+use Rattle.std.proofs.Common.{◌≡◌, ℕ, zero, suc, ◌+◌, ◌-◌, ◌*◌, ◌<◌, ◌≤◌, Bool, true, ◌&&◌, List, [], ◌∷◌, ◌++◌, length, map, get_or, sym, ◌∙◌, ap, subst, arith, Some, None, slice_get, nat_le, nat_lt}
 use Rattle.std.specs.Prelude.{IsTrue, ◌==◌}
-use Rattle.std.specs.List.{All, AllPairs, list_all, flat_map}
+use Rattle.std.specs.List.{list_all, flat_map}
 use Rattle.std.specs.Option.{option_map}
 use Rattle.std.proofs.lemmas.Bool.{ltb-true, eqb-true}
 use Rattle.std.proofs.lemmas.Bool.Decides.{Decides-eqb}
@@ -17,7 +17,7 @@ use Rattle.bd_extio.specs.Ranges.{AreExtents, IsWithin}
 use Rattle.bd_catalog.specs.Catalogue.{Catalogue, VersionEntry, oldest_in, recipe_extents, all_extents}
 use Rattle.bd_catalog.specs.Rules.{all_differ, fits_eight, obeys, version_holds, extents_hold}
 use Rattle.bd_catalog.proofs.Obeying.{distinct_of}
-use Rattle.bd_catalog.proofs.StandingFound.{Obeys, obeys-each}
+use Rattle.bd_catalog.proofs.StandingFound.{obeys-each}
 use Rattle.bd_recipe.specs.Reading.{chunks_in, length_in}
 
 -- ---- extents of which each is there and none stands twice, and parts of them

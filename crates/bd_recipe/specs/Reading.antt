@@ -1,5 +1,5 @@
 -- What the reading of a recipe finds on the disk, and what it reads.
-use Rattle.std.specs.Prelude.{◌≡◌, ℕ, ◌+◌, ◌-◌, ◌*◌, ◌≤◌, ◌==◌, List, length, map, sum_by, slice_index_or, All, IsTrue, Option, Some, None, Result, Ok, Err, if◌then◌else◌}
+use Rattle.std.specs.Prelude.{◌≡◌, ℕ, ◌-◌, ◌*◌, ◌≤◌, ◌==◌, List, length, map, sum_by, slice_index_or, All, IsTrue, Option, Some, None, Result, Ok, Err, if◌then◌else◌}
 use Rattle.bd_disk.specs.Calls.{Rose}
 use Rattle.bd_disk.specs.History.{History}
 use Rattle.bd_disk.specs.Trace.{ReadsOnly}
@@ -11,7 +11,6 @@ use Rattle.bd_model.specs.declared.layout.RecipeEntry.{RecipeEntry}
 use Rattle.bd_model.specs.declared.damage.Damage.{Damage}
 use Rattle.bd_model.specs.declared.damage.Damage.TheVariants.{Sum}
 use Rattle.bd_catalog.specs.Catalogue.{Catalogue, oldest_in, recipe_extents}
-use Rattle.bd_catalog.specs.Damages.{IsSeen}
 use Rattle.bd_catalog.specs.Sound.{recipe_of, entry_holds}
 use Rattle.bd_extio.specs.Ranges.{InOwner}
 use Rattle.bd_recipe.specs.Entries.{first_bad, is_within}

@@ -4,7 +4,10 @@
 mod entry;
 mod fault;
 mod limits;
+mod located;
 mod recipe;
+#[cfg(test)]
+mod tests;
 
 pub use entry::write_entry;
 pub use fault::ReadFault;

@@ -16,6 +16,7 @@ ghost use Rattle.bd_recipe.specs.Reading.{AnswersRecipe, FailsByCount, IfDamaged
 use crate::entry::{ENTRY, entry_from};
 use crate::fault::ReadFault;
 use crate::limits::Limits;
+use crate::located::locate;
 use bd_catalog::Catalog;
 use bd_disk::Disk;
 use bd_extio::read_at;
@@ -45,16 +46,20 @@ pub fn read_recipe<D: Disk>(
     ensures places { OnOk result (D.tells → ReadsOnly (recipe_places catalog.now.found.sizes catalog.now.found.catalogue version) (D.history disk.old) (D.history disk.new)) }
     ensures seen { IfDamaged result (λ damage. D.tells → IsSeen catalog.now.found.sizes catalog.now.found.catalogue (contents (D.history disk.old)) damage (D.history disk.old) (D.history disk.new)) }
 {
-    let shape = catalog.shape();
-    let row = catalog.version(version).unwrap();
-    let limits = Limits::of(catalog, version);
-    let extents = row.recipe.numbers();
-    let recipe = read_entries(alloc, disk, &shape, extents, row.chunks, &limits)?;
+    let place = locate(catalog, version);
+    let recipe = read_entries(
+        alloc,
+        disk,
+        &place.shape,
+        place.extents,
+        place.chunks,
+        &place.limits,
+    )?;
     let found = total_of(recipe.as_slice());
-    if found != row.length {
+    if found != place.length {
         let damage = Damage::Sum {
             version,
-            recorded: row.length,
+            recorded: place.length,
             found,
         };
         return Err(ReadFault::Damaged { damage });

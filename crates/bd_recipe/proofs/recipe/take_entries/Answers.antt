@@ -1,4 +1,4 @@
-use Rattle.std.proofs.Common.{◌≡◌, ◌+◌, ◌*◌, ◌++◌, ◌∷◌, ◌∙◌, ◌<◌, [], true, false, ap, sym, subst, arith, length, drop, append_assoc, Some}
+use Rattle.std.proofs.Common.{◌≡◌, ◌*◌, ◌++◌, ◌∷◌, ◌∙◌, ◌<◌, [], false, ap, sym, arith, length, drop, append_assoc, Some}
 use Rattle.std.specs.List.{list_all}
 use Rattle.bd_model.specs.Records.{entries_in, entry_at}
 use Rattle.bd_model.specs.declared.damage.Damage.TheVariants.{Entry}

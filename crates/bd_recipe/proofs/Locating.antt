@@ -1,8 +1,8 @@
 -- What a call reads of a retained version, as the catalogue has it.
-use Rattle.std.proofs.Common.{◌≡◌, ◌≢◌, ℕ, ◌+◌, ◌-◌, ◌*◌, ◌≤◌, ◌^◌, true, List, length, refl, sym, ◌∙◌, ap, subst, arith, Option, Some}
+use Rattle.std.proofs.Common.{◌≡◌, ◌≢◌, ℕ, ◌-◌, ◌*◌, ◌≤◌, true, List, length, sym, ◌∙◌, ap, subst, Option, Some}
 use Rattle.std.specs.Prelude.{IsTrue, IfSome, Ok, Err, slice_get}
 use Rattle.std.specs.Borrow.{Bor}
-use Rattle.std.specs.List.{All, list_all}
+use Rattle.std.specs.List.{list_all}
 use Rattle.bd_disk.specs.History.{History}
 use Rattle.bd_disk.specs.Looks.{LooksOnlyAt}
 use Rattle.bd_disk.specs.Trace.{ReadsOnly}
@@ -21,20 +21,11 @@ use Rattle.bd_catalog.specs.Shown.{version_entry}
 use Rattle.bd_catalog.specs.Sound.{recipe_of, entry_holds}
 use Rattle.bd_catalog.specs.declared.rows.VersionRow.{VersionRow}
 use Rattle.bd_recipe.specs.Entries.{is_within, limits_for}
+use Rattle.bd_recipe.specs.Located.{IsLocated}
 use Rattle.bd_recipe.specs.Reading.{InRecipe, IsRecipe, ReadsTo, chunks_in, length_in, recipe_found, recipe_places, total}
 use Rattle.bd_recipe.specs.declared.limits.Limits.{Limits}
 use Rattle.bd_recipe.proofs.Found.{moved, found-all, found-damaged, found-sum, is_recipe, seen-damaged, seen-sum}
 use Rattle.bd_recipe.proofs.Versions.{VersionIs, version_is}
-
--- sizes, extents, counts and limits are those of version v
-pub record IsLocated (s : Sizes) (c : Catalogue) (v : ℕ) (t : Sizes) (extents : List ℕ) (chunks bytes : ℕ) (limits : Limits) : Type 0 where
-  pub sizes : t ≡ s
-  pub places : extents ≡ recipe_extents c v
-  pub count : chunks ≡ chunks_in c v
-  pub long : bytes ≡ length_in c v
-  pub within : limits ≡ limits_for s c v
-  pub numbers : AreExtents t extents
-  pub range : IsWithin t extents 0 (40 * chunks)
 
 pub located : (s : Sizes) (c : Catalogue) (v : ℕ) (shape : Shape) (found : Option (Bor VersionRow)) (row : Bor VersionRow) (extents : List ℕ) (limits : Limits) → 1 ≤ shape.extent →
     sizes_of shape ≡ s → IsTrue (obeys s c) → IfSome found (λ r. slice_get c.versions (v - oldest_in c) ≡ Some (version_entry r.now)) → found ≡ Some row → extents ≡ row.now.recipe.numbers → limits ≡ limits_for s c v →
