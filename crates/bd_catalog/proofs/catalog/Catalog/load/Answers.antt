@@ -29,7 +29,7 @@ returns-in-Some-clause-loaded g c = λ told.
     let placed = rw c.in-Some.is at c.in_ok-decoded.ensures.place in
     load_finds s image c.in_ok-half.half _ _ found.0 found.1 (omega (arith, c.if-half-payload_room.false, c.payload_room.ensures))
     (c.deref.ensures.value ∙ filled _ _ _ (omega (arith, c.read_payload.auto.into, c.deref_mut.ensures.len)) ∙ c.in_ok-read_payload.ensures.read told ∙ ap (payload_of s c.in_ok-half.half) was) spells
-    ∙ placed_finds s c.in_ok-half.half image c.in-Some.catalog.found c.placed.result.found (ap (λ (f : Found). f.sizes) placed) c.placed.ensures
+    ∙ placed_finds s c.in_ok-half.half image c.in-Some.catalog.found c.moved_to.result.found (ap (λ (f : Found). f.sizes) placed) c.moved_to.ensures
 
 pub returns-in-Some-clause-writes : goal.returns-in-Some-clause-writes
 returns-in-Some-clause-writes g c = λ told. made_both (c.newest_half.ensures.writes told) (c.read_payload.ensures.writes told)
