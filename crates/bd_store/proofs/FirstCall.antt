@@ -1,6 +1,5 @@
 -- A backup into a store that retains nothing, over any state for which its contents stand.
-use Rattle.std.proofs.Common.{◌≡◌, ℕ, ◌+◌, ◌-◌, ◌*◌, ◌<◌, ◌≤◌, List, [], length, refl, sym, ◌∙◌, ap, subst, arith, Result, Ok, Err}
-use Rattle.std.specs.FinMap as map
+use Rattle.std.proofs.Common.{◌≡◌, ℕ, ◌+◌, ◌-◌, ◌<◌, ◌≤◌, List, [], length, refl, sym, ap, subst, arith, Result, Ok, Err}
 use Rattle.bd_disk.specs.History.{History, contents}
 use Rattle.bd_disk.specs.Made.{LeavesSince, WritesOnly, IsSettled}
 use Rattle.bd_disk.specs.Images.{AgreeBut}
@@ -8,25 +7,23 @@ use Rattle.bd_disk.proofs.Agreeing.{agree_fewer, agree_sym}
 use Rattle.bd_disk.proofs.Frames.{contents_now, same_contents, still_sure, sure_same, writes_wider}
 use Rattle.bd_gate.specs.Halves.{InHalves}
 use Rattle.bd_model.specs.FileMap.{FileMap}
-use Rattle.bd_model.specs.declared.shape.Shape.{Shape}
-use Rattle.bd_model.specs.declared.layout.Phase.{Phase}
 use Rattle.bd_model.specs.declared.answer.Answer.{Answer}
 use Rattle.bd_model.specs.declared.answer.Answer.TheVariants.{BackedUp}
 use Rattle.bd_model.specs.declared.command.Command.TheVariants.{Backup}
 use Rattle.bd_model.specs.Chunks.{chunks}
 use Rattle.bd_model.specs.History.{distinct}
 use Rattle.bd_model.specs.Marks.{Distinct}
-use Rattle.bd_model.specs.State.{VersionState, last_number}
-use Rattle.bd_space.specs.Allotment.{Allotment, extent_count, free_count, held_count, taken_count, TakenExactly}
+use Rattle.bd_model.specs.State.{last_number}
+use Rattle.bd_space.specs.Allotment.{Allotment, extent_count, free_count, held_count, TakenExactly}
 use Rattle.bd_space.proofs.Exact.{taken_count-exact}
 use Rattle.bd_space.proofs.Uses.{counts-all}
 use Rattle.bd_files.specs.Files.{Holds, Lacks}
 use Rattle.bd_catalog.specs.Agreement.{Agrees}
 use Rattle.bd_catalog.specs.Catalogue.{all_extents, retained_in}
 use Rattle.bd_catalog.specs.Growing.{after_backup}
-use Rattle.bd_catalog.specs.Opening.{Found, opened}
+use Rattle.bd_catalog.specs.Opening.{Found}
 use Rattle.bd_catalog.specs.Shown.{version_entry}
-use Rattle.bd_catalog.specs.Standing.{StandsFor, Stands}
+use Rattle.bd_catalog.specs.Standing.{Stands}
 use Rattle.bd_catalog.specs.Steps.{committed, fresh_entries, HasCommitted, InOtherHalf, IsOldOrCommitted, IsKeptOrCommitted}
 use Rattle.bd_catalog.proofs.StandingEmpty.{found-catalogue}
 use Rattle.bd_intake.specs.declared.staged.Staged.{Staged}

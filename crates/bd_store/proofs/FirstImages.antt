@@ -1,6 +1,5 @@
 -- A backup into a store that retains nothing, over images and plain numbers.
-use Rattle.std.proofs.Common.{◌≡◌, ⊎_elim, inl, inr, ℕ, ◌+◌, ◌-◌, ◌<◌, ◌≤◌, true, false, cond, List, [], ◌∷◌, ◌++◌, length, refl, sym, ◌∙◌, ap, subst, arith, nat_eq, eq-eqb, map as each_of, Some, Ok}
-use Rattle.std.proofs.lemmas.Bool.{cases_lt}
+use Rattle.std.proofs.Common.{◌≡◌, ⊎_elim, ℕ, ◌+◌, ◌-◌, ◌<◌, ◌≤◌, cond, List, [], ◌∷◌, ◌++◌, length, sym, ◌∙◌, ap, subst, arith, eq-eqb, map as each_of, Some, Ok}
 use Rattle.std.specs.Prelude.{Contains}
 use Rattle.std.specs.FinMap as map
 use Rattle.bd_disk.specs.Images.{Agree, AgreeBut}
@@ -14,12 +13,12 @@ use Rattle.bd_model.specs.declared.answer.Answer.{Answer}
 use Rattle.bd_model.specs.declared.answer.Answer.TheVariants.{BackedUp, FullExtents}
 use Rattle.bd_model.specs.declared.command.Command.TheVariants.{Backup}
 use Rattle.bd_model.specs.Chunks.{chunks}
-use Rattle.bd_model.specs.History.{History, newest, oldest, retained, version, distinct}
+use Rattle.bd_model.specs.History.{History, newest, retained, version, distinct}
 use Rattle.bd_model.specs.Laws.{entries_in, grown, AreEntriesOf}
-use Rattle.bd_model.specs.Marks.{mark, Distinct}
+use Rattle.bd_model.specs.Marks.{Distinct}
 use Rattle.bd_model.specs.Recipe.{recipe, entry_of}
 use Rattle.bd_model.specs.Records.{records_of, spelled_recipe}
-use Rattle.bd_model.specs.Room.{owned, fresh, need, counted, need_of, counted_of}
+use Rattle.bd_model.specs.Room.{fresh, need, counted, need_of, counted_of}
 use Rattle.bd_model.specs.Sizes.{Sizes, sizes_of, extent_place}
 use Rattle.bd_model.specs.State.{VersionState, history, cut_of, last_number}
 use Rattle.bd_model.specs.Step.{free_extents, unchanged}
@@ -33,7 +32,7 @@ use Rattle.bd_catalog.specs.Growing.{after_backup, entry_for, own_category, with
 use Rattle.bd_catalog.specs.Opening.{Found, opened}
 use Rattle.bd_catalog.specs.Standing.{BeginWith, StandsFor, Stands}
 use Rattle.bd_catalog.proofs.Agreeing.{InFront, InExtents, begin_with_agrees, opens_again}
-use Rattle.bd_catalog.proofs.Standing.{Shows, InStore, stands-shows, stands_agrees, stands_for_agrees, stands_opened, halves_agree}
+use Rattle.bd_catalog.proofs.Standing.{Shows, InStore, stands-shows, stands_for_agrees, stands_opened, halves_agree}
 use Rattle.bd_catalog.proofs.StandingEmpty.{nothing_from, catalogue_from, found-catalogue, found-nothing, fresh-first, recipe-first}
 use Rattle.bd_catalog.proofs.StandingBackup.{first_catalogue, next_catalogue, backup_catalogue}
 use Rattle.bd_catalog.proofs.StandingAnswers.{IsAnswered, backup_answered, backup_refused, backup_step, refused_answered}

@@ -1,12 +1,12 @@
 -- A backup into a store that retains nothing is one step, and safe at every stop: from what the intake and the commit say.
-use Rattle.std.proofs.Common.{◌≡◌, ⊎_elim, inl, inr, ℕ, ◌+◌, ◌-◌, ◌<◌, ◌≤◌, true, false, ◌||◌, cond, List, [], ◌∷◌, ◌++◌, length, refl, sym, ◌∙◌, ap, subst, arith, nat_eq, get_or, map as each_of, Option, Some, None, Result, Ok, Err}
+use Rattle.std.proofs.Common.{◌≡◌, inl, ℕ, ◌+◌, ◌-◌, ◌<◌, false, ◌||◌, cond, List, [], ◌∷◌, ◌++◌, length, refl, sym, ◌∙◌, ap, subst, arith, nat_eq, get_or, map as each_of, Some, None, Result, Ok, Err}
 use Rattle.std.proofs.lemmas.Bool.{ne_eqb}
 use Rattle.std.specs.Prelude.{option_to_list}
 use Rattle.std.specs.FinMap as map
 use Rattle.bd_disk.specs.History.{History, contents}
 use Rattle.bd_disk.specs.Images.{AgreeBut}
 use Rattle.bd_disk.specs.Made.{LeavesNow, LeavesSince, WritesOnly, IsSettled}
-use Rattle.bd_disk.proofs.Frames.{contents_now, leaves_both, leaves_now, leaves_wider, same_contents, writes_wider}
+use Rattle.bd_disk.proofs.Frames.{leaves_both, leaves_now, leaves_wider, same_contents, writes_wider}
 use Rattle.bd_model.specs.FileMap.{FileMap}
 use Rattle.bd_model.specs.declared.shape.Shape.{Shape}
 use Rattle.bd_model.specs.declared.layout.Phase.{Phase}
@@ -15,12 +15,12 @@ use Rattle.bd_model.specs.declared.answer.Answer.{Answer}
 use Rattle.bd_model.specs.declared.answer.Answer.TheVariants.{BackedUp, FullExtents}
 use Rattle.bd_model.specs.declared.command.Command.TheVariants.{Backup}
 use Rattle.bd_model.specs.Chunks.{chunks}
-use Rattle.bd_model.specs.History.{History as Versions, newest, retained, version, distinct}
+use Rattle.bd_model.specs.History.{History as Versions, retained, version, distinct}
 use Rattle.bd_model.specs.Laws.{entries_in}
 use Rattle.bd_model.specs.Marks.{Distinct, Near}
 use Rattle.bd_model.specs.Records.{records_of}
 use Rattle.bd_model.specs.Room.{need_of, counted_of}
-use Rattle.bd_model.specs.Sizes.{Sizes, sizes_of}
+use Rattle.bd_model.specs.Sizes.{sizes_of}
 use Rattle.bd_model.specs.State.{Version, VersionState, history, cut_of, last_number}
 use Rattle.bd_model.specs.Step.{unchanged}
 use Rattle.bd_model.proofs.HistoryLemmas.{version-base}
@@ -34,7 +34,7 @@ use Rattle.bd_catalog.specs.Shown.{version_entry}
 use Rattle.bd_catalog.specs.Standing.{BeginWith, StandsFor, Stands}
 use Rattle.bd_catalog.specs.Steps.{committed, fresh_entries, HasCommitted, IsOldOrCommitted, IsKeptOrCommitted}
 use Rattle.bd_catalog.proofs.Standing.{stands-shows}
-use Rattle.bd_catalog.proofs.StandingEmpty.{nothing_from, catalogue_from, found-catalogue, found-nothing}
+use Rattle.bd_catalog.proofs.StandingEmpty.{nothing_from, found-catalogue, found-nothing}
 use Rattle.bd_intake.specs.declared.staged.Staged.{Staged}
 use Rattle.bd_intake.specs.declared.fault.IntakeFault.{IntakeFault}
 use Rattle.bd_intake.specs.declared.fault.IntakeFault.TheVariants.{Full, SourceFault, DiskFault, OutOfMemory}
@@ -42,12 +42,10 @@ use Rattle.bd_intake.specs.Answers.{AnswersIntake, HoldsVersion, IsVersion, fres
 use Rattle.bd_intake.specs.Firsts.{cut_in, first_by_mark}
 use Rattle.bd_intake.specs.Missing.{IsUnread}
 use Rattle.bd_intake.specs.Places.{InFree}
-use Rattle.bd_store.specs.declared.fault.StoreFault.{StoreFault}
-use Rattle.bd_store.specs.declared.fault.StoreFault.TheVariants.{DiskFault as DiskFailed}
 use Rattle.bd_store.specs.Naming.{refusal_of}
 use Rattle.bd_store.specs.Steps.{Task, task, is_full, versions_with, IsNear, Answered, LeadsTo, MakesStep, KeptOrMade, StandsOnEitherSide}
 use Rattle.bd_store.specs.Stops.{IsSureOf, IsSureAfter, IsSureBy, StopsOnEitherSide}
-use Rattle.bd_store.proofs.FirstImages.{InBack, HoldsFirst, NamesFirst, back_opens, back_stands_for, none_retained, first_refused, refused_leads, is_settled}
+use Rattle.bd_store.proofs.FirstImages.{InBack, HoldsFirst, NamesFirst, back_opens, back_stands_for, none_retained, refused_leads, is_settled}
 use Rattle.bd_store.proofs.FirstStops.{IsReady, staging_stops, commit_stops, commit_sure, contents_either, made_answered}
 
 -- ---- marks of a first stream
@@ -226,7 +224,7 @@ module _ (shape : Shape) (held : ℕ) (st : VersionState) (phase : Phase) (files
       holds : HoldsFirst (sizes_of shape) (found.catalogue.newest + 1) w staged.version.recipe.numbers (fresh_extents staged.fresh) (contents h1)
       holds =
           let there_are : HoldsVersion (sizes_of shape) (found.catalogue.newest + 1) w staged (contents h1) =
-              subst (λ s. HoldsVersion s (found.catalogue.newest + 1) (chunks (cut_in s) stream) staged (contents h1)) sizes_are (stored stream (record { there = there })) in
+          subst (λ s. HoldsVersion s (found.catalogue.newest + 1) (chunks (cut_in s) stream) staged (contents h1)) sizes_are (stored stream (record { there = there })) in
           record {
             recipe_there = there_are.recipe;
             records_there = subst (λ cs. BeginWith (sizes_of shape) (fresh_extents staged.fresh) (records_of cs) (contents h1)) first_are there_are.fresh;

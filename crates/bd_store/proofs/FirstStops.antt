@@ -1,12 +1,12 @@
 -- What a stop leaves of a backup into a store that retains nothing: writes behind superblock and halves, and a commit.
-use Rattle.std.proofs.Common.{◌≡◌, ⊎_elim, inl, inr, ℕ, ◌+◌, ◌-◌, ◌*◌, ◌<◌, ◌≤◌, List, [], length, refl, sym, ◌∙◌, ap, subst, arith, Some, Ok}
+use Rattle.std.proofs.Common.{◌≡◌, ⊎_elim, inl, inr, ℕ, ◌+◌, ◌-◌, ◌<◌, ◌≤◌, List, [], length, sym, ◌∙◌, subst, arith, Some, Ok}
 use Rattle.std.proofs.lemmas.Bool.{cases_lt}
 use Rattle.std.specs.FinMap as map
-use Rattle.bd_disk.specs.History.{History, contents, Now}
+use Rattle.bd_disk.specs.History.{History, contents}
 use Rattle.bd_disk.specs.Images.{AgreeBut}
 use Rattle.bd_disk.specs.Made.{IsSettled, LeavesNow, LeavesSince, WritesOnly}
 use Rattle.bd_disk.proofs.Agreeing.{agree_fewer}
-use Rattle.bd_disk.proofs.Frames.{contents_now, leaves_both, leaves_by_writes, leaves_now, leaves_wider, same_contents}
+use Rattle.bd_disk.proofs.Frames.{leaves_by_writes, leaves_wider}
 use Rattle.bd_model.specs.FileMap.{FileMap}
 use Rattle.bd_model.specs.declared.shape.Shape.{Shape}
 use Rattle.bd_model.specs.declared.layout.Phase.{Phase}
@@ -18,10 +18,9 @@ use Rattle.bd_model.specs.History.{retained, distinct}
 use Rattle.bd_model.specs.Laws.{entries_in}
 use Rattle.bd_model.specs.Marks.{Distinct}
 use Rattle.bd_model.specs.Room.{need_of, counted_of}
-use Rattle.bd_model.specs.Sizes.{Sizes, sizes_of, half_bytes}
+use Rattle.bd_model.specs.Sizes.{Sizes, sizes_of}
 use Rattle.bd_model.specs.State.{VersionState, history, cut_of, last_number}
 use Rattle.bd_gate.specs.Halves.{InHalf, InHalves}
-use Rattle.bd_catalog.specs.Agreement.{Agrees}
 use Rattle.bd_catalog.specs.Catalogue.{all_extents, retained_in}
 use Rattle.bd_catalog.specs.Opening.{Found, opened}
 use Rattle.bd_catalog.specs.Standing.{StandsFor, Stands}

@@ -1,6 +1,5 @@
 -- The lines of versions, one after the other.
-use Rattle.std.proofs.Common.{◌≡◌, ℕ, zero, suc, ◌+◌, List, [], ◌∷◌, ◌++◌, take, refl, sym, ◌∙◌, ap, arith, add-one, Option, Some, None, slice_get}
-use Rattle.bd_model.specs.declared.answer.VersionLine.{VersionLine}
+use Rattle.std.proofs.Common.{◌≡◌, ℕ, zero, suc, ◌+◌, List, [], ◌∷◌, ◌++◌, take, sym, ◌∙◌, ap, arith, add-one, Option, Some, None, slice_get}
 use Rattle.bd_catalog.specs.Catalogue.{VersionEntry}
 use Rattle.bd_catalog.specs.Standing.{lines_from}
 use Rattle.bd_catalog.proofs.StandingLists.{line_of}

@@ -1,6 +1,5 @@
 -- An answer that touches nothing is its step, and safe at every stop.
-use Rattle.std.proofs.Common.{◌≡◌, ℕ, ◌+◌, ◌<◌, true, false, ◌||◌, List, inl, inr, refl, sym, ◌∙◌, ap, subst, arith, Some, Ok, nat_eq, eq-eqb}
-use Rattle.std.proofs.lemmas.Bool.{ne_eqb}
+use Rattle.std.proofs.Common.{◌≡◌, ℕ, ◌<◌, List, inl, refl, sym, ◌∙◌, ap, subst, Some, Ok}
 use Rattle.bd_disk.specs.History.{History, contents}
 use Rattle.bd_disk.proofs.Frames.{contents_now, leaves_same, leaves_wider}
 use Rattle.bd_model.specs.FileMap.{FileMap}
@@ -10,16 +9,15 @@ use Rattle.bd_model.specs.declared.answer.Answer.{Answer}
 use Rattle.bd_model.specs.declared.answer.Answer.TheVariants.{FullNumbers, FullVersions}
 use Rattle.bd_model.specs.declared.command.Command.{Command}
 use Rattle.bd_model.specs.declared.command.Command.TheVariants.{Backup}
-use Rattle.bd_model.specs.History.{newest, retained}
-use Rattle.bd_model.specs.State.{VersionState, history, last_number}
+use Rattle.bd_model.specs.State.{VersionState, last_number}
 use Rattle.bd_model.specs.Step.{unchanged, phase_after, without_room}
 use Rattle.bd_catalog.specs.Agreement.{Agrees}
 use Rattle.bd_catalog.specs.Catalogue.{retained_in}
 use Rattle.bd_catalog.specs.Opening.{Found}
 use Rattle.bd_catalog.specs.Standing.{StandsFor, Stands}
-use Rattle.bd_catalog.proofs.Standing.{Shows, stands-shows}
+use Rattle.bd_catalog.proofs.Standing.{stands-shows}
 use Rattle.bd_catalog.proofs.StandingAnswers.{full_numbers, full_versions}
-use Rattle.bd_store.specs.Steps.{Task, task, LeadsTo, IsOneStep}
+use Rattle.bd_store.specs.Steps.{task, LeadsTo, IsOneStep}
 use Rattle.bd_store.specs.Stops.{IsSafeAtStops}
 
 module _ (command : Command) (held : ℕ) (h : History) (files : FileMap) (answer : Answer) where

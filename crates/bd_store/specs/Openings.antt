@@ -7,8 +7,8 @@ use Rattle.bd_model.specs.State.{empty}
 use Rattle.bd_catalog.specs.Opening.{Found, opened}
 use Rattle.bd_catalog.specs.Standing.{StandsFor}
 use Rattle.bd_store.specs.Shown.{Shown}
-use Rattle.bd_store.specs.declared.fault.OpenFault.{OpenFault}
-use Rattle.bd_store.specs.declared.fault.OpenFault.TheVariants.{NotAStore, DiskFault, OutOfMemory}
+use Rattle.bd_recover.specs.declared.fault.OpenFault.{OpenFault}
+use Rattle.bd_recover.specs.declared.fault.OpenFault.TheVariants.{NotAStore, DiskFault, OutOfMemory}
 
 -- an image that opens as no store, or stands for the empty one
 abbrev pub IsNoneOrEmpty : Shape → List ℕ → Type 0

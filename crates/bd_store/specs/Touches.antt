@@ -1,15 +1,15 @@
 -- Which places of the disk a command reads, and which answers touch nothing.
-use Rattle.std.specs.Prelude.{◌≡◌, ◌||◌, ◌==◌, ◌&&◌, ℕ, Bool, true, false, not, nat_lt, [], Result, Ok, Err}
+use Rattle.std.specs.Prelude.{◌≡◌, ◌||◌, ◌==◌, ◌&&◌, Bool, true, false, not, nat_lt, [], Result, Ok, Err}
 use Rattle.bd_disk.specs.History.{History}
 use Rattle.bd_disk.specs.Made.{TouchesNothing}
 use Rattle.bd_disk.specs.Trace.{ReadsOnly}
 use Rattle.bd_model.specs.State.{last_number}
 use Rattle.bd_model.specs.declared.answer.Answer.{Answer}
-use Rattle.bd_model.specs.declared.answer.Answer.TheVariants.{BackedUp, FullNumbers, FullVersions, FullExtents}
+use Rattle.bd_model.specs.declared.answer.Answer.TheVariants.{FullNumbers, FullVersions}
 use Rattle.bd_catalog.specs.Catalogue.{retained_in}
 use Rattle.bd_catalog.specs.Opening.{Found}
 use Rattle.bd_store.specs.declared.fault.StoreFault.{StoreFault}
-use Rattle.bd_store.specs.declared.fault.StoreFault.TheVariants.{SourceFault, TargetFault, DiskFault, Damaged, OutOfMemory, Unbuilt}
+use Rattle.bd_store.specs.declared.fault.StoreFault.TheVariants.{DiskFault, Unbuilt}
 
 abbrev pub numbers_used_up : Found → Bool
 numbers_used_up found = found.catalogue.newest == last_number

@@ -1,17 +1,6 @@
 ghost use Rattle.std.specs.Prelude.{◌≡◌, ◌↔◌, true, Err};
 
-use bd_model::Answer;
-use bd_model::{Damage, Place};
-
-/// Why a store wasn't opened.
-#[derive(Clone, Copy, PartialEq, Eq, Debug)]
-pub enum OpenFault {
-    /// The first check that fails.
-    NotAStore { place: Place },
-    /// The disk answered `Failed`.
-    DiskFault,
-    OutOfMemory,
-}
+use bd_model::{Answer, Damage};
 
 /// Why a command on a store wasn't carried out.
 #[derive(Clone, Copy, PartialEq, Eq, Debug)]

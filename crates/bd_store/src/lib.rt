@@ -6,6 +6,6 @@ mod first;
 mod listing;
 mod store;
 
-pub use bd_recover::FormatFault;
-pub use fault::{OpenFault, StoreFault};
+pub use bd_recover::{FormatFault, OpenFault};
+pub use fault::StoreFault;
 pub use store::Store;

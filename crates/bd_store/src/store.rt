@@ -22,14 +22,14 @@ ghost use Rattle.bd_store.specs.Steps.{IsOneStep};
 ghost use Rattle.bd_store.specs.Stops.{IsSafeAtStops};
 ghost use Rattle.bd_store.specs.Touches.{AnswersByNumbers, AnswersFirst, BackupReads};
 
-use crate::fault::{OpenFault, StoreFault, is_disk_fault};
+use crate::fault::{StoreFault, is_disk_fault};
 use crate::first::take_first;
 use crate::listing::lines_of;
 use bd_catalog::Catalog;
 use bd_disk::Disk;
 use bd_files::Files;
 use bd_model::{Answer, Name, Shape};
-use bd_recover::FormatFault;
+use bd_recover::{FormatFault, OpenFault, Opened, format, open_image};
 use bd_space::Space;
 use std::alloc::{AllocError as OutOfMemory, Global};
 use std::marker::Model;
@@ -77,7 +77,12 @@ impl Store {
         // A stop at any moment leaves no store or the empty one.
         ensures stops { D.tells → is_marked (contents (D.history disk.old)) ≡ false → IsSettled (D.history disk.old) → LeavesSince (IsNoneOrEmpty shape) (D.history disk.old) (D.history disk.new) }
     {
-        Err(FormatFault::OutOfMemory)
+        let Opened { catalog, space } = format(alloc, disk, shape)?;
+        Ok(Store {
+            catalog,
+            space,
+            worn: false,
+        })
     }
 
     /// Opens the store that a disk holds. It begins with a sync and writes nothing.
@@ -94,7 +99,12 @@ impl Store {
         ensures places { IfOk result (λ store. D.tells → LooksOnlyAt (λ place. place < extent_place store.found.sizes 0) (D.history disk.old) (D.history disk.new)) }
         ensures fresh { IfOk result (λ store. (store.worn ≡ false) × (store.held ≡ 0)) }
     {
-        Err(OpenFault::OutOfMemory)
+        let Opened { catalog, space } = open_image(alloc, disk)?;
+        Ok(Store {
+            catalog,
+            space,
+            worn: false,
+        })
     }
 
     /// Stores the named source as the next version.
@@ -165,14 +175,7 @@ impl Store {
         // A stop at any moment leaves the state before it or the one after.
         ensures stops { D.tells → F.tells → IsSafeAtStops (Backup name.now) self.old.held (D.history disk.old) (D.history disk.new) (F.files files.old) result }
     {
-        let result = take_first(
-            alloc,
-            disk,
-            &mut self.catalog,
-            &mut self.space,
-            files,
-            name,
-        );
+        let result = take_first(alloc, disk, &mut self.catalog, &mut self.space, files, name);
         self.worn = is_disk_fault(&result);
         result
     }

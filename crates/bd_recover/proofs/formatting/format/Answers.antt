@@ -1,8 +1,10 @@
 use Rattle.std.proofs.Common.{subst, sym}
 use Rattle.bd_disk.specs.Made.{IsNoWrite}
-use Rattle.bd_disk.proofs.Frames.{made_none}
+use Rattle.bd_disk.proofs.Frames.{made_none, settled_sure}
 use Rattle.bd_model.specs.Sizes.{sizes_of}
 use Rattle.bd_space.specs.Allotment.{TakenExactly}
+use Rattle.bd_gate.specs.Halves.{InHalves}
+use Rattle.bd_catalog.specs.Agreement.{Agrees}
 use Rattle.bd_catalog.specs.Catalogue.{all_extents}
 use Rattle.bd_catalog.specs.Opening.{Found}
 use Rattle.bd_space.proofs.Exact.{TakenExactly-new}
@@ -19,3 +21,8 @@ pub returns-clause-owners : goal.returns-clause-owners
 returns-clause-owners g c =
     subst (λ (f : Found). TakenExactly c.in_ok-space.space (all_extents f.catalogue)) (sym c.in_ok-catalog.ensures)
     (TakenExactly-new c.in_ok-space.space _ c.in_ok-space.ensures.uses)
+
+pub returns-clause-agrees : goal.returns-clause-agrees
+returns-clause-agrees g c = λ told.
+    subst (λ (f : Found). Agrees f (g.D.Disk.history c.format_disk.new.disk)) (sym c.in_ok-catalog.ensures)
+    (record { opens = c.in_ok-format_disk.ensures.made told; sure = settled_sure (InHalves (sizes_of c.args.shape)) (c.in_ok-format_disk.ensures.settled told) })

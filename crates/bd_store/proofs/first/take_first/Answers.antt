@@ -1,8 +1,6 @@
-use Rattle.std.proofs.Common.{◌≡◌, ◌∙◌, ℕ, ◌+◌, ◌<◌, List, [], refl, sym, ap, subst, arith, Ok, Err}
-use Rattle.std.specs.Prelude.{OnOk}
-use Rattle.bd_disk.specs.History.{History, contents}
-use Rattle.bd_disk.specs.Made.{WritesOnly}
-use Rattle.bd_disk.proofs.Frames.{made_both, still_sure, same_contents, writes_wider}
+use Rattle.std.proofs.Common.{◌≡◌, ◌∙◌, ◌<◌, sym, ap, subst, Ok, Err}
+use Rattle.bd_disk.specs.History.{contents}
+use Rattle.bd_disk.proofs.Frames.{made_both, writes_wider}
 use Rattle.bd_disk.proofs.Traces.{reads_both}
 use Rattle.bd_model.specs.State.{last_number}
 use Rattle.bd_space.specs.Allotment.{extent_count, held_count, TakenExactly}
@@ -10,9 +8,6 @@ use Rattle.bd_catalog.specs.Agreement.{Agrees}
 use Rattle.bd_catalog.specs.Catalogue.{all_extents, retained_in}
 use Rattle.bd_catalog.specs.Opening.{Found}
 use Rattle.bd_intake.proofs.Firsts.{first_chunks}
-use Rattle.bd_intake.specs.declared.fault.IntakeFault.{IntakeFault}
-use Rattle.bd_store.specs.declared.fault.StoreFault.TheVariants.{DiskFault}
-use Rattle.bd_store.specs.Naming.{refusal_of, UnlessDiskFailed}
 use Rattle.bd_store.specs.Steps.{IsOneStep}
 use Rattle.bd_store.specs.Stops.{IsSafeAtStops}
 use Rattle.bd_store.specs.Touches.{BackupReads}

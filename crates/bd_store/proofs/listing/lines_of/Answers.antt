@@ -1,4 +1,4 @@
-use Rattle.std.proofs.Common.{◌≡◌, ℕ, ◌+◌, ◌-◌, List, Some, ◌++◌, ◌∷◌, [], slice_get, arith, ◌∙◌, sym, ap, subst}
+use Rattle.std.proofs.Common.{◌≡◌, ℕ, ◌+◌, ◌-◌, Some, ◌++◌, ◌∷◌, [], slice_get, arith, ◌∙◌, sym, ap, subst}
 use Rattle.bd_catalog.specs.Catalogue.{Catalogue, oldest_in}
 use Rattle.bd_catalog.specs.Shown.{version_entry}
 use Rattle.bd_catalog.proofs.StandingLists.{line_of}

@@ -1,9 +1,9 @@
-use Rattle.std.proofs.Common.{◌≡◌, ◌∙◌, ◌<◌, refl, sym, ap, subst, arith}
+use Rattle.std.proofs.Common.{◌≡◌, ◌∙◌, ◌<◌, refl, sym, ap, arith}
 use Rattle.bd_model.specs.State.{last_number}
 use Rattle.bd_catalog.specs.Catalogue.{retained_in}
 use Rattle.bd_store.specs.Shown.{Shown}
 use Rattle.bd_store.proofs.Quiet.{safe_untouched}
-use Rattle.bd_store.proofs.Refusing.{Refuses, numbers_refuse, versions_refuse, refused_step, refused_stops}
+use Rattle.bd_store.proofs.Refusing.{numbers_refuse, versions_refuse, refused_step, refused_stops}
 use Rattle.bd_store.proofs.store.Store.backup.Goals as goal
 
 pub returns-then-newest-clause-step : goal.returns-then-newest-clause-step

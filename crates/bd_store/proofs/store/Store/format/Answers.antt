@@ -1,10 +1,11 @@
-use Rattle.std.proofs.Common.{inl, sym, subst, IsErr}
-use Rattle.bd_disk.proofs.Frames.{leaves_same}
-use Rattle.std.proofs.Common.{refl}
-use Rattle.bd_catalog.specs.Opening.{opened}
-use Rattle.bd_recover.proofs.Found.{unmarked}
+use Rattle.bd_store.proofs.Making.{format_stops, formatted_stands}
 use Rattle.bd_store.proofs.store.Store.format.Goals as goal
 
+pub returns-in_err-catalog-clause-stops : goal.returns-in_err-catalog-clause-stops
+returns-in_err-catalog-clause-stops g c = λ told none settled. format_stops c.args.shape (c.format.ensures.stops told none settled)
+
 pub returns-clause-stops : goal.returns-clause-stops
-returns-clause-stops g c = λ told none settled.
-    leaves_same refl (record { each = λ image now. inl (subst (λ m. IsErr (opened m)) (sym (settled.each image now)) (unmarked _ none)) })
+returns-clause-stops g c = λ told none settled. format_stops c.args.shape (c.format.ensures.stops told none settled)
+
+pub returns-clause-made : goal.returns-clause-made
+returns-clause-made g c = λ told. formatted_stands c.args.shape _ c.in_ok-catalog.field-0.catalog.found (c.in_ok-catalog.ensures.agrees told).opens c.in_ok-catalog.ensures.made
