@@ -1,17 +1,19 @@
 -- What the commit of a catalogue makes of the disk, from what the commit of its frame does.
-use Rattle.std.proofs.Common.{◌≡◌, ⊎_elim, ℕ, ◌+◌, ◌-◌, ◌%◌, ◌≤◌, List, length, sym, ◌∙◌, ap, subst, arith, IfSome}
-use Rattle.std.specs.Prelude.{Ok, IsTrue}
+use Rattle.std.proofs.Common.{◌≡◌, ◌⊎◌, ⊎_elim, ℕ, ◌+◌, ◌-◌, ◌%◌, ◌<◌, ◌≤◌, List, [], ◌∷◌, ◌++◌, length, refl, sym, ◌∙◌, ap, subst, arith, Some, IfSome}
+use Rattle.std.specs.Prelude.{Result, Ok, IsTrue}
 use mathlib.Core.Logic.{inl, inr}
 use Rattle.bd_disk.specs.Images.{Agree, AgreeBut}
 use Rattle.bd_disk.specs.History.{History, clock, contents, Now, Since}
-use Rattle.bd_disk.specs.Made.{IsSettled, LeavesNow, LeavesSince, WritesOnly}
+use Rattle.bd_disk.specs.Made.{IsSettled, IsSure, LeavesNow, LeavesSince, WritesOnly}
 use Rattle.bd_disk.proofs.Agreeing.{agree_fewer}
-use Rattle.bd_disk.proofs.Frames.{contents_now, made_none, same_since, settled_sure}
-use Rattle.bd_model.specs.Sizes.{payload_room}
-use Rattle.bd_gate.specs.Halves.{Half, half_at, newest_half, is_open, turn_at, log_place, InHalf, InHalves}
+use Rattle.bd_disk.proofs.Frames.{contents_now, leaves_now, made_none, same_contents, same_since, settled_sure}
+use Rattle.bd_model.specs.Sizes.{Sizes, payload_room}
+use Rattle.bd_gate.specs.Superblock.{open_gate}
+use Rattle.bd_gate.specs.Commits.{frame_of}
+use Rattle.bd_gate.specs.Halves.{Half, half_at, newest_half, is_open, turn_at, payload_of, log_place, InHalf, InHalves}
 use Rattle.bd_gate.specs.Standing.{SameStanding, IsBeside, IsCommitted, next_turn}
 use Rattle.bd_gate.specs.Standing.{IsOldOrCommitted as IsOldOrFrame}
-use Rattle.bd_gate.proofs.Newest.{other_below}
+use Rattle.bd_gate.proofs.Newest.{other_below, other_twice}
 use Rattle.bd_gate.proofs.Kept.{beside_newest, turn_after, standing_of_halves, within_halves, superblock_apart}
 use Rattle.bd_gate.proofs.Committed.{FindsPayload, committed_payload}
 use Rattle.bd_catalog.specs.Agreement.{Agrees}
@@ -19,7 +21,7 @@ use Rattle.bd_catalog.specs.Catalogue.{Catalogue}
 use Rattle.bd_catalog.specs.Opening.{Found, opened}
 use Rattle.bd_catalog.specs.Rules.{obeys, catalogue_of}
 use Rattle.bd_catalog.specs.Spelling.{spelled}
-use Rattle.bd_catalog.specs.Steps.{committed, frame_beside, InOtherHalf, KeepsCatalogue, HasCommitted, IsOldOrCommitted}
+use Rattle.bd_catalog.specs.Steps.{committed, frame_beside, next_half, InOtherHalf, KeepsCatalogue, HasCommitted, IsOldOrCommitted, IsKeptOrCommitted}
 use Rattle.bd_catalog.proofs.Agreeing.{InSuperblock, opens_with, same_standing_opens}
 use Rattle.bd_catalog.proofs.Decoding.{catalogue_of-spelled}
 use Rattle.bd_catalog.proofs.Lengths.{length-spelled, payload_room-small}
@@ -99,3 +101,19 @@ module _ (found : Found) (h : History) (agrees : Agrees found h) where
 
     pub kept-committed : (later : History) → LeavesNow (IsCommitted found.sizes (1 - found.half.number) (frame_beside found.half c) (contents h)) later → AgreeBut (InOtherHalf found) (contents h) (contents later)
     kept-committed later done = (done.each (contents later) (contents_now later)).elsewhere
+
+    -- the contents have the old catalogue or the new one
+    pub either-committed : (later : History) → WritesOnly (InOtherHalf found) h later →
+        LeavesSince (IsOldOrFrame found.sizes (1 - found.half.number) (frame_beside found.half c) (contents h)) h later →
+        IsKeptOrCommitted found (committed found c) (contents h) (contents later)
+    either-committed later writes leaves =
+        let s = found.sizes in
+        let k = 1 - found.half.number in
+        let image = contents later in
+        let past : AgreeBut (InOtherHalf found) (contents h) image = same_contents writes in
+        let agree : Agree InSuperblock (contents h) image =
+        agree_fewer (λ place. InHalf s k place → ⊥) InSuperblock (contents h) image (λ place lt inside. superblock_apart s place lt (within_halves s k place (other_below found.half.number) inside)) past in
+        ⊎_elim
+        (λ same. let again = same_standing_opens found (contents h) image agrees.opens agree same in inl (record { again = again.0; opens = again.1; sizes = again.2; catalogue = again.3; elsewhere = past }))
+        (λ frame. inr (has-committed image frame))
+        ((leaves_now leaves).each image (contents_now later))

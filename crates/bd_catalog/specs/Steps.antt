@@ -85,3 +85,15 @@ pub record HasCommitted (found after : Found) (old image : List ℕ) : Type 0 wh
 -- a stop within a commit leaves the old catalogue, or the whole commit
 abbrev pub IsOldOrCommitted : Found → Found → History → List ℕ → Type 0
 IsOldOrCommitted found after h image = KeepsCatalogue found h image ⊎ HasCommitted found after (contents h) image
+
+-- the image has the old catalogue, and is the old contents but for the half that isn't the newest
+pub record HasKept (found : Found) (old image : List ℕ) : Type 0 where
+  pub again : Found
+  pub opens : opened image ≡ Ok again
+  pub sizes : again.sizes ≡ found.sizes
+  pub catalogue : again.catalogue ≡ found.catalogue
+  pub elsewhere : AgreeBut (InOtherHalf found) old image
+
+-- the contents after a commit, which may have failed: with the old catalogue, or with the one committed
+abbrev pub IsKeptOrCommitted : Found → Found → List ℕ → List ℕ → Type 0
+IsKeptOrCommitted found after old image = HasKept found old image ⊎ HasCommitted found after old image

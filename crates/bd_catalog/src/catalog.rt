@@ -12,7 +12,7 @@ ghost use Rattle.bd_catalog.specs.Ledger.{found_alone, found_in, IsPlaced, HasRo
 ghost use Rattle.bd_catalog.specs.Rules.{obeys, catalogue_of};
 ghost use Rattle.bd_catalog.specs.Spelling.{spelled};
 ghost use Rattle.bd_catalog.specs.Shown.{catalogue_of_contents, version_entry, volume_entry, open_entry};
-ghost use Rattle.bd_catalog.specs.Steps.{brought, catalogue_calls, committed, stepped, with_catalogue, Fits, InOtherHalf, IsOldOrCommitted};
+ghost use Rattle.bd_catalog.specs.Steps.{brought, catalogue_calls, committed, stepped, with_catalogue, Fits, InOtherHalf, IsKeptOrCommitted, IsOldOrCommitted};
 
 use crate::contents::Contents;
 use crate::decode::take_contents;
@@ -200,6 +200,10 @@ impl Catalog {
         ensures stops { D.tells →
             LeavesSince (IsOldOrCommitted self.old.found (committed self.old.found (stepped self.old.found.catalogue step)) (D.history disk.old))
             (D.history disk.old) (D.history disk.new) }
+        // So do the contents.
+        ensures contents { D.tells →
+            IsKeptOrCommitted self.old.found (committed self.old.found (stepped self.old.found.catalogue step))
+            (contents (D.history disk.old)) (contents (D.history disk.new)) }
         ensures calls { OnOk result (D.tells →
             Makes (catalogue_calls self.old.found (stepped self.old.found.catalogue step)) (D.history disk.old) (D.history disk.new)) }
         ensures places { OnOk result (D.tells → ReadsOnly [] (D.history disk.old) (D.history disk.new)) }

@@ -1,9 +1,9 @@
-use Rattle.std.proofs.Common.{◌≡◌, ℕ, ◌+◌, ◌-◌, ◌%◌, ◌++◌, length, sym, ◌∙◌, ap, subst, arith}
+use Rattle.std.proofs.Common.{◌≡◌, ℕ, ◌+◌, ◌-◌, ◌%◌, ◌≤◌, List, ◌++◌, length, sym, ◌∙◌, ap, subst, arith}
 use Rattle.std.specs.Prelude.{IsTrue}
 use Rattle.std.proofs.Math.Nat.{mod-lt}
 use Rattle.bd_disk.specs.History.{History, contents}
 use Rattle.bd_disk.specs.Made.{LeavesNow, LeavesSince, WritesOnly}
-use Rattle.bd_model.specs.Sizes.{sizes_of}
+use Rattle.bd_model.specs.Sizes.{sizes_of, payload_room}
 use Rattle.bd_space.specs.Allotment.{TakenExactly}
 use Rattle.bd_space.proofs.Exact.{TakenExactly-permutation}
 use Rattle.bd_gate.specs.Halves.{Half, log_place}
@@ -16,8 +16,8 @@ use Rattle.bd_catalog.specs.Opening.{Found}
 use Rattle.bd_catalog.specs.Rules.{obeys}
 use Rattle.bd_catalog.specs.Shown.{catalogue_of_contents}
 use Rattle.bd_catalog.specs.Spelling.{spelled}
-use Rattle.bd_catalog.specs.Steps.{brought, committed, frame_beside, stepped, InOtherHalf}
-use Rattle.bd_catalog.proofs.Committing.{other-beside, other-next, agrees-committed, stops-committed, kept-committed}
+use Rattle.bd_catalog.specs.Steps.{brought, committed, frame_beside, stepped, with_catalogue, InOtherHalf}
+use Rattle.bd_catalog.proofs.Committing.{other-beside, other-next, agrees-committed, stops-committed, kept-committed, either-committed}
 use Rattle.bd_catalog.proofs.Framing.{length-written_back}
 use Rattle.bd_catalog.proofs.Lengths.{length-spelled}
 use Rattle.bd_catalog.proofs.Obeying.{IsBounded, bounded_of}
@@ -132,3 +132,29 @@ returns-clause-owners g c =
     let same = sym (ap (λ (l : Ledger). l.found) c.self.view_is ∙ c.make.ensures) in
     subst (λ (f : Found). TakenExactly c.args.space.now (all_extents f.catalogue)) same
     (TakenExactly-permutation c.args.space.now (all_extents found.catalogue ++ brought c.args.step) (all_extents (stepped found.catalogue c.args.step)) (own-stepped found.catalogue c.args.step) c.requires.owners)
+
+pub returns-in_err-half-clause-contents : goal.returns-in_err-half-clause-contents
+returns-in_err-half-clause-contents g c = λ told.
+    let found = c.args.self.now.found in
+    let after : Catalogue = stepped found.catalogue c.args.step in
+    let old : History = g.D.Disk.history c.args.disk.now in
+    let new : History = g.D.Disk.history c.write_beside.new.disk in
+    let same = sym (ap (λ (l : Ledger). l.found) c.self.view_is ∙ c.make.ensures) in
+    let bounded : IsBounded found.sizes = subst (λ (f : Found). IsBounded f.sizes) (sym same) (bounded_of c.self.inside.shape) in
+    let rules : IsTrue (obeys found.sizes after) = subst (λ (f : Found). IsTrue (obeys f.sizes f.catalogue)) (sym same) c.self.invariant.obeys_rules in
+    either-committed found old (c.requires.agrees told) after bounded rules new
+    (subst (λ (f : Found). WritesOnly (InOtherHalf f) old new) (sym same) (c.write_beside.ensures.writes told))
+    (subst (λ (f : Found). LeavesSince (IsOldOrFrame f.sizes (1 - f.half.number) (frame_beside f.half f.catalogue) (contents old)) old new) (sym same) (c.write_beside.ensures.stops told))
+
+pub returns-clause-contents : goal.returns-clause-contents
+returns-clause-contents g c = λ told.
+    let found = c.args.self.now.found in
+    let after : Catalogue = stepped found.catalogue c.args.step in
+    let old : History = g.D.Disk.history c.args.disk.now in
+    let new : History = g.D.Disk.history c.write_beside.new.disk in
+    let same = sym (ap (λ (l : Ledger). l.found) c.self.view_is ∙ c.make.ensures) in
+    let bounded : IsBounded found.sizes = subst (λ (f : Found). IsBounded f.sizes) (sym same) (bounded_of c.self.inside.shape) in
+    let rules : IsTrue (obeys found.sizes after) = subst (λ (f : Found). IsTrue (obeys f.sizes f.catalogue)) (sym same) c.self.invariant.obeys_rules in
+    either-committed found old (c.requires.agrees told) after bounded rules new
+    (subst (λ (f : Found). WritesOnly (InOtherHalf f) old new) (sym same) (c.write_beside.ensures.writes told))
+    (subst (λ (f : Found). LeavesSince (IsOldOrFrame f.sizes (1 - f.half.number) (frame_beside f.half f.catalogue) (contents old)) old new) (sym same) (c.write_beside.ensures.stops told))
