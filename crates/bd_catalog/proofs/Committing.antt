@@ -1,19 +1,17 @@
 -- What the commit of a catalogue makes of the disk, from what the commit of its frame does.
-use Rattle.std.proofs.Common.{◌≡◌, ◌⊎◌, ⊎_elim, ℕ, ◌+◌, ◌-◌, ◌%◌, ◌<◌, ◌≤◌, List, [], ◌∷◌, ◌++◌, length, refl, sym, ◌∙◌, ap, subst, arith, Some, IfSome}
-use Rattle.std.specs.Prelude.{Result, Ok, IsTrue}
+use Rattle.std.proofs.Common.{◌≡◌, ⊎_elim, ℕ, ◌+◌, ◌-◌, ◌%◌, ◌≤◌, List, length, sym, ◌∙◌, ap, subst, arith, IfSome}
+use Rattle.std.specs.Prelude.{Ok, IsTrue}
 use mathlib.Core.Logic.{inl, inr}
 use Rattle.bd_disk.specs.Images.{Agree, AgreeBut}
 use Rattle.bd_disk.specs.History.{History, clock, contents, Now, Since}
-use Rattle.bd_disk.specs.Made.{IsSettled, IsSure, LeavesNow, LeavesSince, WritesOnly}
+use Rattle.bd_disk.specs.Made.{IsSettled, LeavesNow, LeavesSince, WritesOnly}
 use Rattle.bd_disk.proofs.Agreeing.{agree_fewer}
 use Rattle.bd_disk.proofs.Frames.{contents_now, leaves_now, made_none, same_contents, same_since, settled_sure}
-use Rattle.bd_model.specs.Sizes.{Sizes, payload_room}
-use Rattle.bd_gate.specs.Superblock.{open_gate}
-use Rattle.bd_gate.specs.Commits.{frame_of}
-use Rattle.bd_gate.specs.Halves.{Half, half_at, newest_half, is_open, turn_at, payload_of, log_place, InHalf, InHalves}
+use Rattle.bd_model.specs.Sizes.{payload_room}
+use Rattle.bd_gate.specs.Halves.{Half, half_at, newest_half, is_open, turn_at, log_place, InHalf, InHalves}
 use Rattle.bd_gate.specs.Standing.{SameStanding, IsBeside, IsCommitted, next_turn}
 use Rattle.bd_gate.specs.Standing.{IsOldOrCommitted as IsOldOrFrame}
-use Rattle.bd_gate.proofs.Newest.{other_below, other_twice}
+use Rattle.bd_gate.proofs.Newest.{other_below}
 use Rattle.bd_gate.proofs.Kept.{beside_newest, turn_after, standing_of_halves, within_halves, superblock_apart}
 use Rattle.bd_gate.proofs.Committed.{FindsPayload, committed_payload}
 use Rattle.bd_catalog.specs.Agreement.{Agrees}
@@ -21,7 +19,7 @@ use Rattle.bd_catalog.specs.Catalogue.{Catalogue}
 use Rattle.bd_catalog.specs.Opening.{Found, opened}
 use Rattle.bd_catalog.specs.Rules.{obeys, catalogue_of}
 use Rattle.bd_catalog.specs.Spelling.{spelled}
-use Rattle.bd_catalog.specs.Steps.{committed, frame_beside, next_half, InOtherHalf, KeepsCatalogue, HasCommitted, IsOldOrCommitted, IsKeptOrCommitted}
+use Rattle.bd_catalog.specs.Steps.{committed, frame_beside, InOtherHalf, KeepsCatalogue, HasCommitted, IsOldOrCommitted, IsKeptOrCommitted}
 use Rattle.bd_catalog.proofs.Agreeing.{InSuperblock, opens_with, same_standing_opens}
 use Rattle.bd_catalog.proofs.Decoding.{catalogue_of-spelled}
 use Rattle.bd_catalog.proofs.Lengths.{length-spelled, payload_room-small}

@@ -1,19 +1,18 @@
 -- The empty store of the tests, and its first version.
-use Rattle.std.proofs.Common.{◌≡◌, ℕ, zero, suc, ◌+◌, ◌-◌, ◌<◌, ◌≤◌, Bool, true, false, not, cond, List, [], ◌∷◌, ◌++◌, length, replicate, get_or, refl, sym, ◌∙◌, ap, subst, arith, length-append, nat_le, nat_lt, le-ltb}
+use Rattle.std.proofs.Common.{◌≡◌, ℕ, zero, suc, Bool, true, false, not, cond, List, [], ◌∷◌, ◌++◌, length, replicate, get_or, refl, sym, ◌∙◌, ap, subst, arith, length-append, nat_lt, le-ltb}
 use Rattle.std.specs.Prelude.{Result, Ok, Err, Some, All, Contains, ◌==◌, slice_get, nat_eq}
 use Rattle.std.specs.List.{IsDistinct}
 use Rattle.std.proofs.lemmas.List.{append-nil, length-replicate, get_or-replicate}
 use Rattle.std.proofs.lemmas.List.Elements.{All-nil, All-cons}
-use Rattle.bd_disk.specs.History.{History, Begun, Now, contents}
-use Rattle.bd_disk.specs.Images.{bytes_at}
+use Rattle.bd_disk.specs.History.{Begun, contents}
 use Rattle.bd_disk.specs.Memory.{Memory, fresh}
 use Rattle.bd_disk.proofs.Agreeing.{agree_fewer}
 use Rattle.bd_model.specs.declared.shape.Shape.{Shape as ShapeStruct}
-use Rattle.bd_model.specs.Sizes.{Sizes, sizes_of, disk_bytes, is_shape}
+use Rattle.bd_model.specs.Sizes.{sizes_of, disk_bytes, is_shape}
 use Rattle.bd_model.specs.declared.place.Place.{Place}
-use Rattle.bd_model.specs.declared.place.Place.TheVariants.{Short, Gate, Magic, Number, Shape, Padding, Room, Payload}
-use Rattle.bd_gate.specs.Superblock.{byte_at, open_gate, magic}
-use Rattle.bd_gate.specs.Halves.{Half, half_at, newest_by, newest_half, is_open, turn_at, payload_of, log_place, InHalves}
+use Rattle.bd_model.specs.declared.place.Place.TheVariants.{Short, Gate, Magic, Number, Shape, Padding, Room}
+use Rattle.bd_gate.specs.Superblock.{open_gate}
+use Rattle.bd_gate.specs.Halves.{Half, newest_by, newest_half, is_open, turn_at, log_place, InHalves}
 use Rattle.bd_space.specs.Allotment.{Allotment, Marks, IsFree, TakenExactly}
 use Rattle.bd_space.specs.declared.space.Use.TheVariants.{Free, Taken}
 use Rattle.bd_space.proofs.Distinct.{distinct_cons}
@@ -21,11 +20,10 @@ use Rattle.bd_space.proofs.Exact.{TakenExactly-new, TakenExactly-append}
 use Rattle.bd_catalog.specs.Agreement.{Agrees}
 use Rattle.bd_catalog.specs.Catalogue.{VersionEntry, OpenEntry, empty_catalogue}
 use Rattle.bd_catalog.specs.Ledger.{found_alone}
-use Rattle.bd_catalog.specs.Opening.{Found, opened, opened_half, opened_payload}
-use Rattle.bd_catalog.specs.Rules.{catalogue_of}
+use Rattle.bd_catalog.specs.Opening.{Found, opened, opened_half}
 use Rattle.bd_catalog.specs.Small.{small_sizes}
 use Rattle.bd_catalog.specs.Steps.{FitsBackup}
-use Rattle.bd_catalog.proofs.StandingFound.{opened_by, opened-is}
+use Rattle.bd_catalog.proofs.StandingFound.{opened-is}
 
 -- the superblock, and the half behind it
 abbrev pub front : List ℕ

@@ -1,6 +1,5 @@
-use Rattle.std.proofs.Common.{◌≡◌, ℕ, ◌++◌, List, [], ◌∷◌, length, sym, ◌∙◌, ap, subst, arith}
-use Rattle.bd_disk.specs.History.{contents}
-use Rattle.bd_model.specs.Sizes.{sizes_of, disk_bytes}
+use Rattle.std.proofs.Common.{◌≡◌, ◌++◌, [], sym, ◌∙◌, ap, subst, arith}
+use Rattle.bd_model.specs.Sizes.{disk_bytes}
 use Rattle.bd_space.specs.Allotment.{TakenExactly}
 use Rattle.bd_catalog.specs.Agreement.{Agrees}
 use Rattle.bd_catalog.specs.Catalogue.{all_extents, empty_catalogue}

@@ -1,4 +1,4 @@
-use Rattle.std.proofs.Common.{rules, ◌≡◌, ◌++◌, List, ℕ, ◌∙◌, refl}
+use Rattle.std.proofs.Common.{rules, ◌≡◌, ◌++◌, ◌∙◌, refl}
 use Rattle.bd_catalog.proofs.Smallest.{front, fresh-agrees, fresh-size}
 use Rattle.bd_catalog.proofs.commit_tests.fresh_disk.Goals as goal
 

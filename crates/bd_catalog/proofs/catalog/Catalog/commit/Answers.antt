@@ -1,9 +1,9 @@
-use Rattle.std.proofs.Common.{◌≡◌, ℕ, ◌+◌, ◌-◌, ◌%◌, ◌≤◌, List, ◌++◌, length, sym, ◌∙◌, ap, subst, arith}
+use Rattle.std.proofs.Common.{◌≡◌, ℕ, ◌+◌, ◌-◌, ◌%◌, ◌++◌, length, sym, ◌∙◌, ap, subst, arith}
 use Rattle.std.specs.Prelude.{IsTrue}
 use Rattle.std.proofs.Math.Nat.{mod-lt}
 use Rattle.bd_disk.specs.History.{History, contents}
 use Rattle.bd_disk.specs.Made.{LeavesNow, LeavesSince, WritesOnly}
-use Rattle.bd_model.specs.Sizes.{sizes_of, payload_room}
+use Rattle.bd_model.specs.Sizes.{sizes_of}
 use Rattle.bd_space.specs.Allotment.{TakenExactly}
 use Rattle.bd_space.proofs.Exact.{TakenExactly-permutation}
 use Rattle.bd_gate.specs.Halves.{Half, log_place}
@@ -16,7 +16,7 @@ use Rattle.bd_catalog.specs.Opening.{Found}
 use Rattle.bd_catalog.specs.Rules.{obeys}
 use Rattle.bd_catalog.specs.Shown.{catalogue_of_contents}
 use Rattle.bd_catalog.specs.Spelling.{spelled}
-use Rattle.bd_catalog.specs.Steps.{brought, committed, frame_beside, stepped, with_catalogue, InOtherHalf}
+use Rattle.bd_catalog.specs.Steps.{brought, committed, frame_beside, stepped, InOtherHalf}
 use Rattle.bd_catalog.proofs.Committing.{other-beside, other-next, agrees-committed, stops-committed, kept-committed, either-committed}
 use Rattle.bd_catalog.proofs.Framing.{length-written_back}
 use Rattle.bd_catalog.proofs.Lengths.{length-spelled}
