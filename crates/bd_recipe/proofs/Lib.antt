@@ -5,3 +5,4 @@ pub mod Locating
 pub mod Pieces
 pub mod Spelling
 pub mod Versions
+pub mod Written
