@@ -1,6 +1,7 @@
 pub mod Answering
 pub mod Entries
 pub mod Found
+pub mod Holding
 pub mod Locating
 pub mod Pieces
 pub mod Spelling
