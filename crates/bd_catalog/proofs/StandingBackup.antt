@@ -26,7 +26,8 @@ use Rattle.bd_catalog.specs.Standing.{BeginWith, HasNumbers, HasVolumes, HasActi
 use Rattle.bd_catalog.proofs.Agreeing.{InExtents}
 use Rattle.bd_catalog.proofs.Standing.{Shows, stands-shows, shows_agrees, stands_by_parts}
 use Rattle.bd_catalog.proofs.StandingEmpty.{nothing_from, nothing-state, catalogue_from, nothing-numbers, nothing-lines, nothing-actives}
-use Rattle.bd_catalog.proofs.StandingGrown.{with_entries, entry_for, empty_volume, own_category, numbers-more, recipes-more, actives-more, volumes-more, lines-more}
+use Rattle.bd_catalog.specs.Growing.{with_entries, entry_for, empty_volume, own_category}
+use Rattle.bd_catalog.proofs.StandingGrown.{numbers-more, recipes-more, actives-more, volumes-more, lines-more}
 
 -- a version more is a legal state where a number is left
 pub with_version-state : (shape : Shape) (st : VersionState) (stream : List ℕ) → IsState st → newest (history shape st) < last_number → IsState (with_version st stream)

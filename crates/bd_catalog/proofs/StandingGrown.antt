@@ -27,31 +27,9 @@ use Rattle.bd_model.proofs.GrownLemmas.{recipes_stay, lines_stay}
 use Rattle.bd_model.proofs.RowLemmas.{rows_over, rows_over-same}
 use Rattle.bd_model.proofs.StepLemmas.{length-history, history-grown}
 use Rattle.bd_catalog.specs.Catalogue.{Catalogue, VersionEntry, VolumeEntry, OpenEntry, oldest_in, recipe_extents, volume_extents, active_extents}
+use Rattle.bd_catalog.specs.Growing.{with_entries, entry_for, empty_volume, own_category}
 use Rattle.bd_catalog.specs.Standing.{BeginWith, HasNumbers, HasVolumes, HasActives, lines_from, open_rows}
 use Rattle.bd_catalog.proofs.StandingLists.{line_of, lines_from-push, map-numbers, rows_over-push, rows_over-past, filter-map_none, rows-earlier, newest_rows-empty, newest_volume-empty}
-
--- the catalogue with a version more, and with more volumes and open categories
-abbrev pub with_entries : Catalogue → Phase → VersionEntry → List VolumeEntry → List OpenEntry → Catalogue
-with_entries c phase entry volumes actives = record {
-  base = c.base;
-  newest = c.newest + 1;
-  phase = phase;
-  versions = c.versions ++ entry ∷ [];
-  volumes = c.volumes ++ volumes;
-  actives = c.actives ++ actives;
-}
-
--- the entry of a version of these bytes and chunks
-abbrev pub entry_for : List ℕ → List (List ℕ) → List (List ℕ) → List ℕ → VersionEntry
-entry_for stream parts begun extents = record { length = length stream; chunks = length parts; fresh = length begun; extents = extents }
-
--- a closed volume of which nothing is archived yet
-abbrev pub empty_volume : VolumeEntry
-empty_volume = record { rows = []; extents = [] }
-
--- the open category of these chunks, where there are some
-abbrev pub own_category : ℕ → List (List ℕ) → List ℕ → List OpenEntry
-own_category v begun extents = cond (nat_lt 0 (length begun)) (record { row = row_of v begun; extents = extents } ∷ []) []
 
 -- what is nothing begins everywhere
 begin_with_nothing : (s : Sizes) (extents bytes image : List ℕ) → bytes ≡ [] → BeginWith s extents bytes image

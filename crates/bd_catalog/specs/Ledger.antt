@@ -1,6 +1,6 @@
 -- What contracts see of a catalogue that is held in memory.
 use Rattle.std.specs.Prelude.{◌≡◌, ◌+◌, ◌-◌, ◌≤◌, ◌<◌, ℕ, List, [], ◌∷◌, length, false, IsTrue}
-use Rattle.bd_model.specs.Sizes.{Sizes, payload_room}
+use Rattle.bd_model.specs.Sizes.{Sizes, half_bytes, half_place, payload_room}
 use Rattle.bd_gate.specs.Halves.{Half, log_place}
 use Rattle.bd_catalog.specs.declared.rows.ClosedVolume.{ClosedVolume}
 use Rattle.bd_catalog.specs.declared.contents.Contents.{Contents}
@@ -23,17 +23,28 @@ pub record Ledger : Type 0 where
   pub found : Found
   pub room : Room
 
--- the catalogue obeys the rules, and the buffer has room for a payload with what stands round it in a half
-pub record IsKept (s : Sizes) (c : Catalogue) (buffer : ℕ) : Type 0 where
+-- the half is one of the two, its turn is one of the three, and its log begins behind its payload and ends within it
+pub record IsPlaced (s : Sizes) (half : Half) (log_end : ℕ) : Type 0 where
+  pub number : half.number ≤ 1
+  pub turn : half.turn ≤ 2
+  pub begins : log_place s half ≤ log_end
+  pub ends : log_end < half_place s half.number + half_bytes s
+
+-- the catalogue obeys the rules and has its place, and the buffer has room for a payload with what stands round it in a half
+pub record IsKept (s : Sizes) (c : Catalogue) (half : Half) (log_end buffer : ℕ) : Type 0 where
   pub obeys_rules : IsTrue (obeys s c)
+  pub place : IsPlaced s half log_end
   pub frame : buffer ≡ payload_room s + 10
 
 -- a catalogue that stands in half 0 alone, behind it an empty log
 abbrev pub half_zero : Catalogue → Half
 half_zero c = record { number = 0; turn = 0; length = length (spelled c); other_open = false }
 
+abbrev pub found_in : Sizes → Half → Catalogue → ℕ → Found
+found_in s half c log_end = record { sizes = s; half = half; catalogue = c; log_end = log_end }
+
 abbrev pub found_alone : Sizes → Catalogue → Found
-found_alone s c = record { sizes = s; half = half_zero c; catalogue = c; log_end = log_place s (half_zero c) }
+found_alone s c = found_in s (half_zero c) c (log_place s (half_zero c))
 
 -- the room in the last volume
 abbrev pub last_room : (ClosedVolume → ℕ) → List ClosedVolume → ℕ

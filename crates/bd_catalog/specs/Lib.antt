@@ -1,5 +1,7 @@
+pub mod Agreement
 pub mod Catalogue
 pub mod Damages
+pub mod Growing
 pub mod Ledger
 pub mod Opening
 pub mod Rules
@@ -7,6 +9,7 @@ pub mod Shown
 pub mod Sound
 pub mod Spelling
 pub mod Standing
+pub mod Steps
 pub mod Walks
 pub mod Widths
 pub mod Writing

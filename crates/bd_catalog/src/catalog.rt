@@ -1,18 +1,30 @@
-ghost use Rattle.std.specs.Prelude.{◌≡◌, ℕ, ◌+◌, ◌-◌, ◌≤◌, ◌<◌, ◌↔◌, ◌++◌, drop, map, length, IsTrue, IfOk, OnOk, IfSome, IfNone, Some, None, IsSome, slice_get};
-ghost use Rattle.bd_model.specs.Sizes.{sizes_of, payload_room};
-ghost use Rattle.bd_catalog.specs.Catalogue.{empty_catalogue, oldest_in, retained_in};
-ghost use Rattle.bd_catalog.specs.Ledger.{found_alone, HasRoom};
+ghost use Rattle.std.specs.Prelude.{◌≡◌, ℕ, ◌+◌, ◌-◌, ◌≤◌, ◌<◌, ◌↔◌, [], ◌++◌, drop, map, length, IsTrue, IfOk, OnOk, IfSome, IfNone, Some, None, IsSome, slice_get};
+ghost use Rattle.bd_disk.specs.Calls.{HasCause};
+ghost use Rattle.bd_disk.specs.History.{contents};
+ghost use Rattle.bd_disk.specs.Images.{AgreeBut};
+ghost use Rattle.bd_disk.specs.Made.{IsSettled, LeavesSince, Makes, WritesOnly};
+ghost use Rattle.bd_disk.specs.Trace.{ReadsOnly};
+ghost use Rattle.bd_model.specs.Sizes.{sizes_of, disk_bytes, payload_room};
+ghost use Rattle.bd_space.specs.Allotment.{extent_count, held_count, TakenExactly};
+ghost use Rattle.bd_catalog.specs.Agreement.{Agrees};
+ghost use Rattle.bd_catalog.specs.Catalogue.{all_extents, empty_catalogue, oldest_in, retained_in};
+ghost use Rattle.bd_catalog.specs.Ledger.{found_alone, found_in, IsPlaced, HasRoom};
 ghost use Rattle.bd_catalog.specs.Rules.{obeys, catalogue_of};
 ghost use Rattle.bd_catalog.specs.Spelling.{spelled};
 ghost use Rattle.bd_catalog.specs.Shown.{catalogue_of_contents, version_entry, volume_entry, open_entry};
+ghost use Rattle.bd_catalog.specs.Steps.{brought, catalogue_calls, committed, stepped, with_catalogue, Fits, InOtherHalf, IsKeptOrCommitted, IsOldOrCommitted};
 
 use crate::contents::Contents;
 use crate::decode::take_contents;
 use crate::encode::put_contents;
+use crate::frame::{log_place, write_beside};
 use crate::rows::{Actives, ClosedVolume, VersionRow};
 use crate::rules::obeys;
+use crate::step::Step;
+use bd_disk::{Disk, Failed};
 use bd_gate::Half;
 use bd_model::{Phase, Shape};
+use bd_space::Space;
 use bd_wire::Cursor;
 use std::alloc::{AllocError as OutOfMemory, Global};
 use std::marker::Model;
@@ -21,6 +33,7 @@ use std::marker::Model;
 /// disk it stands. It always obeys the rules of catalogues for its shape.
 #[derive(Drop)]
 pub struct Catalog {
+    alloc: Global,
     shape: Shape,
     contents: Contents,
     half: Half,
@@ -47,7 +60,7 @@ impl Model for Catalog {
       room = room_of c.contents;
     } };
 
-    ghost invariant = { λ c. IsKept (sizes_of c.shape) (catalogue_of_contents c.contents) (length c.frame.items) };
+    ghost invariant = { λ c. IsKept (sizes_of c.shape) (catalogue_of_contents c.contents) c.half c.log_end (length c.frame.items) };
 }
 
 impl Catalog {
@@ -100,17 +113,33 @@ impl Catalog {
         requires spelled { payload ≡ length (spelled (catalogue_of_contents contents)) }
         ensures { IfOk result (λ c. c.found ≡ found_alone (sizes_of shape) (catalogue_of_contents contents)) }
     {
+        let half = Half {
+            number: 0,
+            turn: 0,
+            length: payload,
+            other_open: false,
+        };
+        Catalog::placed(alloc, shape, contents, half, 64 + 10 + payload)
+    }
+
+    // The catalogue in this half, with the end of its log.
+    pub(crate) fn placed(
+        alloc: Global,
+        shape: Shape,
+        contents: Contents,
+        half: Half,
+        log_end: u64,
+    ) -> Result<Catalog, OutOfMemory>
+        requires rules { IsTrue (obeys (sizes_of shape) (catalogue_of_contents contents)) }
+        requires place { IsPlaced (sizes_of shape) half log_end }
+        ensures { IfOk result (λ c. c.found ≡ found_in (sizes_of shape) half (catalogue_of_contents contents) log_end) }
+    {
         let frame = vec![in alloc; 0u8; shape.payload_room() as usize + 10]?;
-        let log_end = 64 + 10 + payload;
         Ok(Catalog {
+            alloc,
             shape,
             contents,
-            half: Half {
-                number: 0,
-                turn: 0,
-                length: payload,
-                other_open: false,
-            },
+            half,
             log_end,
             frame,
         })
@@ -134,6 +163,64 @@ impl Catalog {
         ensures room { OnOk result (HasRoom self.new) }
     {
         self.contents.reserve(self.shape.extents())
+    }
+
+    // Makes the step in memory alone. The half stays.
+    fn make(&mut self, step: Step)
+        requires reserved { HasRoom self.old }
+        requires fits { Fits self.old.found.sizes self.old.found.catalogue step }
+        ensures { self.new.found ≡ with_catalogue self.old.found (stepped self.old.found.catalogue step) }
+    {
+        match step {
+            Step::Backup { version, fresh } => self.contents.back_up(self.alloc, version, fresh),
+            Step::Expire => unreachable!(),
+            Step::Arrange { .. } => unreachable!(),
+        }
+    }
+
+    /// Makes the step, in memory and on the disk: writes the catalogue after it into the half that isn't the newest, with
+    /// four or six calls of the disk. Takes no memory.
+    ///
+    /// A stop at any moment leaves the old catalogue or the new one. After `Failed` the catalogue isn't used again.
+    pub fn commit<D: Disk>(
+        &mut self,
+        disk: &mut D,
+        space: &mut Space,
+        step: Step,
+    ) -> Result<(), Failed>
+        requires room { disk_bytes self.old.found.sizes ≤ D.bytes disk.old }
+        requires reserved { HasRoom self.old }
+        requires fits { Fits self.old.found.sizes self.old.found.catalogue step }
+        requires agrees { D.tells → Agrees self.old.found (D.history disk.old) }
+        // The space counts as taken what the catalogue and the step own, each number once.
+        requires owners { TakenExactly space.old (all_extents self.old.found.catalogue ++ brought step) }
+        ensures bytes { D.bytes disk.new ≡ D.bytes disk.old }
+        ensures cause { HasCause (D.faults disk.old) (D.faults disk.new) result }
+        ensures writes { D.tells → WritesOnly (InOtherHalf self.old.found) (D.history disk.old) (D.history disk.new) }
+        ensures stops { D.tells →
+            LeavesSince (IsOldOrCommitted self.old.found (committed self.old.found (stepped self.old.found.catalogue step)) (D.history disk.old))
+            (D.history disk.old) (D.history disk.new) }
+        // So do the contents.
+        ensures contents { D.tells →
+            IsKeptOrCommitted self.old.found (committed self.old.found (stepped self.old.found.catalogue step))
+            (contents (D.history disk.old)) (contents (D.history disk.new)) }
+        ensures calls { OnOk result (D.tells →
+            Makes (catalogue_calls self.old.found (stepped self.old.found.catalogue step)) (D.history disk.old) (D.history disk.new)) }
+        ensures places { OnOk result (D.tells → ReadsOnly [] (D.history disk.old) (D.history disk.new)) }
+        ensures made { OnOk result (self.new.found ≡ committed self.old.found (stepped self.old.found.catalogue step)) }
+        ensures agrees { OnOk result (D.tells → Agrees self.new.found (D.history disk.new)) }
+        ensures settled { OnOk result (D.tells → IsSettled (D.history disk.new)) }
+        ensures kept { OnOk result (D.tells →
+            AgreeBut (InOtherHalf self.old.found) (contents (D.history disk.old)) (contents (D.history disk.new))) }
+        ensures owners { OnOk result (TakenExactly space.new (all_extents self.new.found.catalogue)) }
+        ensures extents { extent_count space.new ≡ extent_count space.old }
+        ensures held { held_count space.new ≡ held_count space.old }
+    {
+        self.make(step);
+        let half = write_beside(disk, &self.shape, &self.half, &self.contents, &mut self.frame)?;
+        self.log_end = log_place(&self.shape, &half);
+        self.half = half;
+        Ok(())
     }
 
     /// The shape of the store. The catalogue obeys the rules for it.

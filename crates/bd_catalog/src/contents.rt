@@ -1,11 +1,14 @@
-ghost use Rattle.std.specs.Prelude.{◌≡◌, ◌+◌, ◌≤◌, OnOk};
+ghost use Rattle.std.specs.Prelude.{◌≡◌, ◌+◌, ◌^◌, ◌<◌, ◌≤◌, OnOk};
 ghost use Rattle.bd_catalog.specs.Catalogue.{retained_in, oldest_in};
-ghost use Rattle.bd_catalog.specs.Ledger.{RoomIs};
-ghost use Rattle.bd_catalog.specs.Shown.{catalogue_of_contents};
+ghost use Rattle.bd_catalog.specs.Growing.{after_backup};
+ghost use Rattle.bd_catalog.specs.Ledger.{RoomIs, room_of};
+ghost use Rattle.bd_catalog.specs.Shown.{catalogue_of_contents, version_entry};
+ghost use Rattle.bd_catalog.specs.Steps.{fresh_entries};
 
-use crate::rows::{Actives, ClosedVolume, VersionRow};
+use crate::rows::{ActiveCategory, Actives, ClosedVolume, Rows, VersionRow};
 use bd_model::Phase;
-use std::alloc::AllocError as OutOfMemory;
+use bd_space::Owned;
+use std::alloc::{AllocError as OutOfMemory, Global};
 
 // What a catalogue spells.
 #[derive(Drop)]
@@ -43,5 +46,37 @@ impl Contents {
             last.extents.reserve(extents)?;
         }
         Ok(())
+    }
+
+    // Puts in one version more, with the open category of its fresh chunks where there are some, into room that was made.
+    // The version before it gets a volume of which nothing is archived yet. Takes no memory.
+    pub(crate) fn back_up(
+        &mut self,
+        alloc: Global,
+        version: VersionRow,
+        fresh: Option<ActiveCategory>,
+    )
+        requires versions { 1 ≤ (room_of self.old).versions }
+        requires volumes { 1 ≤ (room_of self.old).volumes }
+        requires actives { 1 ≤ (room_of self.old).actives }
+        requires base { self.old.base ≤ self.old.newest }
+        requires number { self.old.newest + 1 < 2 ^ 32 }
+        ensures { catalogue_of_contents self.new ≡ after_backup (catalogue_of_contents self.old) (version_entry version) (fresh_entries fresh) }
+    {
+        self.phase = Phase::Settled;
+        if self.versions.len() > 0 {
+            self.phase = Phase::Waiting {
+                cursor: self.base + 1,
+            };
+            let _ = self.volumes.push(ClosedVolume {
+                rows: Rows::new(alloc),
+                extents: Owned::none(alloc),
+            });
+        }
+        let _ = self.versions.push(version);
+        self.newest += 1;
+        if let Some(category) = fresh {
+            self.actives.push(category);
+        }
     }
 }

@@ -5,6 +5,7 @@ mod catalog;
 mod contents;
 mod decode;
 mod encode;
+mod frame;
 mod laws;
 mod rows;
 mod rules;

@@ -1,3 +1,3 @@
-mod Bytes
-mod Found
-mod Stops
+pub mod Bytes
+pub mod Found
+pub mod Stops

@@ -5,10 +5,12 @@ use Rattle.bd_catalog.proofs.Obeying.{bounded_of}
 use Rattle.bd_catalog.proofs.Lengths.{length-spelled, payload_room-small}
 use Rattle.bd_catalog.proofs.catalog.Catalog.alone.Goals as goal
 
-pub overflow_add-log_end-2 : goal.overflow_add-log_end-2
-overflow_add-log_end-2 c =
+pub overflow_add-payload : goal.overflow_add-payload
+overflow_add-payload c =
     let bounded = bounded_of c.args.shape in
     omega (arith, c.requires.spelled, length-spelled (sizes_of c.args.shape) bounded (catalogue_of_contents c.args.contents) c.requires.rules, payload_room-small (sizes_of c.args.shape) bounded)
 
-pub invariant_of-result : goal.invariant_of-result
-invariant_of-result c = record { obeys_rules = c.requires.rules; frame = omega (arith, c.in_ok-frame.ensures.len, c.payload_room.ensures) }
+pub placed-requires-clause-place : goal.placed-requires-clause-place
+placed-requires-clause-place c =
+    let fits = length-spelled (sizes_of c.args.shape) (bounded_of c.args.shape) (catalogue_of_contents c.args.contents) c.requires.rules in
+    record { number = omega arith; turn = omega arith; begins = omega arith; ends = omega (arith, c.requires.spelled, fits) }

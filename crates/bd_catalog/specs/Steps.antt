@@ -1,0 +1,99 @@
+-- What a step makes of a catalogue, when it fits, and what a stop within its commit leaves.
+use Rattle.std.specs.Prelude.{◌≡◌, ◌⊎◌, ℕ, ◌+◌, ◌-◌, ◌%◌, true, List, [], ◌∷◌, ◌++◌, length, flat_map, Option, Some, None, All, IsTrue, Ok}
+use Rattle.bd_disk.specs.History.{Call, History, contents, Now}
+use Rattle.bd_disk.specs.Images.{AgreeBut}
+use Rattle.bd_model.specs.Sizes.{Sizes}
+use Rattle.bd_gate.specs.Commits.{commit_calls, frame_of}
+use Rattle.bd_gate.specs.Halves.{Half, InHalf, log_place}
+use Rattle.bd_catalog.specs.declared.rows.ActiveCategory.{ActiveCategory}
+use Rattle.bd_catalog.specs.declared.step.Step.{Step}
+use Rattle.bd_catalog.specs.declared.step.Step.TheVariants.{Backup, Expire, Arrange}
+use Rattle.bd_catalog.specs.Catalogue.{Catalogue, VersionEntry, OpenEntry}
+use Rattle.bd_catalog.specs.Growing.{after_backup}
+use Rattle.bd_catalog.specs.Opening.{Found, opened}
+use Rattle.bd_catalog.specs.Rules.{obeys}
+use Rattle.bd_catalog.specs.Shown.{version_entry, open_entry}
+use Rattle.bd_catalog.specs.Spelling.{spelled}
+
+abbrev pub fresh_entries : Option ActiveCategory → List OpenEntry
+fresh_entries None = []
+fresh_entries (Some category) = open_entry category ∷ []
+
+-- the catalogue after the step; the other steps are to come
+abbrev pub stepped : Catalogue → Step → Catalogue
+stepped c (Backup version fresh) = after_backup c (version_entry version) (fresh_entries fresh)
+stepped c Expire = c
+stepped c (Arrange volume splits) = c
+
+-- the extents that the step brings
+abbrev pub brought : Step → List ℕ
+brought (Backup version fresh) = version.recipe.numbers ++ flat_map (λ e. e.extents) (fresh_entries fresh)
+brought Expire = []
+brought (Arrange volume splits) = []
+
+-- the catalogue obeys its rules with this version, and its fresh chunks are those of the category that begins with it
+pub record FitsBackup (s : Sizes) (c : Catalogue) (version : VersionEntry) (fresh : List OpenEntry) : Type 0 where
+  pub rules : IsTrue (obeys s (after_backup c version fresh))
+  pub begins : All (λ e. (e.row.start ≡ c.newest + 1) × (e.row.chunks ≡ version.fresh)) fresh
+  pub none : fresh ≡ [] → version.fresh ≡ 0
+
+-- a step that can be made; none of the other steps can yet
+abbrev pub Fits : Sizes → Catalogue → Step → Type 0
+Fits s c (Backup version fresh) = FitsBackup s c (version_entry version) (fresh_entries fresh)
+Fits s c Expire = ⊥
+Fits s c (Arrange volume splits) = ⊥
+
+-- the half that a commit of so many bytes of payload makes the newest
+abbrev pub next_half : Half → ℕ → Half
+next_half half bytes = record { number = 1 - half.number; turn = (half.turn + 1) % 3; length = bytes; other_open = true }
+
+-- the frame that a commit of this catalogue writes beside this half
+abbrev pub frame_beside : Half → Catalogue → List ℕ
+frame_beside half c = frame_of ((half.turn + 1) % 3) (spelled c)
+
+-- the calls of that commit
+abbrev pub catalogue_calls : Found → Catalogue → List Call
+catalogue_calls found c = commit_calls found.sizes (1 - found.half.number) found.half.other_open (frame_beside found.half c)
+
+-- another catalogue in the same place
+abbrev pub with_catalogue : Found → Catalogue → Found
+with_catalogue found c = record { sizes = found.sizes; half = found.half; catalogue = c; log_end = found.log_end }
+
+-- what an opening finds after a commit of this catalogue
+abbrev pub committed : Found → Catalogue → Found
+committed found c =
+    let half : Half = next_half found.half (length (spelled c)) in
+    record { sizes = found.sizes; half = half; catalogue = c; log_end = log_place found.sizes half }
+
+-- the places that a commit writes: of the half that isn't the newest
+abbrev pub InOtherHalf : Found → ℕ → Type 0
+InOtherHalf found place = InHalf found.sizes (1 - found.half.number) place
+
+-- the image is one that a stop before might have left but for the half that isn't the newest, and opens with its catalogue
+pub record KeepsCatalogue (found : Found) (h : History) (image : List ℕ) : Type 0 where
+  pub before : List ℕ
+  pub was : Now h before
+  pub elsewhere : AgreeBut (InOtherHalf found) before image
+  pub opens : (old : Found) → opened before ≡ Ok old → old.sizes ≡ found.sizes →
+      (again : Found) × (opened image ≡ Ok again) × (again.sizes ≡ old.sizes) × (again.catalogue ≡ old.catalogue)
+
+-- the image opens with the catalogue that was committed, and is the old contents but for that half
+pub record HasCommitted (found after : Found) (old image : List ℕ) : Type 0 where
+  pub opens : opened image ≡ Ok after
+  pub elsewhere : AgreeBut (InOtherHalf found) old image
+
+-- a stop within a commit leaves the old catalogue, or the whole commit
+abbrev pub IsOldOrCommitted : Found → Found → History → List ℕ → Type 0
+IsOldOrCommitted found after h image = KeepsCatalogue found h image ⊎ HasCommitted found after (contents h) image
+
+-- the image has the old catalogue, and is the old contents but for the half that isn't the newest
+pub record HasKept (found : Found) (old image : List ℕ) : Type 0 where
+  pub again : Found
+  pub opens : opened image ≡ Ok again
+  pub sizes : again.sizes ≡ found.sizes
+  pub catalogue : again.catalogue ≡ found.catalogue
+  pub elsewhere : AgreeBut (InOtherHalf found) old image
+
+-- the contents after a commit, which may have failed: with the old catalogue, or with the one committed
+abbrev pub IsKeptOrCommitted : Found → Found → List ℕ → List ℕ → Type 0
+IsKeptOrCommitted found after old image = HasKept found old image ⊎ HasCommitted found after old image

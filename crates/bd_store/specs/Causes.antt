@@ -1,0 +1,47 @@
+-- Each fault comes only by the count of its object.
+use Rattle.std.specs.Prelude.{◌≡◌, ◌⊎◌, ℕ, ◌≤◌, List, Result, Ok, Err}
+use Rattle.bd_disk.specs.Calls.{Rose}
+use Rattle.bd_model.specs.FileMap.{FileMap}
+use Rattle.bd_model.specs.declared.answer.Answer.{Answer}
+use Rattle.bd_model.specs.declared.command.Command.{Command}
+use Rattle.bd_model.specs.declared.command.Command.TheVariants.{Backup}
+use Rattle.bd_files.specs.Files.{Lacks}
+use Rattle.bd_store.specs.declared.fault.StoreFault.{StoreFault}
+use Rattle.bd_store.specs.declared.fault.StoreFault.TheVariants.{SourceFault, TargetFault, DiskFault, Damaged, OutOfMemory, Unbuilt}
+
+-- the counts of faults of a disk, of sources and of targets
+pub record Counts : Type 0 where
+  pub disk : ℕ
+  pub sources : ℕ
+  pub targets : ℕ
+
+abbrev pub counts : ℕ → ℕ → ℕ → Counts
+counts disk sources targets = record { disk = disk; sources = sources; targets = targets }
+
+pub record NoneFell (before now : Counts) : Type 0 where
+  pub disk : before.disk ≤ now.disk
+  pub sources : before.sources ≤ now.sources
+  pub targets : before.targets ≤ now.targets
+
+-- by which count a fault comes; where no object failed no count has risen
+abbrev pub HasRisen : StoreFault → Counts → Counts → Type 0
+HasRisen SourceFault before now = Rose before.sources now.sources
+HasRisen TargetFault before now = Rose before.targets now.targets
+HasRisen DiskFault before now = Rose before.disk now.disk
+HasRisen (Damaged damage) before now = now ≡ before
+HasRisen OutOfMemory before now = now ≡ before
+HasRisen Unbuilt before now = now ≡ before
+
+abbrev pub ByCount : Result Answer StoreFault → Counts → Counts → Type 0
+ByCount (Ok answer) before now = now ≡ before
+ByCount (Err fault) before now = HasRisen fault before now
+
+-- No count falls. A fault comes only where its count has risen, and every other answer only where none has.
+pub record FailsOnlyByCount (before now : Counts) (result : Result Answer StoreFault) : Type 0 where
+  pub later : NoneFell before now
+  pub cause : ByCount result before now
+
+-- The count of missing sources rises only where this command is a backup of one.
+pub record StraysOnlyBy (command : Command) (files : FileMap) (before now : ℕ) : Type 0 where
+  pub later : before ≤ now
+  pub missing : (now ≡ before) ⊎ ((name : List ℕ) × (command ≡ Backup name) × Lacks files name)

@@ -1,0 +1,38 @@
+-- What a stop within a command leaves.
+use Rattle.std.specs.Prelude.{ℕ, Result, Ok, Err}
+use Rattle.bd_disk.specs.History.{History}
+use Rattle.bd_disk.specs.Made.{LeavesNow, LeavesSince}
+use Rattle.bd_model.specs.FileMap.{FileMap}
+use Rattle.bd_model.specs.State.{VersionState}
+use Rattle.bd_model.specs.Step.{Outcome}
+use Rattle.bd_model.specs.declared.answer.Answer.{Answer}
+use Rattle.bd_model.specs.declared.shape.Shape.{Shape}
+use Rattle.bd_model.specs.declared.command.Command.{Command}
+use Rattle.bd_catalog.specs.Standing.{Stands}
+use Rattle.bd_store.specs.Steps.{Task, task, LeadsTo, IsNear, StandsOnEitherSide}
+use Rattle.bd_store.specs.declared.fault.StoreFault.{StoreFault}
+
+-- each image that a stop now may leave stands for the state
+abbrev pub IsSureOf : Task → History → Type 0
+IsSureOf t h = LeavesNow (Stands t.shape t.held t.state) h
+
+-- once the command has answered, each image stands for the state after it
+pub record IsSureAfter (t : Task) (new : History) : Type 0 where
+  pub outcome : Outcome
+  pub leads : LeadsTo t outcome
+  pub sure : LeavesNow (Stands t.shape t.held outcome.state) new
+
+abbrev pub IsSureOnOk : Task → History → Result Answer StoreFault → Type 0
+IsSureOnOk t new (Ok answer) = IsSureAfter t new
+IsSureOnOk t new (Err fault) = Unit {0}
+
+-- Each image that a stop at any moment of the command left stands for the state before it or for the one after, and
+-- once it has answered, for the one after.
+pub record StopsOnEitherSide (t : Task) (old new : History) (result : Result Answer StoreFault) : Type 0 where
+  pub within : LeavesSince (StandsOnEitherSide t) old new
+  pub done : IsSureOnOk t new result
+
+-- Whatever state each image at entry stood for: a stop leaves that state or the one after.
+pub record IsSafeAtStops (command : Command) (held : ℕ) (old new : History) (files : FileMap) (result : Result Answer StoreFault) : Type 0 where
+  pub each : (shape : Shape) → (st : VersionState) → IsNear (task shape held st files command) → IsSureOf (task shape held st files command) old →
+      StopsOnEitherSide (task shape held st files command) old new result

@@ -1,0 +1,10 @@
+//! A store of versions on a disk: one command on it is one step of the version machine.
+#![tactic(auto)]
+
+mod fault;
+mod listing;
+mod store;
+
+pub use bd_recover::FormatFault;
+pub use fault::{OpenFault, StoreFault};
+pub use store::Store;

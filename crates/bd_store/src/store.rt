@@ -1,0 +1,191 @@
+ghost use Rattle.std.specs.Prelude.{◌≡◌, ◌↔◌, ◌≤◌, ◌<◌, true, false, IfOk, OnOk, IfErr, Ok, Err};
+ghost use Rattle.bd_disk.specs.Calls.{Rose};
+ghost use Rattle.bd_disk.specs.History.{contents};
+ghost use Rattle.bd_disk.specs.Looks.{LooksOnlyAt};
+ghost use Rattle.bd_disk.specs.Made.{IsSettled, LeavesSince, TouchesNothing, WritesNothing, WritesOnly};
+ghost use Rattle.bd_model.specs.Sizes.{sizes_of, disk_bytes, extent_place};
+ghost use Rattle.bd_model.specs.State.{empty, last_number};
+ghost use Rattle.bd_model.specs.Step.{without_room};
+ghost use Rattle.bd_model.specs.declared.layout.Phase.TheVariants.{Settled};
+ghost use Rattle.bd_model.specs.declared.command.Command.TheVariants.{Backup};
+ghost use Rattle.bd_model.specs.declared.answer.Answer.TheVariants.{Listed};
+ghost use Rattle.bd_gate.specs.Superblock.{is_marked};
+ghost use Rattle.bd_catalog.specs.Agreement.{Agrees};
+ghost use Rattle.bd_catalog.specs.Catalogue.{oldest_in, retained_in};
+ghost use Rattle.bd_catalog.specs.Opening.{opened};
+ghost use Rattle.bd_catalog.specs.Standing.{StandsFor, lines_from};
+ghost use Rattle.bd_recover.specs.Answers.{AnswersFormat, MeasuresFormat, RefusesUntouched, format_refusal};
+ghost use Rattle.bd_store.specs.Causes.{counts, FailsOnlyByCount, StraysOnlyBy};
+ghost use Rattle.bd_store.specs.Openings.{IsNoneOrEmpty, AnswersOpening};
+ghost use Rattle.bd_store.specs.Shown.{SameVersions};
+ghost use Rattle.bd_store.specs.Steps.{IsOneStep};
+ghost use Rattle.bd_store.specs.Stops.{IsSafeAtStops};
+ghost use Rattle.bd_store.specs.Touches.{AnswersByNumbers, AnswersFirst, BackupReads};
+
+use crate::fault::{OpenFault, StoreFault};
+use crate::listing::lines_of;
+use bd_catalog::Catalog;
+use bd_disk::Disk;
+use bd_files::Files;
+use bd_model::{Answer, Name, Shape};
+use bd_recover::FormatFault;
+use bd_space::Space;
+use std::alloc::{AllocError as OutOfMemory, Global};
+use std::marker::Model;
+
+/// The catalogue and the free extents of a store, in memory. It holds no disk: each call is handed the disk that the store
+/// agrees with, which is the one that it was made or opened from.
+#[derive(Drop)]
+pub struct Store {
+    catalog: Catalog,
+    space: Space,
+    worn: bool,
+}
+
+impl Model for Store {
+    ghost use Rattle.bd_space.specs.Allotment.{held_count};
+    ghost use Rattle.bd_store.specs.Kept.{IsKept};
+    ghost use Rattle.bd_store.specs.Shown.{Shown};
+
+    ghost Value = { Shown };
+
+    ghost view = { λ s. record { found = s.catalog.found; held = held_count s.space; worn = s.worn } };
+
+    ghost invariant = { λ s. IsKept s.catalog.found s.space s.worn };
+}
+
+impl Store {
+    /// Makes the empty store of this shape, on a disk that isn't a store. Its memory is taken first.
+    pub fn format<D: Disk>(alloc: Global, disk: &mut D, shape: Shape) -> Result<Store, FormatFault>
+        ensures bytes { D.bytes disk.new ≡ D.bytes disk.old }
+        ensures later { D.faults disk.old ≤ D.faults disk.new }
+        ensures kept { OnOk result (D.faults disk.new ≡ D.faults disk.old) }
+        ensures cause { result ≡ Err FormatFault.DiskFault → Rose (D.faults disk.old) (D.faults disk.new) }
+        ensures size { MeasuresFormat (sizes_of shape) (D.bytes disk.old) result }
+        ensures room { OnOk result (disk_bytes (sizes_of shape) ≤ D.bytes disk.new) }
+        ensures refused { D.tells → AnswersFormat (format_refusal (sizes_of shape) (D.bytes disk.old) (contents (D.history disk.old))) result }
+        ensures untouched { D.tells → RefusesUntouched result (D.history disk.old) (D.history disk.new) }
+        ensures memory { result ≡ Err FormatFault.OutOfMemory → D.tells → TouchesNothing (D.history disk.old) (D.history disk.new) }
+        ensures writes { D.tells → WritesOnly (λ place. place < extent_place (sizes_of shape) 0) (D.history disk.old) (D.history disk.new) }
+        // The contents stand for the empty store, and a stop leaves nothing else.
+        ensures made { OnOk result (D.tells → StandsFor shape empty Settled 0 (contents (D.history disk.new))) }
+        ensures settled { OnOk result (D.tells → IsSettled (D.history disk.new)) }
+        ensures agrees { IfOk result (λ store. D.tells → Agrees store.found (D.history disk.new)) }
+        ensures shape { IfOk result (λ store. store.found.sizes ≡ sizes_of shape) }
+        ensures fresh { IfOk result (λ store. (store.worn ≡ false) × (store.held ≡ 0)) }
+        // A stop at any moment leaves no store or the empty one.
+        ensures stops { D.tells → is_marked (contents (D.history disk.old)) ≡ false → IsSettled (D.history disk.old) → LeavesSince (IsNoneOrEmpty shape) (D.history disk.old) (D.history disk.new) }
+    {
+        Err(FormatFault::OutOfMemory)
+    }
+
+    /// Opens the store that a disk holds. It begins with a sync and writes nothing.
+    pub fn open_store<D: Disk>(alloc: Global, disk: &mut D) -> Result<Store, OpenFault>
+        ensures bytes { D.bytes disk.new ≡ D.bytes disk.old }
+        ensures later { D.faults disk.old ≤ D.faults disk.new }
+        ensures kept { OnOk result (D.faults disk.new ≡ D.faults disk.old) }
+        ensures cause { result ≡ Err OpenFault.DiskFault → Rose (D.faults disk.old) (D.faults disk.new) }
+        ensures room { IfOk result (λ store. disk_bytes store.found.sizes ≤ D.bytes disk.new) }
+        ensures writes { D.tells → WritesNothing (D.history disk.old) (D.history disk.new) }
+        ensures opened { D.tells → AnswersOpening (opened (contents (D.history disk.old))) result }
+        ensures agrees { IfOk result (λ store. D.tells → Agrees store.found (D.history disk.new)) }
+        ensures settled { OnOk result (D.tells → IsSettled (D.history disk.new)) }
+        ensures places { IfOk result (λ store. D.tells → LooksOnlyAt (λ place. place < extent_place store.found.sizes 0) (D.history disk.old) (D.history disk.new)) }
+        ensures fresh { IfOk result (λ store. (store.worn ≡ false) × (store.held ≡ 0)) }
+    {
+        Err(OpenFault::OutOfMemory)
+    }
+
+    /// Stores the named source as the next version.
+    pub fn backup<D: Disk, F: Files>(
+        &mut self,
+        alloc: Global,
+        disk: &mut D,
+        files: &mut F,
+        name: &Name,
+    ) -> Result<Answer, StoreFault>
+        requires room { disk_bytes self.old.found.sizes ≤ D.bytes disk.old }
+        requires agrees { D.tells → Agrees self.old.found (D.history disk.old) }
+        requires sound { self.old.worn ≡ false }
+        ensures bytes { D.bytes disk.new ≡ D.bytes disk.old }
+        ensures cause { FailsOnlyByCount (counts (D.faults disk.old) (F.source_faults files.old) (F.target_faults files.old)) (counts (D.faults disk.new) (F.source_faults files.new) (F.target_faults files.new)) result }
+        ensures strays { F.tells → StraysOnlyBy (Backup name.now) (F.files files.old) (F.strays files.old) (F.strays files.new) }
+        ensures numbers { AnswersByNumbers self.old.found result }
+        ensures worn { (self.new.worn ≡ true) ↔ (result ≡ Err StoreFault.DiskFault) }
+        ensures agrees { self.new.worn ≡ false → D.tells → Agrees self.new.found (D.history disk.new) }
+        ensures versions { IfErr result (λ fault. self.new.worn ≡ false → SameVersions self.old self.new) }
+        ensures files { F.tells → F.files files.new ≡ F.files files.old }
+        ensures writes { D.tells → WritesOnly (λ place. 64 ≤ place) (D.history disk.old) (D.history disk.new) }
+        ensures places { D.tells → BackupReads (D.history disk.old) (D.history disk.new) result }
+        // It is one step of the version machine.
+        ensures step { D.tells → F.tells → IsOneStep (Backup name.now) self.old.held (D.history disk.old) (D.history disk.new) (F.files files.old) (F.files files.new) result }
+        // A stop at any moment leaves the state before it or the one after.
+        ensures stops { D.tells → F.tells → IsSafeAtStops (Backup name.now) self.old.held (D.history disk.old) (D.history disk.new) (F.files files.old) result }
+    {
+        let shape = self.catalog.shape();
+        let retained = self.catalog.retained();
+        if self.catalog.newest() == u32::MAX {
+            return Ok(Answer::FullNumbers);
+        }
+        if retained == shape.retain() {
+            return Ok(Answer::FullVersions { retained });
+        }
+        if retained > 0 {
+            return Err(StoreFault::Unbuilt);
+        }
+        self.back_up_first(alloc, disk, files, name)
+    }
+
+    // Stores the named source as the one version of a store that retains none.
+    fn back_up_first<D: Disk, F: Files>(
+        &mut self,
+        alloc: Global,
+        disk: &mut D,
+        files: &mut F,
+        name: &Name,
+    ) -> Result<Answer, StoreFault>
+        requires number { self.old.found.catalogue.newest < last_number }
+        requires nothing { retained_in self.old.found.catalogue ≡ 0 }
+        requires room { disk_bytes self.old.found.sizes ≤ D.bytes disk.old }
+        requires agrees { D.tells → Agrees self.old.found (D.history disk.old) }
+        requires sound { self.old.worn ≡ false }
+        ensures bytes { D.bytes disk.new ≡ D.bytes disk.old }
+        ensures cause { FailsOnlyByCount (counts (D.faults disk.old) (F.source_faults files.old) (F.target_faults files.old)) (counts (D.faults disk.new) (F.source_faults files.new) (F.target_faults files.new)) result }
+        ensures strays { F.tells → StraysOnlyBy (Backup name.now) (F.files files.old) (F.strays files.old) (F.strays files.new) }
+        ensures first { AnswersFirst result }
+        ensures worn { (self.new.worn ≡ true) ↔ (result ≡ Err StoreFault.DiskFault) }
+        ensures agrees { self.new.worn ≡ false → D.tells → Agrees self.new.found (D.history disk.new) }
+        ensures versions { IfErr result (λ fault. self.new.worn ≡ false → SameVersions self.old self.new) }
+        ensures files { F.tells → F.files files.new ≡ F.files files.old }
+        ensures writes { D.tells → WritesOnly (λ place. 64 ≤ place) (D.history disk.old) (D.history disk.new) }
+        ensures places { D.tells → BackupReads (D.history disk.old) (D.history disk.new) result }
+        // It is one step of the version machine.
+        ensures step { D.tells → F.tells → IsOneStep (Backup name.now) self.old.held (D.history disk.old) (D.history disk.new) (F.files files.old) (F.files files.new) result }
+        // A stop at any moment leaves the state before it or the one after.
+        ensures stops { D.tells → F.tells → IsSafeAtStops (Backup name.now) self.old.held (D.history disk.old) (D.history disk.new) (F.files files.old) result }
+    {
+        Err(StoreFault::OutOfMemory)
+    }
+
+    /// The retained versions, ascending.
+    pub fn list(&self, alloc: Global) -> Result<Answer, OutOfMemory>
+        ensures lines { IfOk result (λ answer. without_room answer ≡ Listed (record { items = lines_from (oldest_in self.now.found.catalogue) self.now.found.catalogue.versions; spare = 0 })) }
+    {
+        let lines = lines_of(alloc, &self.catalog)?;
+        Ok(Answer::Listed { lines })
+    }
+
+    /// Whether a call met a fault of the disk. The disk is then opened anew.
+    pub fn is_worn(&self) -> bool
+        ensures { result ≡ self.now.worn }
+    {
+        self.worn
+    }
+
+    /// The shape that the store was formatted with.
+    pub fn shape(&self) -> Shape
+        ensures { sizes_of result ≡ self.now.found.sizes }
+    {
+        self.catalog.shape()
+    }
+}
