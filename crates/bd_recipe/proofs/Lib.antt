@@ -1,7 +1,9 @@
 pub mod Answering
 pub mod Entries
 pub mod Found
+pub mod Holding
 pub mod Locating
 pub mod Pieces
 pub mod Spelling
 pub mod Versions
+pub mod Written

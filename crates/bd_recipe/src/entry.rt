@@ -17,6 +17,12 @@ use bd_wire::{Cursor, put_u32};
 /// The bytes of an entry.
 pub(crate) const ENTRY: usize = 40;
 
+/// How many entries are read or written at a time.
+pub(crate) const PIECE: usize = 1024;
+
+/// The bytes of so many entries.
+pub(crate) const BUFFER: usize = 40_960;
+
 /// Writes the entry of this index into the recipe of an owner of these extents.
 pub fn write_entry<D: Disk>(
     disk: &mut D,

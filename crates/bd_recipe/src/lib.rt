@@ -8,7 +8,9 @@ mod located;
 mod recipe;
 #[cfg(test)]
 mod tests;
+mod writing;
 
 pub use entry::write_entry;
 pub use fault::ReadFault;
 pub use recipe::{Recipe, read_recipe};
+pub use writing::write_entries;

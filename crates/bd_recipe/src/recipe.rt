@@ -13,7 +13,7 @@ ghost use Rattle.bd_catalog.specs.Damages.{IsSeen};
 ghost use Rattle.bd_recipe.specs.Entries.{first_bad, is_within};
 ghost use Rattle.bd_recipe.specs.Reading.{AnswersRecipe, FailsByCount, IfDamaged, InRecipe, IsRecipe, OnRead, ReadsTo, recipe_found, recipe_places, total};
 
-use crate::entry::{ENTRY, entry_from};
+use crate::entry::{BUFFER, ENTRY, PIECE, entry_from};
 use crate::fault::ReadFault;
 use crate::limits::Limits;
 use crate::located::locate;
@@ -66,12 +66,6 @@ pub fn read_recipe<D: Disk>(
     }
     Ok(recipe)
 }
-
-// How many entries are read at a time.
-const PIECE: usize = 1024;
-
-// The bytes of so many entries.
-const BUFFER: usize = 40_960;
 
 // Reads all entries of an owner's recipe, with one read of the owner's bytes for each piece of them.
 fn read_entries<D: Disk>(

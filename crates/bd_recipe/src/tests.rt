@@ -30,6 +30,12 @@ fn write(disk: &mut MemDisk, shape: &Shape, index: u64, entry: &RecipeEntry) -> 
         && write_entry(disk, shape, &[3, 1], index, entry).is_ok()
 }
 
+fn write_both(disk: &mut MemDisk, shape: &Shape, entries: &[RecipeEntry; 2]) -> bool {
+    disk.size() >= shape.disk_bytes()
+        && shape.extents() > 3
+        && write_entries(disk, shape, &[3, 1], 0, entries).is_ok()
+}
+
 fn read(alloc: Global, disk: &mut MemDisk, catalog: &Catalog) -> Option<Result<Recipe, ReadFault>> {
     if disk.size() < catalog.shape().disk_bytes() || catalog.version(1).is_none() {
         return None;
@@ -40,8 +46,7 @@ fn read(alloc: Global, disk: &mut MemDisk, catalog: &Catalog) -> Option<Result<R
 /// The fault that reading a recipe of these two entries ends with.
 fn fault_of(
     alloc: Global,
-    first: &RecipeEntry,
-    second: &RecipeEntry,
+    entries: &[RecipeEntry; 2],
     fails: bool,
 ) -> Result<Option<ReadFault>, Fail> {
     let shape = Shape::new(64, 16, 4, 4, 0, 4)?;
@@ -50,7 +55,7 @@ fn fault_of(
         return Ok(None);
     };
     let mut disk = MemDisk::blank(alloc, shape.disk_bytes())?;
-    if !write(&mut disk, &shape, 0, first) || !write(&mut disk, &shape, 1, second) {
+    if !write_both(&mut disk, &shape, entries) {
         return Ok(None);
     }
     if fails {
@@ -92,7 +97,7 @@ fn damage_and_faults_are_named(rt: HostRuntime) -> Result<(), Fail> {
         },
     };
     assert_eq!(rt;
-        fault_of(alloc, &sound, &entry(7, 4, 0), false)?,
+        fault_of(alloc, &[sound, entry(7, 4, 0)], false)?,
         Some(no_start)
     );
     let other_sum = ReadFault::Damaged {
@@ -103,12 +108,12 @@ fn damage_and_faults_are_named(rt: HostRuntime) -> Result<(), Fail> {
         },
     };
     assert_eq!(rt;
-        fault_of(alloc, &sound, &entry(7, 3, 1), false)?,
+        fault_of(alloc, &[sound, entry(7, 3, 1)], false)?,
         Some(other_sum)
     );
-    assert_eq!(rt; fault_of(alloc, &sound, &sound, false)?, None);
+    assert_eq!(rt; fault_of(alloc, &[sound, sound], false)?, None);
     assert_eq!(rt;
-        fault_of(alloc, &sound, &sound, true)?,
+        fault_of(alloc, &[sound, sound], true)?,
         Some(ReadFault::DiskFault)
     );
     Ok(())
