@@ -9,3 +9,6 @@ mod store;
 pub use bd_recover::{FormatFault, OpenFault};
 pub use fault::StoreFault;
 pub use store::Store;
+
+#[cfg(test)]
+mod tests;
