@@ -38,6 +38,7 @@ use std::marker::Model;
 /// agrees with, which is the one that it was made or opened from.
 #[derive(Drop)]
 pub struct Store {
+    alloc: Global,
     catalog: Catalog,
     space: Space,
     worn: bool,
@@ -79,6 +80,7 @@ impl Store {
     {
         let Opened { catalog, space } = format(alloc, disk, shape)?;
         Ok(Store {
+            alloc,
             catalog,
             space,
             worn: false,
@@ -101,6 +103,7 @@ impl Store {
     {
         let Opened { catalog, space } = open_image(alloc, disk)?;
         Ok(Store {
+            alloc,
             catalog,
             space,
             worn: false,
@@ -110,7 +113,6 @@ impl Store {
     /// Stores the named source as the next version.
     pub fn backup<D: Disk, F: Files>(
         &mut self,
-        alloc: Global,
         disk: &mut D,
         files: &mut F,
         name: &Name,
@@ -144,13 +146,12 @@ impl Store {
         if retained > 0 {
             return Err(StoreFault::Unbuilt);
         }
-        self.back_up_first(alloc, disk, files, name)
+        self.back_up_first(disk, files, name)
     }
 
     // Stores the named source as the one version of a store that retains none.
     fn back_up_first<D: Disk, F: Files>(
         &mut self,
-        alloc: Global,
         disk: &mut D,
         files: &mut F,
         name: &Name,
@@ -175,16 +176,16 @@ impl Store {
         // A stop at any moment leaves the state before it or the one after.
         ensures stops { D.tells → F.tells → IsSafeAtStops (Backup name.now) self.old.held (D.history disk.old) (D.history disk.new) (F.files files.old) result }
     {
-        let result = take_first(alloc, disk, &mut self.catalog, &mut self.space, files, name);
+        let result = take_first(self.alloc, disk, &mut self.catalog, &mut self.space, files, name);
         self.worn = is_disk_fault(&result);
         result
     }
 
     /// The retained versions, ascending.
-    pub fn list(&self, alloc: Global) -> Result<Answer, OutOfMemory>
+    pub fn list(&self) -> Result<Answer, OutOfMemory>
         ensures lines { IfOk result (λ answer. without_room answer ≡ Listed (record { items = lines_from (oldest_in self.now.found.catalogue) self.now.found.catalogue.versions; spare = 0 })) }
     {
-        let lines = lines_of(alloc, &self.catalog)?;
+        let lines = lines_of(self.alloc, &self.catalog)?;
         Ok(Answer::Listed { lines })
     }
 

@@ -42,7 +42,7 @@ fn retained(alloc: Global, image: &[u8]) -> Result<Option<usize>, Fail> {
     let Ok(store) = Store::open_store(alloc, &mut disk) else {
         return Ok(None);
     };
-    let Answer::Listed { lines } = store.list(alloc)? else {
+    let Answer::Listed { lines } = store.list()? else {
         return Ok(None);
     };
     Ok(Some(lines.len()))
@@ -63,10 +63,10 @@ fn a_source_becomes_the_first_version(rt: HostRuntime) -> Result<(), Fail> {
         let name = Name::new(alloc, source)?;
         let mut store = Store::format(alloc, &mut disk, shape)?;
         assert_eq!(rt; store.shape(), shape);
-        let answer = store.backup(alloc, &mut disk, &mut files, &name);
+        let answer = store.backup(&mut disk, &mut files, &name);
         assert_eq!(rt; figures(&answer), expected, "{source}");
         assert_eq!(rt; store.is_worn(), false);
-        let again = store.backup(alloc, &mut disk, &mut files, &name);
+        let again = store.backup(&mut disk, &mut files, &name);
         assert_eq!(rt; again.err(), Some(StoreFault::Unbuilt));
         assert_eq!(rt; retained(alloc, disk.contents())?, Some(1));
     }
@@ -82,7 +82,7 @@ fn a_first_backup_makes_these_calls(rt: HostRuntime) -> Result<(), Fail> {
     let name = Name::new(alloc, "b")?;
     let mut store = Store::format(alloc, &mut disk, shape)?;
     let before = disk.trace().len();
-    let answer = store.backup(alloc, &mut disk, &mut files, &name);
+    let answer = store.backup(&mut disk, &mut files, &name);
     assert_eq!(rt; figures(&answer), [1, 12, 3, 1, 3]);
     // The frame behind the gate of the second half, and then the gate: the last four calls.
     let trace = disk.trace();
@@ -106,12 +106,12 @@ fn what_is_refused_leaves_the_store(rt: HostRuntime) -> Result<(), Fail> {
     let name = Name::new(alloc, "a")?;
     let mut disk = MemDisk::blank(alloc, DISK as u64)?;
     let mut store = Store::format(alloc, &mut disk, Shape::new(64, 3, 4, 4, 0, 4)?)?;
-    let full = store.backup(alloc, &mut disk, &mut files, &name);
+    let full = store.backup(&mut disk, &mut files, &name);
     assert_eq!(rt; figures(&full), [0, 4, 3, 0, 0]);
-    let missing = store.backup(alloc, &mut disk, &mut files, &Name::new(alloc, "gone")?);
+    let missing = store.backup(&mut disk, &mut files, &Name::new(alloc, "gone")?);
     assert_eq!(rt; missing.err(), Some(StoreFault::SourceFault));
     assert_eq!(rt; retained(alloc, disk.contents())?, Some(0));
-    let smaller = store.backup(alloc, &mut disk, &mut files, &Name::new(alloc, "b")?);
+    let smaller = store.backup(&mut disk, &mut files, &Name::new(alloc, "b")?);
     assert_eq!(rt; figures(&smaller), [1, 12, 3, 1, 3]);
     Ok(())
 }
@@ -129,7 +129,7 @@ fn a_stop_within_a_backup_leaves_nothing_or_the_version(rt: HostRuntime) -> Resu
         let begun = disk.trace().len() as u64;
         disk.fail_from(begun + stop);
         let done = store
-            .backup(alloc, &mut disk, &mut files, &name)
+            .backup(&mut disk, &mut files, &name)
             .is_ok();
         assert_eq!(rt; store.is_worn(), !done);
         for filler in [0, 0x4F, 0xFF] {

@@ -1,5 +1,0 @@
-pub mod Answers
-pub mod Causes
-pub mod Firsts
-pub mod Missing
-pub mod Places
