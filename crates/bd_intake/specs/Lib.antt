@@ -1,0 +1,6 @@
+pub mod Answers
+pub mod Causes
+pub mod Firsts
+pub mod Places
+pub mod Spaces
+pub mod Staging
