@@ -1,3 +1,4 @@
 pub mod Firsts
 pub mod Owning
+pub mod Growing
 pub mod Writing
