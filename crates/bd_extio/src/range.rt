@@ -2,6 +2,7 @@ ghost use Rattle.std.specs.Prelude.{◌≡◌, ◌≤◌, [], length, OnOk};
 ghost use Rattle.bd_disk.specs.Calls.{HasCause};
 ghost use Rattle.bd_disk.specs.History.{contents};
 ghost use Rattle.bd_disk.specs.Images.{overwritten};
+ghost use Rattle.bd_disk.specs.Looks.{LooksOnlyAt};
 ghost use Rattle.bd_disk.specs.Made.{WritesNothing, WritesOnly};
 ghost use Rattle.bd_disk.specs.Trace.{ReadsOnly};
 ghost use Rattle.bd_model.specs.Sizes.{sizes_of, disk_bytes};
@@ -26,6 +27,7 @@ pub fn read_at<D: Disk>(
     ensures bytes { D.bytes disk.new ≡ D.bytes disk.old }
     ensures cause { HasCause (D.faults disk.old) (D.faults disk.new) result }
     ensures writes { D.tells → WritesNothing (D.history disk.old) (D.history disk.new) }
+    ensures looks { D.tells → LooksOnlyAt (InOwner (sizes_of shape.now) extents.now at (length into.old)) (D.history disk.old) (D.history disk.new) }
     ensures read { OnOk result (D.tells → into.new ≡ owner_range (sizes_of shape.now) extents.now at (length into.old) (contents (D.history disk.old))) }
     ensures places { OnOk result (D.tells → ReadsOnly (places_at (sizes_of shape.now) extents.now at (length into.old)) (D.history disk.old) (D.history disk.new)) }
 {

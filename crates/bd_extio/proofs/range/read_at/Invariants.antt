@@ -1,10 +1,11 @@
 use Rattle.std.proofs.Common.{◌≡◌, ◌-◌, ◌≤◌, length, take}
 use Rattle.bd_disk.specs.History.{contents}
+use Rattle.bd_disk.specs.Looks.{LooksOnlyAt}
 use Rattle.bd_disk.specs.Made.{WritesNothing}
 use Rattle.bd_disk.specs.Trace.{ReadsOnly}
 use Rattle.bd_model.specs.Sizes.{sizes_of}
 use Rattle.bd_model.specs.Extents.{places_at}
-use Rattle.bd_extio.specs.Ranges.{owner_range}
+use Rattle.bd_extio.specs.Ranges.{InOwner, owner_range}
 use Rattle.bd_extio.proofs.range.read_at.Given as goal
 
 abbrev pub invariant-loop-done : goal.invariant-loop-done
@@ -13,6 +14,7 @@ invariant-loop-done g l = record {
   faults : g.D.Disk.faults l.disk ≡ g.D.Disk.faults l.fn.disk;
   within : l.done ≤ length l.into;
   writes : g.D.Disk.tells → WritesNothing (g.D.Disk.history l.fn.disk) (g.D.Disk.history l.disk);
+  looks : g.D.Disk.tells → LooksOnlyAt (InOwner (sizes_of l.shape) l.extents l.at (length l.initial.into)) (g.D.Disk.history l.fn.disk) (g.D.Disk.history l.disk);
   taken : g.D.Disk.tells → take l.done l.into ≡ owner_range (sizes_of l.shape) l.extents l.at l.done (contents (g.D.Disk.history l.fn.disk));
   places : g.D.Disk.tells → ReadsOnly (places_at (sizes_of l.shape) l.extents l.at l.done) (g.D.Disk.history l.fn.disk) (g.D.Disk.history l.disk);
 }
