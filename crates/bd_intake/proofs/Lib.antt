@@ -1,4 +1,5 @@
 pub mod Firsts
 pub mod Owning
+pub mod Draining
 pub mod Growing
 pub mod Writing

@@ -1,6 +1,7 @@
 -- What is staged of a version while its chunks come.
 use Rattle.std.specs.Prelude.{◌≡◌, ℕ, ◌*◌, ◌≤◌, List, [], ◌++◌, length, All}
 use Rattle.std.specs.List.{concat}
+use Rattle.bd_model.specs.Chunks.{chunks}
 use Rattle.bd_model.specs.Laws.{entries_in}
 use Rattle.bd_model.specs.Layout.{record_bytes}
 use Rattle.bd_model.specs.Records.{records_of, spelled_recipe}
@@ -59,3 +60,12 @@ pub record IsFed (s : Sizes) (c : Chunking) : Type 0 where
   pub stream : List ℕ
   pub taken : List (List ℕ)
   pub fed : HasFed (cut_in s) stream taken c
+
+-- The chunker was fed this stream and gave these chunks, with those before among them, and they are all taken and written.
+-- They are all chunks of the stream once it is over.
+pub record Goes (over : Type 0) (s : Sizes) (v : ℕ) (stream : List ℕ) (taken : List (List ℕ)) (c : Chunking) (before after : Staging) (told : Type 0) (old new : List ℕ) : Type 0 where
+  pub all : List (List ℕ)
+  pub fed : HasFed (cut_in s) stream all c
+  pub has : HasTaken s all after
+  pub written : told → HasWritten s v taken before old → HasWritten s v all after new
+  pub ended : over → all ≡ chunks (cut_in s) stream

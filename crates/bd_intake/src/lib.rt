@@ -9,6 +9,7 @@ mod room;
 mod seen;
 mod staged;
 mod staging;
+mod stream;
 
 pub use fault::IntakeFault;
 pub use laws::first_chunks_are_the_different_ones;
