@@ -24,6 +24,15 @@ pub record FailsByDisk {T : Type 0} (before now : ℕ) (result : Result T Intake
   pub later : before ≤ now
   pub cause : ByDisk before now result
 
+-- a source's fault comes only where its count rose, and there is no other
+abbrev pub BySource : {T : Type 0} → ℕ → ℕ → Result T IntakeFault → Type 0
+BySource before now (Err fault) = (fault ≡ SourceFault) × Rose before now
+BySource before now (Ok _) = now ≡ before
+
+pub record FailsBySource {T : Type 0} (before now : ℕ) (result : Result T IntakeFault) : Type 0 where
+  pub later : before ≤ now
+  pub cause : BySource before now result
+
 -- each fault comes only where its own count rose, and every other answer only where both stayed
 abbrev pub ByCount : {T : Type 0} → ℕ → ℕ → ℕ → ℕ → Result T IntakeFault → Type 0
 ByCount disk disk_now source source_now (Err DiskFault) = Rose disk disk_now × (source_now ≡ source)

@@ -7,6 +7,7 @@ mod laws;
 mod record;
 mod room;
 mod seen;
+mod source;
 mod staged;
 mod staging;
 mod stream;
