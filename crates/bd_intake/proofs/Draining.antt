@@ -165,3 +165,18 @@ pub advanced : (s : Sizes) (c d f : Chunking) (n : ℕ) (body : List ℕ) → bo
     (stream : List ℕ) (taken : List (List ℕ)) → HasFed (cut_in s) stream taken c → HasFed (cut_in s) stream (taken ++ body ∷ []) f
 advanced s c d f n body is looked removed stream taken fed =
     subst (λ b. HasFed (cut_in s) stream (taken ++ b ∷ []) f) (sym is) (removed (cut_in s) stream taken (looked (cut_in s) stream taken fed))
+
+-- the same after a refusal or after all
+pub reads_so_far : (told : Type 0) {h k l : History} → (told → ReadsOnly [] h k) → (told → ReadsOnly [] k l) → told → ReadsOnly [] h l
+reads_so_far told first next t = reads_both (first t) (next t)
+
+pub writes_so_far : (s : Sizes) (told : Type 0) (space one : Allotment) (a b : Staging) {h k l : History} → Grows space one a b → (told → WritesOnly (InOneOf s (staged_extents a)) h k) →
+    (told → WritesOnly (InOneOf s (staged_extents b)) k l) → told → WritesOnly (InOneOf s (staged_extents b)) h l
+writes_so_far s told space one a b grows first next t = made_both (wider s space one a b grows (first t)) (next t)
+
+-- a refusal of one call as that of another
+pub quiet_as : (T U told : Type 0) (h k : History) (fault : IntakeFault) → ReadsNothing {T = T} told h k (Err fault) → ReadsNothing {T = U} told h k (Err fault)
+quiet_as T U told h k (Full c f d) quiet = quiet
+quiet_as T U told h k SourceFault quiet = quiet
+quiet_as T U told h k DiskFault quiet = quiet
+quiet_as T U told h k OutOfMemory quiet = quiet

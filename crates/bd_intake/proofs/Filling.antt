@@ -1,5 +1,5 @@
 -- A source that comes piece after piece.
-use Rattle.std.proofs.Common.{◌≡◌, ℕ, ◌+◌, ◌-◌, ◌*◌, ◌^◌, ◌<◌, ◌≤◌, Bool, true, false, List, [], ◌∷◌, ◌++◌, length, take, drop, Some, min, refl, sym, ◌∙◌, ap, subst, arith, append_assoc, length-append, length-take, take-append-drop}
+use Rattle.std.proofs.Common.{inl, inr, ⊎_elim, ◌≡◌, ℕ, ◌+◌, ◌-◌, ◌*◌, ◌^◌, ◌<◌, ◌≤◌, Bool, true, false, List, [], ◌∷◌, ◌++◌, length, take, drop, Some, min, refl, sym, ◌∙◌, ap, subst, arith, append_assoc, length-append, length-take, take-append-drop}
 use Rattle.std.specs.List.{concat}
 use Rattle.std.specs.FinMap as map
 use Rattle.std.proofs.Math.Seq.{take-add}
@@ -9,11 +9,11 @@ use Rattle.bd_model.specs.declared.shape.Shape.{Shape}
 use Rattle.bd_model.specs.FileMap.{FileMap}
 use Rattle.bd_model.specs.Sizes.{Sizes, sizes_of}
 use Rattle.bd_space.specs.Allotment.{Allotment}
-use Rattle.bd_files.specs.Files.{Fetches, Holds}
+use Rattle.bd_files.specs.Files.{Fetches, Holds, Lacks}
 use Rattle.bd_gear.specs.Chunking.{Chunking}
 use Rattle.bd_gear.specs.Feeding.{HasFed}
 use Rattle.bd_intake.specs.declared.staging.Staging.{Staging}
-use Rattle.bd_intake.specs.Filling.{IsFront, Fills}
+use Rattle.bd_intake.specs.Filling.{IsFront, Fills, Filled, CountsMissing}
 use Rattle.bd_intake.specs.Firsts.{cut_in}
 use Rattle.bd_intake.specs.Staging.{Goes, HasTaken, IsStaging}
 use Rattle.bd_intake.proofs.Growing.{IsSmall, staging_is_small}
@@ -83,3 +83,28 @@ fills_again s v at c a told image files_told files other name same fills = recor
   written = fills.written;
   is_front = record { so = λ t stream holds. fills.is_front.so t stream (record { there = ap (λ m. map.get m name) (sym (same t)) ∙ holds.there }) };
 }
+
+-- one piece more
+pub missing_more : (files other : FileMap) (name : List ℕ) (a b d : ℕ) → other ≡ files → CountsMissing files name a b → CountsMissing other name b d → CountsMissing files name a d
+missing_more files other name a b d same first next = record {
+  later = omega (arith, first.later, next.later);
+  cause = ⊎_elim
+      (λ stays. ⊎_elim (λ before. inl (stays ∙ before)) (λ lacks. inr lacks) first.cause)
+      (λ lacks. inr (subst (λ f. Lacks f name) same lacks))
+      next.cause;
+}
+
+-- the source ended
+pub filled_all : (s : Sizes) (v at : ℕ) (c : Chunking) (a : Staging) (told : Type 0) (image : List ℕ) (files_told : Type 0) (files : FileMap) (name : List ℕ) →
+    Fills s v at c a told image files_told files name → (files_told → (stream : List ℕ) → Holds files name stream → length stream ≤ at) → Filled s v c a told image files_told files name
+filled_all s v at c a told image files_told files name fills ended = record {
+  stream = fills.front;
+  taken = fills.taken;
+  fed = fills.fed;
+  has = fills.has;
+  written = fills.written;
+  whole = λ t bytes holds. fills.is_front.so t bytes holds ∙ take_all (length fills.front) bytes (omega (arith, ended t bytes holds, fills.size));
+}
+
+pub holds_again : (files other : FileMap) (name stream : List ℕ) → other ≡ files → Holds files name stream → Holds other name stream
+holds_again files other name stream same holds = record { there = ap (λ m. map.get m name) same ∙ holds.there }
