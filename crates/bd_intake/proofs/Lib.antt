@@ -2,5 +2,6 @@ pub mod Filling
 pub mod Firsts
 pub mod Owning
 pub mod Draining
+pub mod Ending
 pub mod Growing
 pub mod Writing

@@ -109,3 +109,11 @@ owns_apart s base first space recipe fresh count owns =
       };
       apart = λ e in_recipe in_fresh. distinct_apart recipe fresh e once in_recipe in_fresh;
     }
+
+-- the numbers that were taken last, beside others
+pub last_taken : (space : Allotment) (kept last : List ℕ) → TakenExactly space (kept ++ last) → All (IsTaken space) last
+last_taken space kept last exact =
+    All-weaker (Contains last) (IsTaken space) (λ n has. All-contains (IsTaken space) (kept ++ last) n exact.taken (Contains-append_right kept last n has)) last (All-contains_itself last)
+
+pub last_once : (space : Allotment) (kept last : List ℕ) → TakenExactly space (kept ++ last) → IsDistinct nat_eq last
+last_once space kept last exact = distinct_right kept last exact.once

@@ -43,3 +43,9 @@ pub record FailsByCount {T : Type 0} (disk disk_now source source_now : ℕ) (re
   pub disk_later : disk ≤ disk_now
   pub source_later : source ≤ source_now
   pub cause : ByCount disk disk_now source source_now result
+
+-- the answer of an intake whose source isn't there
+abbrev pub MissesSource : {T : Type 0} → Result T IntakeFault → Type 0
+MissesSource (Err SourceFault) = Unit {0}
+MissesSource (Err OutOfMemory) = Unit {0}
+MissesSource _ = ⊥

@@ -23,3 +23,8 @@ pub record Owns (base : List ℕ) (first space : Allotment) (recipe fresh : List
   pub size : extent_count space ≡ extent_count first
   pub counted : free_count space + (length recipe + length fresh) ≡ free_count first
   pub held : held_count space ≡ held_count first
+
+-- beside some other numbers exactly these two lists are taken
+pub record IsOwned (space : Allotment) (recipe fresh : List ℕ) : Type 0 where
+  pub base : List ℕ
+  pub exact : TakenExactly space (base ++ recipe ++ fresh)

@@ -3,6 +3,8 @@
 #![tactic(auto)]
 
 mod fault;
+mod finish;
+mod intake;
 mod laws;
 mod record;
 mod room;
