@@ -74,11 +74,11 @@ up-enough extent bytes some =
 abbrev pub IsShort : ℕ → List ℕ → Type 0
 IsShort most c = (1 ≤ length c) × (length c ≤ most)
 
-stream-low : (most : ℕ) (cs : List (List ℕ)) → AllByRecursion (IsShort most) cs → length cs ≤ length (concat cs)
+pub stream-low : (most : ℕ) (cs : List (List ℕ)) → AllByRecursion (IsShort most) cs → length cs ≤ length (concat cs)
 stream-low most [] all = omega arith
 stream-low most (c ∷ cs) all = omega (arith, length-append c (concat cs), stream-low most cs all.1, all.0.0)
 
-stream-high : (most : ℕ) (cs : List (List ℕ)) → AllByRecursion (IsShort most) cs → length (concat cs) ≤ most * length cs
+pub stream-high : (most : ℕ) (cs : List (List ℕ)) → AllByRecursion (IsShort most) cs → length (concat cs) ≤ most * length cs
 stream-high most [] all = omega arith
 stream-high most (c ∷ cs) all = omega (arith, length-append c (concat cs), stream-high most cs all.1, all.0.1)
 
@@ -101,7 +101,7 @@ module _ (shape : Shape) (staging : Staging) where
   abbrev s : Sizes
   s = sizes_of shape
 
-  some_extent : 1 ≤ s.extent
+  pub some_extent : 1 ≤ s.extent
   some_extent = omega (arith, shape.in_range.extent_low)
 
   pub staging_small : (taken : List (List ℕ)) → HasTaken s taken staging → HasExtents s staging → AreApart s staging.recipe.numbers staging.fresh.numbers → IsSmall staging

@@ -1,5 +1,6 @@
 pub mod Filling
 pub mod Firsts
+pub mod Fitting
 pub mod Owning
 pub mod Draining
 pub mod Ending

@@ -117,3 +117,13 @@ last_taken space kept last exact =
 
 pub last_once : (space : Allotment) (kept last : List ℕ) → TakenExactly space (kept ++ last) → IsDistinct nat_eq last
 last_once space kept last exact = distinct_right kept last exact.once
+
+-- the same of both lists together
+pub owns_last : (base : List ℕ) (first space : Allotment) (recipe fresh : List ℕ) → Owns base first space recipe fresh → TakenExactly space (base ++ (recipe ++ fresh))
+owns_last base first space recipe fresh owns = subst (TakenExactly space) (append_assoc base recipe fresh) owns.exact
+
+pub owns_below : (s : Sizes) (base : List ℕ) (first space : Allotment) (recipe fresh : List ℕ) → extent_count first ≡ s.extents → Owns base first space recipe fresh → All (λ n. n < s.extents) (recipe ++ fresh)
+owns_below s base first space recipe fresh count owns =
+    All-weaker (IsTaken space) (λ n. n < s.extents)
+    (λ n taken. let within : n < extent_count space = slice_get_within space.uses n Taken taken in omega (arith, within, owns.size, count))
+    (recipe ++ fresh) (last_taken space base (recipe ++ fresh) (owns_last base first space recipe fresh owns))

@@ -4,7 +4,7 @@
 
 mod fault;
 mod finish;
-mod intake;
+mod take_in;
 mod laws;
 mod record;
 mod room;
@@ -15,5 +15,6 @@ mod staging;
 mod stream;
 
 pub use fault::IntakeFault;
+pub use take_in::intake;
 pub use laws::first_chunks_are_the_different_ones;
 pub use staged::Staged;

@@ -85,3 +85,63 @@ fn stage<D: Disk, F: Files>(
         free,
     )
 }
+
+/// Takes in the stream under the name as the first version of an empty store: its chunks, each of which is stored once, and
+/// its recipe, in extents that were free. The space counts what is staged as taken; a refusal gives everything back.
+pub fn intake<D: Disk, F: Files>(
+    alloc: Global,
+    disk: &mut D,
+    catalog: &Catalog,
+    space: &mut Space,
+    gear: &Gear,
+    files: &mut F,
+    name: &Name,
+) -> Result<Staged, IntakeFault>
+    requires room { disk_bytes catalog.now.found.sizes ≤ D.bytes disk.old }
+    requires empty { retained_in catalog.now.found.catalogue ≡ 0 }
+    requires number { catalog.now.found.catalogue.newest < 4294967295 }
+    requires owners { TakenExactly space.old (all_extents catalog.now.found.catalogue) }
+    requires size { extent_count space.old ≡ catalog.now.found.sizes.extents }
+    ensures bytes { D.bytes disk.new ≡ D.bytes disk.old }
+    ensures cause { FailsByCount (D.faults disk.old) (D.faults disk.new) (F.source_faults files.old) (F.source_faults files.new) result }
+    ensures targets { F.target_faults files.new ≡ F.target_faults files.old }
+    ensures strays { F.tells → CountsMissing (F.files files.old) name.now (F.strays files.old) (F.strays files.new) }
+    ensures missing { F.tells → Lacks (F.files files.old) name.now → MissesSource result }
+    ensures files { F.tells → F.files files.new ≡ F.files files.old }
+    ensures writes { D.tells → WritesOnly (InFree catalog.now.found.sizes space.old) (D.history disk.old) (D.history disk.new) }
+    ensures places { ReadsNothing D.tells (D.history disk.old) (D.history disk.new) result }
+    ensures owned { IfOk result (λ staged. TakenExactly space.new (all_extents catalog.now.found.catalogue ++ brought (Backup staged.version staged.fresh))) }
+    ensures given_back { OnErr result (TakenExactly space.new (all_extents catalog.now.found.catalogue)) }
+    ensures size { extent_count space.new ≡ extent_count space.old }
+    ensures held { held_count space.new ≡ held_count space.old }
+    ensures fits { IfOk result (λ staged. Fits catalog.now.found.sizes catalog.now.found.catalogue (Backup staged.version staged.fresh)) }
+    // What is counted, by the stream and the marks of its chunks.
+    ensures counted { F.tells → (stream : List ℕ) → Holds (F.files files.old) name.now stream
+        → AnswersIntake catalog.now.found.sizes (catalog.now.found.catalogue.newest + 1) stream (chunks (cut_in catalog.now.found.sizes) stream) (free_count space.old) (held_count space.old) result }
+    // What is written.
+    ensures stored { IfOk result (λ staged. D.tells → F.tells → (stream : List ℕ) → Holds (F.files files.old) name.now stream
+        → HoldsVersion catalog.now.found.sizes (catalog.now.found.catalogue.newest + 1) (chunks (cut_in catalog.now.found.sizes) stream) staged (contents (D.history disk.new))) }
+{
+    let shape = catalog.shape();
+    let version = catalog.newest() + 1;
+    let free = space.free();
+    let mut staging = nothing_staged(alloc);
+    match stage(
+        alloc,
+        &mut staging,
+        disk,
+        space,
+        &shape,
+        version,
+        free,
+        gear,
+        files,
+        name,
+    ) {
+        Ok(()) => Ok(finished(staging, version)),
+        Err(fault) => {
+            give_back(staging, space);
+            Err(fault)
+        }
+    }
+}

@@ -9,7 +9,7 @@ use Rattle.bd_intake.specs.Firsts.{cut_in}
 use Rattle.bd_intake.proofs.Draining.{writes_so_far}
 use Rattle.bd_intake.proofs.Ending.{by_disk, quiet_then, refuses_last, whole_stream}
 use Rattle.bd_intake.proofs.Growing.{grows_both}
-use Rattle.bd_intake.proofs.intake.stage.Goals as goal
+use Rattle.bd_intake.proofs.take_in.stage.Goals as goal
 
 pub returns-in_err-fill-clause-refused : goal.returns-in_err-fill-clause-refused
 returns-in_err-fill-clause-refused g c = λ t stream holds.
