@@ -1,0 +1,177 @@
+-- What is staged, one chunk after the other.
+use Rattle.std.proofs.Common.{◌≡◌, ℕ, ◌+◌, ◌-◌, ◌*◌, ◌/◌, ◌%◌, ◌^◌, ◌<◌, ◌≤◌, Bool, true, false, cond, not, ◌||◌, List, [], ◌∷◌, ◌++◌, length, filter, refl, sym, ◌∙◌, ap, subst, arith, append_assoc, length-append}
+use mir.Val.{bool_byte}
+use Rattle.std.specs.Prelude.{All}
+use Rattle.std.specs.Str.{bytes_eq}
+use Rattle.std.specs.List.{AllByRecursion, concat}
+use Rattle.std.proofs.Math.Nat.{mod-lt, mul-le-mul_right}
+use Rattle.std.proofs.lemmas.Nat.{div-add-mod'}
+use Rattle.std.proofs.lemmas.List.{append-nil}
+use Rattle.std.proofs.lemmas.List.Elements.{All-append, All-from_recursion, recursion_from_All}
+use Rattle.std.proofs.lemmas.List.Folds.{concat-append}
+use Rattle.std.proofs.lemmas.List.Sums.{sum_by-append}
+use Rattle.bd_model.specs.declared.shape.Shape.{Shape}
+use Rattle.bd_model.specs.Laws.{entries_in}
+use Rattle.bd_model.specs.Layout.{record_bytes}
+use Rattle.bd_model.specs.Marks.{mark}
+use Rattle.bd_model.specs.Records.{records_of, spelled_recipe}
+use Rattle.bd_model.specs.Room.{up}
+use Rattle.bd_model.specs.Sizes.{Sizes, sizes_of}
+use Rattle.bd_space.specs.Allotment.{Allotment, extent_count, free_count}
+use Rattle.bd_space.specs.Holding.{Holding}
+use Rattle.bd_extio.proofs.Places.{range_small}
+use Rattle.bd_catalog.specs.Standing.{BeginWith}
+use Rattle.bd_intake.specs.declared.staging.Staging.{Staging}
+use Rattle.bd_intake.specs.Firsts.{first_by_mark, is_marked, knows, with_new, extents_of}
+use Rattle.bd_intake.specs.Places.{AreApart}
+use Rattle.bd_intake.specs.Spaces.{Adds, Owns}
+use Rattle.bd_intake.specs.Staging.{HasTaken, HasExtents, HasWritten, IsStaging, Grows}
+use Rattle.bd_intake.proofs.Firsts.{first_by_mark-push, is_marked-push}
+use Rattle.bd_intake.proofs.Owning.{owns_fresh, owns_recipe, owns_apart}
+use Rattle.bd_intake.proofs.Writing.{begins_longer, length-records}
+
+-- ---- extents
+
+-- the records' extents went on
+pub grows_first : (space one : Allotment) (a : Staging) (fresh : Holding) → Adds space one a.fresh.numbers fresh.numbers → Grows space one a (record a { fresh = fresh })
+grows_first space one a fresh adds = record {
+  recipe = ([], sym (append-nil a.recipe.numbers));
+  fresh = (adds.added, adds.so);
+  owners = λ base first owns. owns_fresh base first space one a.recipe.numbers a.fresh.numbers owns fresh.numbers adds;
+}
+
+-- and those of the recipe
+pub grows_second : (space one two : Allotment) (a : Staging) (fresh recipe : Holding) → Adds space one a.fresh.numbers fresh.numbers → Adds one two a.recipe.numbers recipe.numbers →
+    Grows space two a (record a { fresh = fresh; recipe = recipe })
+grows_second space one two a fresh recipe adds more = record {
+  recipe = (more.added, more.so);
+  fresh = (adds.added, adds.so);
+  owners = λ base first owns. owns_recipe base first one two a.recipe.numbers fresh.numbers recipe.numbers (owns_fresh base first space one a.recipe.numbers a.fresh.numbers owns fresh.numbers adds) more;
+}
+
+pub grows_none : (space : Allotment) (a b : Staging) → b.recipe ≡ a.recipe → b.fresh ≡ a.fresh → Grows space space a b
+grows_none space a b recipe fresh = record {
+  recipe = ([], ap (λ (h : Holding). h.numbers) recipe ∙ sym (append-nil a.recipe.numbers));
+  fresh = ([], ap (λ (h : Holding). h.numbers) fresh ∙ sym (append-nil a.fresh.numbers));
+  owners = λ base first owns. subst (λ h. Owns base first space h.numbers b.fresh.numbers) (sym recipe) (subst (λ h. Owns base first space a.recipe.numbers h.numbers) (sym fresh) owns);
+}
+
+pub grows_both : {space one two : Allotment} {a b d : Staging} → Grows space one a b → Grows one two b d → Grows space two a d
+grows_both {space} {one} {two} {a} {b} {d} f g = record {
+  recipe = (f.recipe.0 ++ g.recipe.0, g.recipe.1 ∙ ap (λ xs. xs ++ g.recipe.0) f.recipe.1 ∙ append_assoc a.recipe.numbers f.recipe.0 g.recipe.0);
+  fresh = (f.fresh.0 ++ g.fresh.0, g.fresh.1 ∙ ap (λ xs. xs ++ g.fresh.0) f.fresh.1 ∙ append_assoc a.fresh.numbers f.fresh.0 g.fresh.0);
+  owners = λ base first owns. g.owners base first (f.owners base first owns);
+}
+
+-- ---- numbers
+
+pub up-enough : (extent bytes : ℕ) → 1 ≤ extent → bytes ≤ up extent bytes * extent
+up-enough extent bytes some =
+    let positive : 0 < extent = omega arith in
+    omega (arith, div-add-mod' (bytes + (extent - 1)) extent, mod-lt (bytes + (extent - 1)) positive)
+
+-- each chunk has a byte, and no more than the most
+abbrev pub IsShort : ℕ → List ℕ → Type 0
+IsShort most c = (1 ≤ length c) × (length c ≤ most)
+
+pub stream-low : (most : ℕ) (cs : List (List ℕ)) → AllByRecursion (IsShort most) cs → length cs ≤ length (concat cs)
+stream-low most [] all = omega arith
+stream-low most (c ∷ cs) all = omega (arith, length-append c (concat cs), stream-low most cs all.1, all.0.0)
+
+pub stream-high : (most : ℕ) (cs : List (List ℕ)) → AllByRecursion (IsShort most) cs → length (concat cs) ≤ most * length cs
+stream-high most [] all = omega arith
+stream-high most (c ∷ cs) all = omega (arith, length-append c (concat cs), stream-high most cs all.1, all.0.1)
+
+pub filter-few : (p : List ℕ → Bool) (cs : List (List ℕ)) → length (filter p cs) ≤ length cs
+filter-few p [] = omega arith
+filter-few p (c ∷ cs) = elim (p c) as (λ t. length (cond t (c ∷ filter p cs) (filter p cs)) ≤ length (c ∷ cs)) [ true ↦ omega (arith, filter-few p cs) | false ↦ omega (arith, filter-few p cs) ]
+
+pub firsts-few : (cs : List (List ℕ)) → length (first_by_mark cs) ≤ length cs
+firsts-few [] = omega arith
+firsts-few (c ∷ cs) = omega (arith, firsts-few cs, filter-few (λ d. not (bytes_eq (mark c) (mark d))) (first_by_mark cs))
+
+-- what is staged is small
+pub record IsSmall (staging : Staging) : Type 0 where
+  pub entries : 40 * staging.chunks ≤ 2 ^ 40
+  pub records : staging.fresh_bytes ≤ 2 ^ 40
+  pub stream : staging.length ≤ 65536 * staging.chunks
+  pub few : staging.fresh_chunks ≤ staging.chunks
+
+module _ (shape : Shape) (staging : Staging) where
+  abbrev s : Sizes
+  s = sizes_of shape
+
+  pub some_extent : 1 ≤ s.extent
+  some_extent = omega (arith, shape.in_range.extent_low)
+
+  pub staging_small : (taken : List (List ℕ)) → HasTaken s taken staging → HasExtents s staging → AreApart s staging.recipe.numbers staging.fresh.numbers → IsSmall staging
+  staging_small taken has long apart =
+      let all = recursion_from_All (IsShort s.max) taken has.each in
+      let most = mul-le-mul_right {m = s.max} {n = 65536} (length taken) (omega (arith, shape.in_range.max_high)) in
+      record {
+        entries = omega (arith, up-enough s.extent (40 * staging.chunks) some_extent, ap (λ n. n * s.extent) long.recipe,
+            range_small s staging.recipe.numbers apart.recipe_extents (omega (arith, shape.in_range.extents_high)) (omega (arith, shape.in_range.extent_high)));
+        records = omega (arith, up-enough s.extent staging.fresh_bytes some_extent, ap (λ n. n * s.extent) long.fresh,
+            range_small s staging.fresh.numbers apart.fresh_extents (omega (arith, shape.in_range.extents_high)) (omega (arith, shape.in_range.extent_high)));
+        stream = omega (arith, has.stream_bytes, has.chunk_count, stream-high s.max taken all, most);
+        few = omega (arith, has.fresh_count, has.chunk_count, firsts-few taken);
+      }
+
+  pub staging_is_small : (free : ℕ) (space : Allotment) → IsStaging s free space staging → IsSmall staging
+  staging_is_small free space is =
+      staging_small is.taken is.has is.extents (owns_apart s is.base is.first space staging.recipe.numbers staging.fresh.numbers is.count is.owns)
+
+  pub staging_left : (free : ℕ) (space : Allotment) → IsStaging s free space staging → free_count space + (length staging.recipe.numbers + length staging.fresh.numbers) ≡ free
+  staging_left free space is = is.owns.counted ∙ is.left
+
+-- ---- one chunk more
+
+length-with_new : (b : Bool) (c : List ℕ) (cs : List (List ℕ)) → length (with_new b c cs) ≡ length cs + cond b 1 0
+length-with_new true c cs = length-append cs (c ∷ [])
+length-with_new false c cs = omega arith
+
+bytes-with_new : (b : Bool) (c : List ℕ) (cs : List (List ℕ)) → record_bytes (with_new b c cs) ≡ record_bytes cs + cond b (36 + length c) 0
+bytes-with_new true c cs = omega (arith, sum_by-append (λ d. 36 + length d) cs (c ∷ []))
+bytes-with_new false c cs = omega arith
+
+pub new_is : (s : Sizes) (taken : List (List ℕ)) (old : Staging) (body : List ℕ) (is_new : Bool) → HasTaken s taken old → is_new ≡ not (knows old.seen (mark body)) →
+    first_by_mark (taken ++ body ∷ []) ≡ with_new is_new body (first_by_mark taken)
+new_is s taken old body is_new has is =
+    first_by_mark-push taken body ∙ ap (λ b. with_new b body (first_by_mark taken)) (sym (is ∙ ap not (has.known (mark body))))
+
+pub took : (s : Sizes) (taken : List (List ℕ)) (old new : Staging) (body : List ℕ) (is_new : Bool) → HasTaken s taken old → 1 ≤ length body → length body ≤ s.max →
+    is_new ≡ not (knows old.seen (mark body)) → ((m : List ℕ) → knows new.seen m ≡ (knows old.seen m || bytes_eq m (mark body))) →
+    new.fresh_bytes ≡ old.fresh_bytes + cond is_new (36 + length body) 0 → new.fresh_chunks ≡ old.fresh_chunks + cond is_new 1 0 →
+    new.chunks ≡ old.chunks + 1 → new.length ≡ old.length + length body → HasTaken s (taken ++ body ∷ []) new
+took s taken old new body is_new has some short is known bytes count chunks size =
+    let firsts = new_is s taken old body is_new has is in
+    record {
+      each = All-append (IsShort s.max) taken (body ∷ []) has.each (All-from_recursion (IsShort s.max) (body ∷ []) ((some, short), tt));
+      known = λ m. known m ∙ ap (λ t. t || bytes_eq m (mark body)) (has.known m) ∙ sym (is_marked-push taken body m);
+      chunk_count = omega (arith, chunks, has.chunk_count, length-append taken (body ∷ []));
+      stream_bytes = omega (arith, size, has.stream_bytes, ap length (concat-append taken (body ∷ [])), length-append (concat taken) (concat (body ∷ [])), ap length (append-nil body));
+      fresh_count = omega (arith, count, has.fresh_count, ap length firsts, length-with_new is_new body (first_by_mark taken));
+      record_bytes_is = omega (arith, bytes, has.record_bytes_is, ap record_bytes firsts, bytes-with_new is_new body (first_by_mark taken));
+    }
+
+-- what the chunks so far and one more take
+pub extents-after : (extent : ℕ) (s : Sizes) (taken : List (List ℕ)) (old : Staging) (body : List ℕ) (is_new : Bool) → HasTaken s taken old → is_new ≡ not (knows old.seen (mark body)) →
+    up extent (old.fresh_bytes + cond is_new (36 + length body) 0) + up extent (40 * (old.chunks + 1)) ≡ extents_of extent (taken ++ body ∷ [])
+extents-after extent s taken old body is_new has is =
+    let firsts = new_is s taken old body is_new has is in
+    let bytes : old.fresh_bytes + cond is_new (36 + length body) 0 ≡ record_bytes (first_by_mark (taken ++ body ∷ [])) =
+    omega (arith, has.record_bytes_is, ap record_bytes firsts, bytes-with_new is_new body (first_by_mark taken)) in
+    let count : old.chunks + 1 ≡ length (taken ++ body ∷ []) = omega (arith, has.chunk_count, length-append taken (body ∷ [])) in
+    λ k. up extent (bytes k) + up extent (40 * count k)
+
+-- what was written before stays in longer lists of extents
+pub longer : (s : Sizes) (more before after bytes image : List ℕ) → after ≡ before ++ more → BeginWith s before bytes image → BeginWith s after bytes image
+longer s more before after bytes image so begins = subst (λ xs. BeginWith s xs bytes image) (sym so) (begins_longer s before more bytes image begins)
+
+pub as_number : (b : Bool) → bool_byte b ≡ cond b 1 0
+as_number true = refl
+as_number false = refl
+
+pub one_or_none : (b : Bool) → cond b 1 0 ≤ 1
+one_or_none true = omega arith
+one_or_none false = omega arith

@@ -1,0 +1,121 @@
+-- What is written for a chunk, and what stays.
+use Rattle.std.proofs.Common.{◌≡◌, ℕ, ◌+◌, ◌*◌, ◌/◌, ◌%◌, ◌≤◌, List, [], ◌∷◌, ◌++◌, length, take, get_or, map, flat_map, refl, sym, ◌∙◌, ap, subst, arith, append_assoc, length-append, length-take}
+use Rattle.std.specs.Prelude.{Contains}
+use Rattle.std.proofs.lemmas.List.{append-nil, take-append-le, length-map, map-append}
+use Rattle.std.proofs.lemmas.Grind.{flat_map-append}
+use Rattle.std.proofs.lemmas.List.Sums.{sum_by-append}
+use Rattle.std.proofs.lemmas.List.Elements.{Contains-append_left, Contains-append_right}
+use Rattle.sha2.proofs.Facts256.{length-sha256}
+use Rattle.bd_disk.specs.History.{History, contents}
+use Rattle.bd_disk.specs.Images.{overwritten}
+use Rattle.bd_disk.specs.Made.{WritesOnly}
+use Rattle.bd_disk.proofs.Agreeing.{agree_fewer}
+use Rattle.bd_disk.proofs.Frames.{writes_wider, same_contents}
+use Rattle.bd_model.specs.Extents.{owner_bytes, extent_bytes}
+use Rattle.bd_model.specs.Laws.{entries_in}
+use Rattle.bd_model.specs.Marks.{mark}
+use Rattle.bd_model.specs.Layout.{record_bytes}
+use Rattle.bd_model.specs.Records.{four, record_of, records_of, spelled_entry, spelled_recipe}
+use Rattle.bd_model.specs.Sizes.{Sizes, extent_place, disk_bytes}
+use Rattle.bd_model.specs.declared.layout.RecipeEntry.{RecipeEntry}
+use Rattle.bd_model.specs.declared.mark.Mark.{Mark}
+use Rattle.bd_category.specs.Records.{record_with}
+use Rattle.bd_extio.specs.Ranges.{AreExtents, InOwner}
+use Rattle.bd_extio.proofs.Places.{length-owner_bytes}
+use Rattle.bd_catalog.specs.Standing.{BeginWith}
+use Rattle.bd_catalog.proofs.Agreeing.{InExtents, in_extents, owners_apart, begin_with_agrees, begin_with_more}
+use Rattle.bd_intake.specs.Places.{InOneOf}
+use Rattle.bd_intake.proofs.Firsts.{entry}
+
+pub length-mark : (c : List ℕ) → length (mark c) ≡ 32
+unfolding mark
+length-mark c = length-sha256 c
+
+-- ---- the bytes of chunks
+
+length-record : (c : List ℕ) → length (record_of c) ≡ 36 + length c
+length-record c = omega (arith, length-append (four (length c) ++ mark c) c, length-append (four (length c)) (mark c), length-mark c)
+
+pub length-records : (cs : List (List ℕ)) → length (records_of cs) ≡ record_bytes cs
+length-records [] = refl
+length-records (c ∷ cs) = omega (arith, length-append (record_of c) (records_of cs), length-record c, length-records cs, sum_by-append (λ d. 36 + length d) (c ∷ []) cs)
+
+records-push : (cs : List (List ℕ)) (c : List ℕ) → records_of (cs ++ c ∷ []) ≡ records_of cs ++ record_of c
+records-push cs c = flat_map-append record_of cs (c ∷ []) ∙ ap (λ xs. records_of cs ++ xs) (append-nil (record_of c))
+
+length-entry : (v : ℕ) (c : List ℕ) → length (spelled_entry (entry v c)) ≡ 40
+length-entry v c = omega (arith, length-append (mark c ++ four (length c)) (four v), length-append (mark c) (four (length c)), length-mark c)
+
+pub length-entries : (v : ℕ) (cs : List (List ℕ)) → length (spelled_recipe (entries_in [] v cs)) ≡ 40 * length cs
+length-entries v [] = refl
+length-entries v (c ∷ cs) = omega (arith, length-append (spelled_entry (entry v c)) (spelled_recipe (entries_in [] v cs)), length-entry v c, length-entries v cs)
+
+entries-push : (v : ℕ) (cs : List (List ℕ)) (c : List ℕ) → spelled_recipe (entries_in [] v (cs ++ c ∷ [])) ≡ spelled_recipe (entries_in [] v cs) ++ spelled_entry (entry v c)
+entries-push v cs c =
+    ap spelled_recipe (map-append (entry v) cs (c ∷ []))
+    ∙ flat_map-append spelled_entry (entries_in [] v cs) (entry v c ∷ [])
+    ∙ ap (λ xs. spelled_recipe (entries_in [] v cs) ++ xs) (append-nil (spelled_entry (entry v c)))
+
+-- ---- one owner
+
+module _ (s : Sizes) (extents : List ℕ) (some : 1 ≤ s.extent) where
+  in_one_of : (at n : ℕ) → at + n ≤ length extents * s.extent → (place : ℕ) → InOwner s extents at n place → InOneOf s extents place
+  in_one_of at n fits place r =
+      let i = at + r.k in
+      let inside : InExtents s extents (extent_place s (get_or extents (i / s.extent) 0) + i % s.extent) = in_extents s extents some i (omega (arith, r.within, fits)) in
+      subst (InOneOf s extents) (sym r.so) (record { extent = inside.extent; among = inside.among; within = inside.within })
+
+  pub owner_writes : (at n : ℕ) → at + n ≤ length extents * s.extent → {a b : History} → WritesOnly (InOwner s extents at n) a b → WritesOnly (InOneOf s extents) a b
+  owner_writes at n fits writes = writes_wider _ (λ place r. in_one_of at n fits place r) writes
+
+  module _ (are : AreExtents s extents) (old new : List ℕ) (room : disk_bytes s ≤ length old) where
+    sized : length (owner_bytes s extents old) ≡ length extents * s.extent
+    sized = length-owner_bytes s extents some are.below old room
+
+    pub record_written : (firsts : List (List ℕ)) (own : Mark) (body : List ℕ) (at : ℕ) → own.0 ≡ mark body → length (records_of firsts) ≡ at → at + (36 + length body) ≤ length extents * s.extent →
+        owner_bytes s extents new ≡ overwritten (owner_bytes s extents old) at (record_with own body) →
+        BeginWith s extents (records_of firsts) old → BeginWith s extents (records_of (firsts ++ body ∷ [])) new
+    record_written firsts own body at marked long fits written begins =
+        let whole : owner_bytes s extents new ≡ overwritten (owner_bytes s extents old) (length (records_of firsts)) (record_of body) =
+        written ∙ (λ k. overwritten (owner_bytes s extents old) (sym long k) (four (length body) ++ marked k ++ body)) in
+        subst (λ bytes. BeginWith s extents bytes new) (sym (records-push firsts body))
+        (begin_with_more s extents (records_of firsts) (record_of body) old new begins (omega (arith, long, length-record body, fits, sized)) whole)
+
+    pub entry_written : (v : ℕ) (taken : List (List ℕ)) (e : RecipeEntry) (body : List ℕ) (at : ℕ) → e ≡ entry v body → 40 * length taken ≡ at → at + 40 ≤ length extents * s.extent →
+        owner_bytes s extents new ≡ overwritten (owner_bytes s extents old) at (spelled_entry e) →
+        BeginWith s extents (spelled_recipe (entries_in [] v taken)) old → BeginWith s extents (spelled_recipe (entries_in [] v (taken ++ body ∷ []))) new
+    entry_written v taken e body at is long fits written begins =
+        let front = spelled_recipe (entries_in [] v taken) in
+        let place : at ≡ length front = sym long ∙ sym (length-entries v taken) in
+        let whole : owner_bytes s extents new ≡ overwritten (owner_bytes s extents old) (length front) (spelled_entry (entry v body)) =
+        written ∙ (λ k. overwritten (owner_bytes s extents old) (place k) (spelled_entry (is k))) in
+        subst (λ bytes. BeginWith s extents bytes new) (sym (entries-push v taken body))
+        (begin_with_more s extents front (spelled_entry (entry v body)) old new begins (omega (arith, place, length-entry v body, fits, sized)) whole)
+
+-- ---- two owners
+
+pub one_writes : (s : Sizes) (extents more : List ℕ) {a b : History} → WritesOnly (InOneOf s extents) a b → WritesOnly (InOneOf s (extents ++ more)) a b
+one_writes s extents more writes = writes_wider _ (λ place r. record { extent = r.extent; among = Contains-append_left extents more r.extent r.among; within = r.within }) writes
+
+pub other_writes : (s : Sizes) (extents more : List ℕ) {a b : History} → WritesOnly (InOneOf s more) a b → WritesOnly (InOneOf s (extents ++ more)) a b
+other_writes s extents more writes = writes_wider _ (λ place r. record { extent = r.extent; among = Contains-append_right extents more r.extent r.among; within = r.within }) writes
+
+-- what one owner's bytes begin with stays while another's are written
+pub still_begins : (s : Sizes) (extents others bytes : List ℕ) → ((e : ℕ) → Contains extents e → Contains others e → ⊥) → {a b : History} → WritesOnly (InOneOf s others) a b →
+    BeginWith s extents bytes (contents a) → BeginWith s extents bytes (contents b)
+still_begins s extents others bytes apart {a} {b} writes begins =
+    begin_with_agrees s extents bytes (contents a) (contents b)
+    (agree_fewer (λ place. InOneOf s others place → ⊥) (InExtents s extents) (contents a) (contents b)
+    (λ place inside other. owners_apart s extents others apart place inside (record { extent = other.extent; among = other.among; within = other.within }))
+    (same_contents writes))
+    begins
+
+-- and while more extents follow
+pub begins_longer : (s : Sizes) (extents more bytes image : List ℕ) → BeginWith s extents bytes image → BeginWith s (extents ++ more) bytes image
+begins_longer s extents more bytes image begins =
+    let first = owner_bytes s extents image in
+    let fits : length bytes ≤ length first = omega (arith, length-take (length bytes) first, ap length begins.front) in
+    record {
+      front = ap (take (length bytes)) (flat_map-append (extent_bytes s image) extents more)
+          ∙ take-append-le (length bytes) first (owner_bytes s more image) fits ∙ begins.front;
+    }

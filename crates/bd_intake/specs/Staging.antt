@@ -1,0 +1,71 @@
+-- What is staged of a version while its chunks come.
+use Rattle.std.specs.Prelude.{◌≡◌, ℕ, ◌*◌, ◌≤◌, List, [], ◌++◌, length, All}
+use Rattle.std.specs.List.{concat}
+use Rattle.bd_model.specs.Chunks.{chunks}
+use Rattle.bd_model.specs.Laws.{entries_in}
+use Rattle.bd_model.specs.Layout.{record_bytes}
+use Rattle.bd_model.specs.Records.{records_of, spelled_recipe}
+use Rattle.bd_model.specs.Room.{up}
+use Rattle.bd_model.specs.Sizes.{Sizes}
+use Rattle.bd_space.specs.Allotment.{Allotment, extent_count, free_count}
+use Rattle.bd_gear.specs.Chunking.{Chunking}
+use Rattle.bd_gear.specs.Feeding.{HasFed}
+use Rattle.bd_catalog.specs.Standing.{BeginWith}
+use Rattle.bd_intake.specs.declared.staging.Staging.{Staging}
+use Rattle.bd_intake.specs.Firsts.{cut_in, first_by_mark, is_marked, knows}
+use Rattle.bd_intake.specs.Spaces.{Owns}
+
+-- the numbers and the marks are those of these chunks
+pub record HasTaken (s : Sizes) (taken : List (List ℕ)) (staging : Staging) : Type 0 where
+  pub each : All (λ c. (1 ≤ length c) × (length c ≤ s.max)) taken
+  pub known : (m : List ℕ) → knows staging.seen m ≡ is_marked taken m
+  pub chunk_count : staging.chunks ≡ length taken
+  pub stream_bytes : staging.length ≡ length (concat taken)
+  pub fresh_count : staging.fresh_chunks ≡ length (first_by_mark taken)
+  pub record_bytes_is : staging.fresh_bytes ≡ record_bytes (first_by_mark taken)
+
+-- each owner has the extents that its bytes take
+pub record HasExtents (s : Sizes) (staging : Staging) : Type 0 where
+  pub recipe : length staging.recipe.numbers ≡ up s.extent (40 * staging.chunks)
+  pub fresh : length staging.fresh.numbers ≡ up s.extent staging.fresh_bytes
+
+-- some chunks are staged in extents of this space, of which so many were free before
+pub record IsStaging (s : Sizes) (free : ℕ) (space : Allotment) (staging : Staging) : Type 0 where
+  pub taken : List (List ℕ)
+  pub has : HasTaken s taken staging
+  pub extents : HasExtents s staging
+  pub base : List ℕ
+  pub first : Allotment
+  pub owns : Owns base first space staging.recipe.numbers staging.fresh.numbers
+  pub count : extent_count first ≡ s.extents
+  pub left : free_count first ≡ free
+
+-- the extents begin with the entries and the records of these chunks
+pub record HasWritten (s : Sizes) (v : ℕ) (taken : List (List ℕ)) (staging : Staging) (image : List ℕ) : Type 0 where
+  pub recipe : BeginWith s staging.recipe.numbers (spelled_recipe (entries_in [] v taken)) image
+  pub fresh : BeginWith s staging.fresh.numbers (records_of (first_by_mark taken)) image
+
+-- the numbers of all extents that are staged
+abbrev pub staged_extents : Staging → List ℕ
+staged_extents staging = staging.recipe.numbers ++ staging.fresh.numbers
+
+-- both lists of extents went on, into extents that were free
+pub record Grows (space space_now : Allotment) (old new : Staging) : Type 0 where
+  pub recipe : (more : List ℕ) × (new.recipe.numbers ≡ old.recipe.numbers ++ more)
+  pub fresh : (more : List ℕ) × (new.fresh.numbers ≡ old.fresh.numbers ++ more)
+  pub owners : (base : List ℕ) (first : Allotment) → Owns base first space old.recipe.numbers old.fresh.numbers → Owns base first space_now new.recipe.numbers new.fresh.numbers
+
+-- a chunker that was fed some stream of which some chunks were taken
+pub record IsFed (s : Sizes) (c : Chunking) : Type 0 where
+  pub stream : List ℕ
+  pub taken : List (List ℕ)
+  pub fed : HasFed (cut_in s) stream taken c
+
+-- The chunker was fed this stream and gave these chunks, with those before among them, and they are all taken and written.
+-- They are all chunks of the stream once it is over.
+pub record Goes (over : Type 0) (s : Sizes) (v : ℕ) (stream : List ℕ) (taken : List (List ℕ)) (c : Chunking) (before after : Staging) (told : Type 0) (old new : List ℕ) : Type 0 where
+  pub all : List (List ℕ)
+  pub fed : HasFed (cut_in s) stream all c
+  pub has : HasTaken s all after
+  pub written : told → HasWritten s v taken before old → HasWritten s v all after new
+  pub ended : over → all ≡ chunks (cut_in s) stream

@@ -1,0 +1,112 @@
+// The ends of what is staged: a version, or nothing.
+ghost use Rattle.std.specs.Prelude.{◌≡◌, ℕ, ◌+◌, ◌<◌, ◌^◌, List, [], ◌∷◌, ◌++◌, length, nat_lt, if◌then◌else◌};
+ghost use Rattle.bd_catalog.specs.Shown.{version_entry};
+ghost use Rattle.bd_catalog.specs.Steps.{fresh_entries};
+ghost use Rattle.bd_model.specs.Sizes.{Sizes};
+ghost use Rattle.bd_space.specs.Allotment.{extent_count, held_count, TakenExactly};
+ghost use Rattle.bd_intake.specs.Answers.{fresh_extents};
+ghost use Rattle.bd_intake.specs.Spaces.{IsOwned};
+ghost use Rattle.bd_intake.specs.Staging.{HasTaken};
+
+use crate::seen::Seen;
+use crate::staged::Staged;
+use crate::staging::Staging;
+use bd_catalog::{ActiveCategory, VersionRow};
+use bd_model::CategoryRow;
+use bd_space::{Owned, Space};
+use std::alloc::Global;
+
+/// Nothing is staged.
+pub(crate) fn nothing_staged(alloc: Global) -> Staging
+    ensures taken { (s : Sizes) → HasTaken s [] result }
+    ensures recipe { result.recipe.numbers ≡ [] }
+    ensures fresh { result.fresh.numbers ≡ [] }
+    ensures none { (result.chunks ≡ 0) }
+    ensures empty { (result.fresh_bytes ≡ 0) }
+{
+    Staging {
+        seen: Seen::none(alloc),
+        fresh: Owned::none(alloc),
+        fresh_bytes: 0,
+        fresh_chunks: 0,
+        recipe: Owned::none(alloc),
+        chunks: 0,
+        length: 0,
+    }
+}
+
+// The open category that begins with this version, where it has chunks.
+fn category_of(
+    version: u32,
+    chunks: u64,
+    bytes: u64,
+    extents: Owned,
+) -> Option<ActiveCategory>
+    requires { chunks ≡ 0 → extents.numbers ≡ [] }
+    ensures entries { fresh_entries result ≡ (if nat_lt 0 chunks then record { row = record { start = version; chunks = chunks; bytes = bytes }; extents = extents.numbers } ∷ [] else []) }
+    ensures extents { fresh_extents result ≡ extents.numbers }
+{
+    if chunks > 0 {
+        return Some(ActiveCategory {
+            row: CategoryRow {
+                start: version,
+                chunks,
+                bytes,
+            },
+            extents,
+        });
+    }
+    None
+}
+
+/// The version that is staged.
+pub(crate) fn finished(staging: Staging, version: u32) -> Staged
+    requires none { staging.fresh_chunks ≡ 0 → staging.fresh.numbers ≡ [] }
+    requires small { length staging.recipe.numbers + length staging.fresh.numbers < 2 ^ 64 }
+    ensures version { version_entry result.version ≡ record { length = staging.length; chunks = staging.chunks; fresh = staging.fresh_chunks; extents = staging.recipe.numbers } }
+    ensures entries { fresh_entries result.fresh ≡ (if nat_lt 0 staging.fresh_chunks
+        then record { row = record { start = version; chunks = staging.fresh_chunks; bytes = staging.fresh_bytes }; extents = staging.fresh.numbers } ∷ [] else []) }
+    ensures extents { fresh_extents result.fresh ≡ staging.fresh.numbers }
+    ensures need { result.need ≡ length staging.recipe.numbers + length staging.fresh.numbers }
+{
+    let need = staging.recipe.len() as u64 + staging.fresh.len() as u64;
+    let Staging {
+        seen: _,
+        fresh,
+        fresh_bytes,
+        fresh_chunks,
+        recipe,
+        chunks,
+        length,
+    } = staging;
+    Staged {
+        version: VersionRow {
+            length,
+            chunks,
+            fresh: fresh_chunks,
+            recipe,
+        },
+        fresh: category_of(version, fresh_chunks, fresh_bytes, fresh),
+        need,
+    }
+}
+
+/// Gives back the extents of what is staged.
+pub(crate) fn give_back(staging: Staging, space: &mut Space)
+    requires { IsOwned space.old staging.recipe.numbers staging.fresh.numbers }
+    ensures owners { (base : List ℕ) → TakenExactly space.old (base ++ staging.recipe.numbers ++ staging.fresh.numbers) → TakenExactly space.new base }
+    ensures size { extent_count space.new ≡ extent_count space.old }
+    ensures held { held_count space.new ≡ held_count space.old }
+{
+    let Staging {
+        seen: _,
+        fresh,
+        fresh_bytes: _,
+        fresh_chunks: _,
+        recipe,
+        chunks: _,
+        length: _,
+    } = staging;
+    space.give_back(fresh);
+    space.give_back(recipe);
+}

@@ -1,0 +1,20 @@
+//! Taking in a new version: its source is read and cut, each chunk is told from the others by its fingerprint, and the new
+//! ones and the recipe are written into free extents.
+#![tactic(auto)]
+
+mod fault;
+mod finish;
+mod take_in;
+mod laws;
+mod record;
+mod room;
+mod seen;
+mod source;
+mod staged;
+mod staging;
+mod stream;
+
+pub use fault::IntakeFault;
+pub use take_in::intake;
+pub use laws::first_chunks_are_the_different_ones;
+pub use staged::Staged;
