@@ -30,7 +30,7 @@ use Rattle.bd_intake.specs.declared.staged.Staged.{Staged}
 use Rattle.bd_intake.specs.declared.fault.IntakeFault.{IntakeFault}
 use Rattle.bd_intake.specs.Answers.{AnswersIntake, HoldsVersion}
 use Rattle.bd_intake.specs.Firsts.{cut_in, first_by_mark}
-use Rattle.bd_intake.specs.Missing.{IsUnread}
+use Rattle.bd_intake.specs.Causes.{MissesSource}
 use Rattle.bd_intake.specs.Places.{InFree}
 use Rattle.bd_store.specs.declared.fault.StoreFault.{StoreFault}
 use Rattle.bd_store.specs.declared.fault.StoreFault.TheVariants.{SourceFault, TargetFault, DiskFault, Damaged, OutOfMemory, Unbuilt}
@@ -66,14 +66,14 @@ module _ (found : Found) (name : List ℕ) (files files_now : FileMap) (same_fil
   AnswersAs result =
       (stream : List ℕ) → Holds files name stream → AnswersIntake found.sizes (found.catalogue.newest + 1) stream (chunks (cut_in found.sizes) stream) (free_count space) held result
 
-  pub refused_one_step : (fault : IntakeFault) → AnswersAs (Err fault) → (Lacks files name → IsUnread {T = Staged} (Err fault)) → IsOneStep (Backup name) held h0 h1 files files_now (refusal_of fault)
+  pub refused_one_step : (fault : IntakeFault) → AnswersAs (Err fault) → (Lacks files name → MissesSource {T = Staged} (Err fault)) → IsOneStep (Backup name) held h0 h1 files files_now (refusal_of fault)
   refused_one_step fault answers missing = record {
     each = λ shape st phase near stands.
         subst (λ m. MakesStep (task shape held st files (Backup name)) phase (contents h1) m (refusal_of fault)) (sym same_files)
         (refused_makes shape held st phase files name found h0 h1 space stands agrees none below writes free_is refl near law fault answers missing);
   }
 
-  pub refused_safe : (fault : IntakeFault) → AnswersAs (Err fault) → (Lacks files name → IsUnread {T = Staged} (Err fault)) → IsSafeAtStops (Backup name) held h0 h1 files (refusal_of fault)
+  pub refused_safe : (fault : IntakeFault) → AnswersAs (Err fault) → (Lacks files name → MissesSource {T = Staged} (Err fault)) → IsSafeAtStops (Backup name) held h0 h1 files (refusal_of fault)
   refused_safe fault answers missing = record {
     each = λ shape st near sure.
         let now : Stands shape held st (contents h0) = sure.each (contents h0) (contents_now h0) in

@@ -40,7 +40,7 @@ use Rattle.bd_intake.specs.declared.fault.IntakeFault.{IntakeFault}
 use Rattle.bd_intake.specs.declared.fault.IntakeFault.TheVariants.{Full, SourceFault, DiskFault, OutOfMemory}
 use Rattle.bd_intake.specs.Answers.{AnswersIntake, HoldsVersion, IsVersion, fresh_extents}
 use Rattle.bd_intake.specs.Firsts.{cut_in, first_by_mark}
-use Rattle.bd_intake.specs.Missing.{IsUnread}
+use Rattle.bd_intake.specs.Causes.{MissesSource}
 use Rattle.bd_intake.specs.Places.{InFree}
 use Rattle.bd_store.specs.Naming.{refusal_of}
 use Rattle.bd_store.specs.Steps.{Task, task, is_full, versions_with, IsNear, Answered, LeadsTo, MakesStep, KeptOrMade, StandsOnEitherSide}
@@ -158,7 +158,7 @@ module _ (shape : Shape) (held : ℕ) (st : VersionState) (phase : Phase) (files
       ] refl
 
   -- what is answered where the intake is refused
-  pub refused_makes : (fault : IntakeFault) → Answers (Err fault) → (Lacks files name → IsUnread {T = Staged} (Err fault)) → MakesStep u phase (contents h1) files (refusal_of fault)
+  pub refused_makes : (fault : IntakeFault) → Answers (Err fault) → (Lacks files name → MissesSource {T = Staged} (Err fault)) → MakesStep u phase (contents h1) files (refusal_of fault)
   refused_makes (Full c f h) answers missing = record {
     outcome = unchanged st files (FullExtents c f h);
     leads = room_answered c f h answers missing;
@@ -174,7 +174,7 @@ module _ (shape : Shape) (held : ℕ) (st : VersionState) (phase : Phase) (files
     pub staging : LeavesSince (Stands shape held st) h0 h1
     staging = staging_stops shape held st files name nothing_kept sure back_writes
 
-    refused_sure : (fault : IntakeFault) → Answers (Err fault) → (Lacks files name → IsUnread {T = Staged} (Err fault)) → IsSureBy u h0 h1 (refusal_of fault)
+    refused_sure : (fault : IntakeFault) → Answers (Err fault) → (Lacks files name → MissesSource {T = Staged} (Err fault)) → IsSureBy u h0 h1 (refusal_of fault)
     refused_sure (Full c f h) answers missing = record {
       outcome = unchanged st files (FullExtents c f h);
       leads = room_answered c f h answers missing;
@@ -185,7 +185,7 @@ module _ (shape : Shape) (held : ℕ) (st : VersionState) (phase : Phase) (files
     refused_sure OutOfMemory answers missing = staging
 
     -- and what a stop leaves then
-    pub refused_stops : (fault : IntakeFault) → Answers (Err fault) → (Lacks files name → IsUnread {T = Staged} (Err fault)) → StopsOnEitherSide u h0 h1 (refusal_of fault)
+    pub refused_stops : (fault : IntakeFault) → Answers (Err fault) → (Lacks files name → MissesSource {T = Staged} (Err fault)) → StopsOnEitherSide u h0 h1 (refusal_of fault)
     refused_stops fault answers missing = record {
       within = leaves_wider (StandsOnEitherSide u) (λ image stands. inl stands) staging;
       done = refused_sure fault answers missing;

@@ -13,8 +13,7 @@ ghost use Rattle.bd_catalog.specs.Catalogue.{all_extents, retained_in};
 ghost use Rattle.bd_catalog.specs.Growing.{after_backup};
 ghost use Rattle.bd_catalog.specs.Ledger.{HasRoom};
 ghost use Rattle.bd_catalog.specs.Shown.{version_entry};
-ghost use Rattle.bd_catalog.specs.Steps.{committed, fresh_entries, FitsBackup, HasCommitted, InOtherHalf, IsKeptOrCommitted, IsOldOrCommitted};
-ghost use Rattle.bd_intake.specs.Answers.{fresh_extents};
+ghost use Rattle.bd_catalog.specs.Steps.{brought, committed, fresh_entries, FitsBackup, HasCommitted, InOtherHalf, IsKeptOrCommitted, IsOldOrCommitted};
 ghost use Rattle.bd_store.specs.Causes.{counts, FailsOnlyByCount, StraysOnlyBy};
 ghost use Rattle.bd_store.specs.Naming.{refusal_of, UnlessDiskFailed};
 ghost use Rattle.bd_store.specs.Steps.{IsOneStep};
@@ -62,7 +61,7 @@ fn name_version<D: Disk>(
     requires reserved { HasRoom catalog.old }
     requires fits { FitsBackup catalog.old.found.sizes catalog.old.found.catalogue (version_entry staged.version) (fresh_entries staged.fresh) }
     requires agrees { D.tells → Agrees catalog.old.found (D.history disk.old) }
-    requires owners { TakenExactly space.old (all_extents catalog.old.found.catalogue ++ (staged.version.recipe.numbers ++ fresh_extents staged.fresh)) }
+    requires owners { TakenExactly space.old (all_extents catalog.old.found.catalogue ++ brought (Step.Backup staged.version staged.fresh)) }
     ensures bytes { D.bytes disk.new ≡ D.bytes disk.old }
     ensures cause { HasCause (D.faults disk.old) (D.faults disk.new) result }
     ensures answer { IfOk result (λ answer. answer ≡ BackedUp (catalog.old.found.catalogue.newest + 1) staged.version.length staged.version.chunks staged.version.fresh staged.need) }
