@@ -125,6 +125,8 @@ impl Store {
         ensures strays { F.tells → StraysOnlyBy (Backup name.now) (F.files files.old) (F.strays files.old) (F.strays files.new) }
         ensures numbers { AnswersByNumbers self.old.found result }
         ensures worn { (self.new.worn ≡ true) ↔ (result ≡ Err StoreFault.DiskFault) }
+        ensures sizes { self.new.worn ≡ false → self.new.found.sizes ≡ self.old.found.sizes }
+        ensures held { self.new.held ≡ self.old.held }
         ensures agrees { self.new.worn ≡ false → D.tells → Agrees self.new.found (D.history disk.new) }
         ensures versions { IfErr result (λ fault. self.new.worn ≡ false → SameVersions self.old self.new) }
         ensures files { F.tells → F.files files.new ≡ F.files files.old }
@@ -166,6 +168,8 @@ impl Store {
         ensures strays { F.tells → StraysOnlyBy (Backup name.now) (F.files files.old) (F.strays files.old) (F.strays files.new) }
         ensures first { AnswersFirst result }
         ensures worn { (self.new.worn ≡ true) ↔ (result ≡ Err StoreFault.DiskFault) }
+        ensures sizes { self.new.worn ≡ false → self.new.found.sizes ≡ self.old.found.sizes }
+        ensures held { self.new.held ≡ self.old.held }
         ensures agrees { self.new.worn ≡ false → D.tells → Agrees self.new.found (D.history disk.new) }
         ensures versions { IfErr result (λ fault. self.new.worn ≡ false → SameVersions self.old self.new) }
         ensures files { F.tells → F.files files.new ≡ F.files files.old }

@@ -65,7 +65,8 @@ fn a_source_becomes_the_first_version(rt: HostRuntime) -> Result<(), Fail> {
         assert_eq!(rt; store.shape(), shape);
         let answer = store.backup(&mut disk, &mut files, &name);
         assert_eq!(rt; figures(&answer), expected, "{source}");
-        assert_eq!(rt; store.is_worn(), false);
+        let worn = store.is_worn();
+        assert!(rt; !worn);
         let again = store.backup(&mut disk, &mut files, &name);
         assert_eq!(rt; again.err(), Some(StoreFault::Unbuilt));
         assert_eq!(rt; retained(alloc, disk.contents())?, Some(1));
@@ -108,8 +109,12 @@ fn what_is_refused_leaves_the_store(rt: HostRuntime) -> Result<(), Fail> {
     let mut store = Store::format(alloc, &mut disk, Shape::new(64, 3, 4, 4, 0, 4)?)?;
     let full = store.backup(&mut disk, &mut files, &name);
     assert_eq!(rt; figures(&full), [0, 4, 3, 0, 0]);
+    let worn = store.is_worn();
+    assert!(rt; !worn);
     let missing = store.backup(&mut disk, &mut files, &Name::new(alloc, "gone")?);
     assert_eq!(rt; missing.err(), Some(StoreFault::SourceFault));
+    let worn = store.is_worn();
+    assert!(rt; !worn);
     assert_eq!(rt; retained(alloc, disk.contents())?, Some(0));
     let smaller = store.backup(&mut disk, &mut files, &Name::new(alloc, "b")?);
     assert_eq!(rt; figures(&smaller), [1, 12, 3, 1, 3]);
