@@ -18,3 +18,6 @@ pub use fault::IntakeFault;
 pub use take_in::intake;
 pub use laws::first_chunks_are_the_different_ones;
 pub use staged::Staged;
+
+#[cfg(test)]
+mod tests;
