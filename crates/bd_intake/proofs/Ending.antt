@@ -27,7 +27,6 @@ use Rattle.bd_catalog.specs.Steps.{FitsBackup, fresh_entries}
 use Rattle.bd_intake.specs.declared.staged.Staged.{Staged}
 use Rattle.std.proofs.lemmas.List.{append-nil}
 use Rattle.bd_disk.specs.History.{History}
-use Rattle.bd_disk.specs.Trace.{ReadsOnly}
 use Rattle.bd_model.specs.Chunks.{Cut, chunks}
 use Rattle.bd_model.specs.FileMap.{FileMap}
 use Rattle.bd_model.specs.Sizes.{Sizes, sizes_of}
@@ -41,10 +40,10 @@ use Rattle.bd_intake.specs.Answers.{RefusesVersion, IsVersion, HoldsVersion, fre
 use Rattle.bd_intake.specs.Causes.{FailsByDisk, FailsByCount}
 use Rattle.bd_intake.specs.Filling.{Filled, HasStream, Fills}
 use Rattle.bd_intake.specs.Firsts.{cut_in, first_by_mark, extents_of}
-use Rattle.bd_intake.specs.Places.{ReadsNothing, InOneOf, InFree}
+use Rattle.bd_intake.specs.Places.{InOneOf, InFree}
 use Rattle.bd_intake.specs.Spaces.{Owns, IsOwned}
 use Rattle.bd_intake.specs.Staging.{Goes, Grows, HasTaken, HasExtents, HasWritten, IsStaging, staged_extents}
-use Rattle.bd_intake.proofs.Draining.{quiet_before, reads_so_far, fits_so_far}
+use Rattle.bd_intake.proofs.Draining.{fits_so_far}
 use Rattle.bd_intake.proofs.Firsts.{need-is, counted-enough}
 use Rattle.bd_intake.proofs.Fitting.{VersionFacts, CategoryFacts, FreshFacts, no_category, one_category, all_differ-once, all_below, fits_first}
 use Rattle.bd_intake.proofs.Growing.{IsShort, IsSmall, firsts-few, staging_is_small, stream-low, stream-high}
@@ -56,10 +55,6 @@ by_disk T d e f g (Err (Full c h k)) fails same = record { disk_later = fails.la
 by_disk T d e f g (Err SourceFault) fails same = absurd fails.cause
 by_disk T d e f g (Err DiskFault) fails same = record { disk_later = fails.later; source_later = omega (arith, same); cause = (fails.cause, same) }
 by_disk T d e f g (Err OutOfMemory) fails same = record { disk_later = fails.later; source_later = omega (arith, same); cause = (fails.cause, same) }
-
-pub quiet_then : (T told : Type 0) (h k l : History) → (told → ReadsOnly [] h k) → (r : Result T IntakeFault) → ReadsNothing told k l r → ReadsNothing told h l r
-quiet_then T told h k l first (Ok x) next = reads_so_far told first next
-quiet_then T told h k l first (Err fault) next = quiet_before T told h k l first fault next
 
 -- after its last chunks the whole source is staged
 pub whole_stream : (s : Sizes) (v : ℕ) (c d e : Chunking) (a b : Staging) (told : Type 0) (old new : List ℕ) (files_told : Type 0) (files : FileMap) (name : List ℕ) →
