@@ -1,23 +1,21 @@
 -- The chunks that are decided, one after the other.
-use Rattle.std.proofs.Common.{◌≡◌, ℕ, ◌+◌, ◌*◌, ◌<◌, ◌≤◌, Bool, true, false, List, [], ◌∷◌, ◌++◌, length, take, Some, refl, sym, ◌∙◌, ap, subst, arith, append_assoc, length-append, Option}
+use Rattle.std.proofs.Common.{◌≡◌, ℕ, ◌*◌, ◌≤◌, true, false, List, [], ◌∷◌, ◌++◌, length, take, Some, refl, sym, ◌∙◌, ap, subst, arith}
 use Rattle.std.specs.Prelude.{Contains}
-use Rattle.std.specs.List.{concat}
 use Rattle.std.proofs.lemmas.List.{append-nil}
 use Rattle.std.proofs.lemmas.List.Elements.{Contains-append_left, Contains-append_cases, Contains-append_right}
-use Rattle.std.proofs.Common.{inl, inr, ⊎_elim}
+use Rattle.std.proofs.Common.{⊎_elim}
 use Rattle.bd_disk.specs.History.{History, contents}
 use Rattle.bd_disk.specs.Made.{WritesOnly}
 use Rattle.bd_disk.specs.Trace.{ReadsOnly}
 use Rattle.bd_disk.proofs.Frames.{made_both, made_none, writes_wider}
 use Rattle.bd_disk.proofs.Traces.{reads_both, reads_none}
-use Rattle.bd_model.specs.declared.shape.Shape.{Shape}
 use Rattle.bd_model.specs.Chunks.{Cut, chunks, chunks_after}
 use Rattle.bd_model.specs.Laws.{entries_in}
 use Rattle.bd_model.specs.Layout.{record_bytes}
 use Rattle.bd_model.specs.Room.{up, counted_of}
-use Rattle.bd_model.specs.Sizes.{Sizes, sizes_of}
+use Rattle.bd_model.specs.Sizes.{Sizes}
 use Rattle.bd_model.proofs.ChunkLemmas.{chunk_len-bounds}
-use Rattle.bd_space.specs.Allotment.{Allotment, held_count, free_count}
+use Rattle.bd_space.specs.Allotment.{Allotment, held_count}
 use Rattle.bd_gear.specs.Chunking.{Chunking, next_len}
 use Rattle.bd_gear.specs.Feeding.{HasFed, place_after}
 use Rattle.bd_gear.proofs.NextLemmas.{next_len-within}
@@ -27,8 +25,7 @@ use Rattle.bd_intake.specs.declared.staging.Staging.{Staging}
 use Rattle.bd_intake.specs.Answers.{RefusesRoom, RefusesVersion}
 use Rattle.bd_intake.specs.Firsts.{cut_in, extents_of, first_by_mark}
 use Rattle.bd_intake.specs.Places.{InOneOf}
-use Rattle.bd_intake.specs.Spaces.{Owns}
-use Rattle.bd_intake.specs.Staging.{Goes, Grows, HasTaken, HasExtents, HasWritten, IsFed, IsStaging, staged_extents}
+use Rattle.bd_intake.specs.Staging.{Goes, Grows, HasTaken, HasWritten, IsFed, IsStaging, staged_extents}
 use Rattle.bd_intake.proofs.Firsts.{counted-first}
 use Rattle.bd_intake.proofs.Growing.{grows_none, grows_both}
 

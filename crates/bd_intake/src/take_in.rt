@@ -76,15 +76,7 @@ fn stage<D: Disk, F: Files>(
         &mut buffer,
     )?;
     chunker.finish();
-    take_chunks(
-        staging,
-        &mut chunker,
-        disk,
-        space,
-        shape,
-        version,
-        free,
-    )
+    take_chunks(staging, &mut chunker, disk, space, shape, version, free)
 }
 
 /// Takes in the stream under the name as the first version of an empty store: its chunks, each of which is stored once, and

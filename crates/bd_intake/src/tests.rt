@@ -80,11 +80,17 @@ fn records_and_entries_are_written(rt: HostRuntime) -> Result<(), Fail> {
     assert!(rt; found.is_some());
     let mark = mark_of(b"AAAA");
     let contents = disk.contents();
-    assert_eq!(rt; contents.get(132_870..132_874), Some([0u8, 0, 0, 4].as_slice()));
+    assert_eq!(rt;
+        contents.get(132_870..132_874),
+        Some([0u8, 0, 0, 4].as_slice())
+    );
     assert_eq!(rt; contents.get(132_874..132_906), Some(mark.0.as_slice()));
     assert_eq!(rt; contents.get(132_906..132_910), Some(b"AAAA".as_slice()));
     assert_eq!(rt; contents.get(132_934..132_966), Some(mark.0.as_slice()));
-    assert_eq!(rt; contents.get(132_966..132_974), Some([0u8, 0, 0, 4, 0, 0, 0, 1].as_slice()));
+    assert_eq!(rt;
+        contents.get(132_966..132_974),
+        Some([0u8, 0, 0, 4, 0, 0, 0, 1].as_slice())
+    );
     Ok(())
 }
 

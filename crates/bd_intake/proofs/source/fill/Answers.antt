@@ -1,12 +1,10 @@
-use Rattle.std.proofs.Common.{◌≡◌, ℕ, ◌+◌, ◌^◌, ◌<◌, ◌≤◌, List, sym, ◌∙◌, ap, subst, arith, length}
+use Rattle.std.proofs.Common.{◌≡◌, ◌+◌, ◌^◌, ◌<◌, sym, ◌∙◌, subst, arith}
 use Rattle.std.proofs.lemmas.Result.{err_from_is_err_and}
 use Rattle.bd_disk.specs.History.{contents}
-use Rattle.bd_files.specs.Files.{Holds}
 use Rattle.bd_model.specs.Chunks.{chunks}
 use Rattle.bd_model.specs.Sizes.{sizes_of}
 use Rattle.bd_space.specs.Allotment.{held_count}
 use Rattle.bd_intake.specs.Answers.{RefusesVersion}
-use Rattle.bd_intake.specs.Filling.{Fills}
 use Rattle.bd_intake.specs.Firsts.{cut_in}
 use Rattle.bd_intake.proofs.Draining.{reads_so_far, writes_so_far}
 use Rattle.bd_intake.proofs.Filling.{filled_all, filled_small, fills_again, holds_again, missing_more}

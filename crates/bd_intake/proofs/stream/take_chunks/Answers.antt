@@ -1,8 +1,8 @@
-use Rattle.std.proofs.Common.{◌≡◌, ℕ, ◌≤◌, List, sym, ◌∙◌, ap, subst, arith, refl, length}
+use Rattle.std.proofs.Common.{sym, ◌∙◌, ap, arith, refl}
 use Rattle.std.proofs.lemmas.Result.{err_from_is_err_and}
 use Rattle.bd_disk.proofs.Frames.{made_both}
 use Rattle.bd_gear.specs.Chunking.{Chunking}
-use Rattle.bd_model.specs.Sizes.{Sizes, sizes_of}
+use Rattle.bd_model.specs.Sizes.{sizes_of}
 use Rattle.bd_intake.specs.Firsts.{cut_in}
 use Rattle.bd_intake.proofs.Draining.{advanced, drains_none, drains_one, next-short, reads_so_far, refuses_one, wider}
 use Rattle.bd_intake.proofs.Growing.{grows_both}
