@@ -40,7 +40,7 @@ pub fn write_chunk<D: Disk>(
     ensures cause { HasCause (D.faults disk.old) (D.faults disk.new) result }
     ensures writes { D.tells → WritesOnly (InOwner (sizes_of shape.now) extents.now at (36 + length body.now)) (D.history disk.old) (D.history disk.new) }
     ensures written { OnOk result (D.tells → owner_bytes (sizes_of shape.now) extents.now (contents (D.history disk.new)) ≡ overwritten (owner_bytes (sizes_of shape.now) extents.now (contents (D.history disk.old))) at (record_with mark.now body.now)) }
-    ensures places { OnOk result (D.tells → ReadsOnly [] (D.history disk.old) (D.history disk.new)) }
+    ensures places { D.tells → ReadsOnly [] (D.history disk.old) (D.history disk.new) }
 {
     let header = header_bytes(body.len() as u32, mark);
     write_at(disk, shape, extents, at, &header)?;

@@ -57,7 +57,7 @@ pub fn write_at<D: Disk>(
     ensures writes { D.tells → WritesOnly (InOwner (sizes_of shape.now) extents.now at (length from.now)) (D.history disk.old) (D.history disk.new) }
     ensures written { OnOk result (D.tells → owner_bytes (sizes_of shape.now) extents.now (contents (D.history disk.new)) ≡ overwritten (owner_bytes (sizes_of shape.now) extents.now (contents (D.history disk.old))) at from.now) }
     // It reads nothing.
-    ensures places { OnOk result (D.tells → ReadsOnly [] (D.history disk.old) (D.history disk.new)) }
+    ensures places { D.tells → ReadsOnly [] (D.history disk.old) (D.history disk.new) }
 {
     let mut done = 0;
     while done < from.len() {

@@ -1,23 +1,21 @@
 -- The chunks that are decided, one after the other.
-use Rattle.std.proofs.Common.{◌≡◌, ℕ, ◌+◌, ◌*◌, ◌<◌, ◌≤◌, Bool, true, false, List, [], ◌∷◌, ◌++◌, length, take, Some, refl, sym, ◌∙◌, ap, subst, arith, append_assoc, length-append, Option}
-use Rattle.std.specs.Prelude.{Contains, Err}
-use Rattle.std.specs.List.{concat}
+use Rattle.std.proofs.Common.{◌≡◌, ℕ, ◌*◌, ◌≤◌, true, false, List, [], ◌∷◌, ◌++◌, length, take, Some, refl, sym, ◌∙◌, ap, subst, arith}
+use Rattle.std.specs.Prelude.{Contains}
 use Rattle.std.proofs.lemmas.List.{append-nil}
 use Rattle.std.proofs.lemmas.List.Elements.{Contains-append_left, Contains-append_cases, Contains-append_right}
-use Rattle.std.proofs.Common.{inl, inr, ⊎_elim}
+use Rattle.std.proofs.Common.{⊎_elim}
 use Rattle.bd_disk.specs.History.{History, contents}
 use Rattle.bd_disk.specs.Made.{WritesOnly}
 use Rattle.bd_disk.specs.Trace.{ReadsOnly}
 use Rattle.bd_disk.proofs.Frames.{made_both, made_none, writes_wider}
 use Rattle.bd_disk.proofs.Traces.{reads_both, reads_none}
-use Rattle.bd_model.specs.declared.shape.Shape.{Shape}
 use Rattle.bd_model.specs.Chunks.{Cut, chunks, chunks_after}
 use Rattle.bd_model.specs.Laws.{entries_in}
 use Rattle.bd_model.specs.Layout.{record_bytes}
 use Rattle.bd_model.specs.Room.{up, counted_of}
-use Rattle.bd_model.specs.Sizes.{Sizes, sizes_of}
+use Rattle.bd_model.specs.Sizes.{Sizes}
 use Rattle.bd_model.proofs.ChunkLemmas.{chunk_len-bounds}
-use Rattle.bd_space.specs.Allotment.{Allotment, held_count, free_count}
+use Rattle.bd_space.specs.Allotment.{Allotment, held_count}
 use Rattle.bd_gear.specs.Chunking.{Chunking, next_len}
 use Rattle.bd_gear.specs.Feeding.{HasFed, place_after}
 use Rattle.bd_gear.proofs.NextLemmas.{next_len-within}
@@ -26,9 +24,8 @@ use Rattle.bd_intake.specs.declared.fault.IntakeFault.TheVariants.{Full, SourceF
 use Rattle.bd_intake.specs.declared.staging.Staging.{Staging}
 use Rattle.bd_intake.specs.Answers.{RefusesRoom, RefusesVersion}
 use Rattle.bd_intake.specs.Firsts.{cut_in, extents_of, first_by_mark}
-use Rattle.bd_intake.specs.Places.{InOneOf, ReadsNothing}
-use Rattle.bd_intake.specs.Spaces.{Owns}
-use Rattle.bd_intake.specs.Staging.{Goes, Grows, HasTaken, HasExtents, HasWritten, IsFed, IsStaging, staged_extents}
+use Rattle.bd_intake.specs.Places.{InOneOf}
+use Rattle.bd_intake.specs.Staging.{Goes, Grows, HasTaken, HasWritten, IsFed, IsStaging, staged_extents}
 use Rattle.bd_intake.proofs.Firsts.{counted-first}
 use Rattle.bd_intake.proofs.Growing.{grows_none, grows_both}
 
@@ -151,13 +148,6 @@ refuses_one s v free told space one a b c d f h k body fault some first so_far f
     (front_of (cut_in s) stream more (goes.all ++ body ∷ []) f now (λ t. ended (sym so_far.finished ∙ sym flag ∙ t)))
     fault (subst (λ n. RefusesRoom (extents_of s.extent (goes.all ++ body ∷ [])) free n fault) held (refused goes.all goes.has))
 
--- what reads nothing after a run that read nothing
-pub quiet_before : (T told : Type 0) (h k l : History) → (told → ReadsOnly [] h k) → (fault : IntakeFault) → ReadsNothing {T = T} told k l (Err fault) → ReadsNothing {T = T} told h l (Err fault)
-quiet_before T told before now after first (Full c f h) next = λ t. reads_both (first t) (next t)
-quiet_before T told before now after first SourceFault next = λ t. reads_both (first t) (next t)
-quiet_before T told before now after first DiskFault next = tt
-quiet_before T told before now after first OutOfMemory next = λ t. reads_both (first t) (next t)
-
 -- a chunk is taken from the bytes that are held
 pub advanced : (s : Sizes) (c d f : Chunking) (n : ℕ) (body : List ℕ) → body ≡ take n d.held →
     ((cut : Cut) (stream : List ℕ) (taken : List (List ℕ)) → HasFed cut stream taken c → HasFed cut stream taken d) →
@@ -173,10 +163,3 @@ reads_so_far told first next t = reads_both (first t) (next t)
 pub writes_so_far : (s : Sizes) (told : Type 0) (space one : Allotment) (a b : Staging) {h k l : History} → Grows space one a b → (told → WritesOnly (InOneOf s (staged_extents a)) h k) →
     (told → WritesOnly (InOneOf s (staged_extents b)) k l) → told → WritesOnly (InOneOf s (staged_extents b)) h l
 writes_so_far s told space one a b grows first next t = made_both (wider s space one a b grows (first t)) (next t)
-
--- a refusal of one call as that of another
-pub quiet_as : (T U told : Type 0) (h k : History) (fault : IntakeFault) → ReadsNothing {T = T} told h k (Err fault) → ReadsNothing {T = U} told h k (Err fault)
-quiet_as T U told h k (Full c f d) quiet = quiet
-quiet_as T U told h k SourceFault quiet = quiet
-quiet_as T U told h k DiskFault quiet = quiet
-quiet_as T U told h k OutOfMemory quiet = quiet

@@ -1,8 +1,8 @@
 -- The end of an intake.
-use Rattle.std.proofs.Common.{◌≡◌, ℕ, ◌+◌, ◌-◌, ◌*◌, ◌^◌, ◌<◌, ◌≤◌, Bool, cond, List, [], ◌∷◌, ◌++◌, length, filter, flat_map, not, true, false, refl, sym, ◌∙◌, ap, subst, arith, nat_lt, nat_eq, Option, Some, None, ltb-true, ltb-false}
+use Rattle.std.proofs.Common.{◌≡◌, ℕ, ◌+◌, ◌*◌, ◌<◌, ◌≤◌, cond, List, [], ◌∷◌, ◌++◌, length, filter, flat_map, not, true, false, refl, sym, ◌∙◌, ap, subst, arith, nat_lt, Option, Some, None, ltb-true, ltb-false}
 use Rattle.std.specs.Prelude.{Result, Ok, Err, IfErr, All}
 use Rattle.std.specs.Str.{bytes_eq}
-use Rattle.std.specs.List.{AllByRecursion, IsDistinct, concat, list_all}
+use Rattle.std.specs.List.{AllByRecursion, list_all}
 use Rattle.std.proofs.Math.Nat.{mul-le-mul_right}
 use Rattle.std.proofs.lemmas.List.Elements.{All-filter, All-contains, recursion_from_All, All-from_recursion}
 use Rattle.std.proofs.lemmas.List.Sums.{sum_by-append}
@@ -10,16 +10,15 @@ use Rattle.bd_disk.specs.Made.{WritesOnly}
 use Rattle.bd_disk.proofs.Frames.{writes_wider}
 use Rattle.bd_model.specs.declared.shape.Shape.{Shape}
 use Rattle.bd_model.specs.Laws.{entries_in}
-use Rattle.bd_model.specs.Layout.{record_bytes, row_of}
+use Rattle.bd_model.specs.Layout.{record_bytes}
 use Rattle.bd_model.specs.Marks.{mark}
 use Rattle.bd_model.specs.Records.{records_of, spelled_recipe}
-use Rattle.bd_model.specs.Room.{up, need_of, counted_of}
+use Rattle.bd_model.specs.Room.{up}
 use Rattle.bd_model.proofs.RoomLemmas.{up-zero}
 use Rattle.bd_model.proofs.ChunkLemmas.{concat-chunks}
 use Rattle.bd_space.specs.Allotment.{Allotment, extent_count, free_count, TakenExactly, IsFree}
 use Rattle.bd_catalog.specs.declared.rows.ActiveCategory.{ActiveCategory}
 use Rattle.bd_catalog.specs.Catalogue.{Catalogue, VersionEntry, OpenEntry, retained_in}
-use Rattle.bd_catalog.specs.Growing.{entry_for, own_category}
 use Rattle.bd_catalog.specs.Rules.{obeys, all_differ}
 use Rattle.bd_catalog.specs.Shown.{version_entry}
 use Rattle.bd_catalog.specs.Standing.{BeginWith}
@@ -27,8 +26,7 @@ use Rattle.bd_catalog.specs.Steps.{FitsBackup, fresh_entries}
 use Rattle.bd_intake.specs.declared.staged.Staged.{Staged}
 use Rattle.std.proofs.lemmas.List.{append-nil}
 use Rattle.bd_disk.specs.History.{History}
-use Rattle.bd_disk.specs.Trace.{ReadsOnly}
-use Rattle.bd_model.specs.Chunks.{Cut, chunks}
+use Rattle.bd_model.specs.Chunks.{chunks}
 use Rattle.bd_model.specs.FileMap.{FileMap}
 use Rattle.bd_model.specs.Sizes.{Sizes, sizes_of}
 use Rattle.bd_files.specs.Files.{Holds}
@@ -39,15 +37,15 @@ use Rattle.bd_intake.specs.declared.fault.IntakeFault.TheVariants.{Full, SourceF
 use Rattle.bd_intake.specs.declared.staging.Staging.{Staging}
 use Rattle.bd_intake.specs.Answers.{RefusesVersion, IsVersion, HoldsVersion, fresh_extents}
 use Rattle.bd_intake.specs.Causes.{FailsByDisk, FailsByCount}
-use Rattle.bd_intake.specs.Filling.{Filled, HasStream, Fills}
-use Rattle.bd_intake.specs.Firsts.{cut_in, first_by_mark, extents_of}
-use Rattle.bd_intake.specs.Places.{ReadsNothing, InOneOf, InFree}
-use Rattle.bd_intake.specs.Spaces.{Owns, IsOwned}
-use Rattle.bd_intake.specs.Staging.{Goes, Grows, HasTaken, HasExtents, HasWritten, IsStaging, staged_extents}
-use Rattle.bd_intake.proofs.Draining.{quiet_before, reads_so_far, fits_so_far}
+use Rattle.bd_intake.specs.Filling.{Filled, HasStream}
+use Rattle.bd_intake.specs.Firsts.{cut_in, first_by_mark}
+use Rattle.bd_intake.specs.Places.{InOneOf, InFree}
+use Rattle.bd_intake.specs.Spaces.{Owns}
+use Rattle.bd_intake.specs.Staging.{Goes, HasTaken, HasExtents, HasWritten, IsStaging}
+use Rattle.bd_intake.proofs.Draining.{fits_so_far}
 use Rattle.bd_intake.proofs.Firsts.{need-is, counted-enough}
-use Rattle.bd_intake.proofs.Fitting.{VersionFacts, CategoryFacts, FreshFacts, no_category, one_category, all_differ-once, all_below, fits_first}
-use Rattle.bd_intake.proofs.Growing.{IsShort, IsSmall, firsts-few, staging_is_small, stream-low, stream-high}
+use Rattle.bd_intake.proofs.Fitting.{VersionFacts, FreshFacts, no_category, one_category, all_differ-once, all_below, fits_first}
+use Rattle.bd_intake.proofs.Growing.{IsShort, IsSmall, staging_is_small, stream-low, stream-high}
 use Rattle.bd_intake.proofs.Owning.{last_once, owns_below, owns_last, owns_nothing}
 
 pub by_disk : (T : Type 0) (d e f g : ℕ) (r : Result T IntakeFault) → FailsByDisk d e r → g ≡ f → FailsByCount d e f g r
@@ -56,10 +54,6 @@ by_disk T d e f g (Err (Full c h k)) fails same = record { disk_later = fails.la
 by_disk T d e f g (Err SourceFault) fails same = absurd fails.cause
 by_disk T d e f g (Err DiskFault) fails same = record { disk_later = fails.later; source_later = omega (arith, same); cause = (fails.cause, same) }
 by_disk T d e f g (Err OutOfMemory) fails same = record { disk_later = fails.later; source_later = omega (arith, same); cause = (fails.cause, same) }
-
-pub quiet_then : (T told : Type 0) (h k l : History) → (told → ReadsOnly [] h k) → (r : Result T IntakeFault) → ReadsNothing told k l r → ReadsNothing told h l r
-quiet_then T told h k l first (Ok x) next = reads_so_far told first next
-quiet_then T told h k l first (Err fault) next = quiet_before T told h k l first fault next
 
 -- after its last chunks the whole source is staged
 pub whole_stream : (s : Sizes) (v : ℕ) (c d e : Chunking) (a b : Staging) (told : Type 0) (old new : List ℕ) (files_told : Type 0) (files : FileMap) (name : List ℕ) →

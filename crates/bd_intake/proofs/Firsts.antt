@@ -1,12 +1,11 @@
 -- The chunks with different marks, one chunk after the other, and what they count.
-use Rattle.std.proofs.Common.{◌≡◌, ℕ, zero, suc, ◌+◌, ◌-◌, ◌*◌, ◌<◌, ◌≤◌, Bool, true, false, cond, not, ◌||◌, List, [], ◌∷◌, ◌++◌, refl, sym, ◌∙◌, ap, arith, filter, length, map, take, drop, find, unwrap_or, sum_by, nat_lt, Some, None, option_map, length-append, append_assoc, take-append-drop, ⊎_elim, ltb-true, le-ltb, lt-ltb}
+use Rattle.std.proofs.Common.{◌≡◌, ℕ, ◌+◌, ◌*◌, ◌<◌, ◌≤◌, Bool, true, false, cond, not, ◌||◌, List, [], ◌∷◌, ◌++◌, refl, sym, ◌∙◌, ap, arith, filter, length, map, take, drop, find, unwrap_or, nat_lt, Some, option_map, length-append, append_assoc, take-append-drop, ⊎_elim, le-ltb, lt-ltb}
 use Rattle.std.specs.Str.{bytes_eq}
-use Rattle.std.specs.List.{list_any}
 use Rattle.std.proofs.Math.Seq.{take-append_seam}
 use Rattle.std.proofs.lemmas.Bool.{cases_lt, or_left, or_right}
 use Rattle.std.proofs.lemmas.Bool.Decides.{same_from_decides, Decides-like}
 use Rattle.std.proofs.lemmas.Slice.Eq.{bytes_eq-Decides}
-use Rattle.std.proofs.lemmas.List.{append-nil, length-map, take-map, take-append-le, take_all}
+use Rattle.std.proofs.lemmas.List.{append-nil, length-map, take-map, take-append-le}
 use Rattle.std.proofs.lemmas.List.Elements.{filter-append}
 use Rattle.std.proofs.lemmas.List.Sums.{sum_by-append}
 use Rattle.std.proofs.lemmas.List.Folds.{list_any-append}
@@ -15,8 +14,8 @@ use Rattle.bd_model.specs.History.{contains, distinct}
 use Rattle.bd_model.specs.Layout.{record_bytes}
 use Rattle.bd_model.specs.Laws.{entries_in}
 use Rattle.bd_model.specs.Marks.{mark, Distinct}
-use Rattle.bd_model.specs.Recipe.{first_entries, has_mark, entry_records}
-use Rattle.bd_model.specs.Room.{up, fresh_entries, kept_entries, archived_entries, need_of, counted_of, running_of}
+use Rattle.bd_model.specs.Recipe.{first_entries, entry_records}
+use Rattle.bd_model.specs.Room.{up, fresh_entries, need_of, counted_of, running_of}
 use Rattle.bd_model.specs.declared.layout.RecipeEntry.{RecipeEntry}
 use Rattle.bd_model.proofs.ChunkListLemmas.{bytes_eq-refl, filter-within, contains-distinct}
 use Rattle.bd_model.proofs.NeedLemmas.{filter-map, bytes_eq-mark}

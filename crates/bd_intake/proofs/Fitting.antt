@@ -1,17 +1,16 @@
 -- The catalogue of an empty store with its first version obeys the rules.
-use Rattle.std.proofs.Common.{◌≡◌, ℕ, ◌+◌, ◌-◌, ◌*◌, ◌^◌, ◌<◌, ◌≤◌, Bool, true, false, cond, not, ◌&&◌, ◌||◌, List, [], ◌∷◌, ◌++◌, length, map, flat_map, refl, sym, ◌∙◌, ap, subst, arith, nat_lt, nat_le, nat_eq, eq-eqb, lt-ltb, append_assoc, ltb-true}
-use Rattle.std.specs.Prelude.{All, IsTrue, ◌==◌}
+use Rattle.std.proofs.Common.{◌≡◌, ℕ, ◌+◌, ◌*◌, ◌^◌, ◌<◌, ◌≤◌, true, false, not, ◌&&◌, ◌||◌, List, [], ◌∷◌, ◌++◌, length, map, flat_map, refl, sym, ◌∙◌, ap, subst, arith, nat_lt, nat_le, nat_eq, eq-eqb, lt-ltb}
+use Rattle.std.specs.Prelude.{All, ◌==◌}
 use Rattle.std.specs.List.{AllByRecursion, list_all, list_any, IsDistinct}
-use Rattle.std.proofs.lemmas.Bool.{and_from, le-leb, le-ltb}
+use Rattle.std.proofs.lemmas.Bool.{and_from, le-leb}
 use Rattle.std.proofs.lemmas.List.{append-nil}
-use Rattle.std.proofs.lemmas.List.Elements.{recursion_from_All, All-from_recursion}
+use Rattle.std.proofs.lemmas.List.Elements.{All-from_recursion}
 use Rattle.bd_model.specs.Sizes.{Sizes}
 use Rattle.bd_model.specs.Room.{up}
-use Rattle.bd_model.specs.declared.layout.CategoryRow.{CategoryRow}
 use Rattle.bd_model.specs.declared.layout.Phase.TheVariants.{Settled}
 use Rattle.bd_catalog.specs.Catalogue.{Catalogue, VersionEntry, OpenEntry, all_extents, retained_in}
 use Rattle.bd_catalog.specs.Growing.{after_backup}
-use Rattle.bd_catalog.specs.Rules.{obeys, ascends, all_differ, numbers_hold, phase_holds, version_holds, starts_hold, actives_hold, row_holds, volume_holds, active_holds, extents_hold, fits_eight}
+use Rattle.bd_catalog.specs.Rules.{obeys, ascends, all_differ, numbers_hold, version_holds, actives_hold, row_holds, active_holds, extents_hold, fits_eight}
 use Rattle.bd_catalog.specs.Steps.{FitsBackup}
 use Rattle.bd_catalog.proofs.StandingFound.{obeys-each, nothing-else}
 

@@ -1,7 +1,6 @@
 -- What is staged, one chunk after the other.
-use Rattle.std.proofs.Common.{◌≡◌, ℕ, ◌+◌, ◌-◌, ◌*◌, ◌/◌, ◌%◌, ◌^◌, ◌<◌, ◌≤◌, Bool, true, false, cond, not, ◌||◌, List, [], ◌∷◌, ◌++◌, length, filter, refl, sym, ◌∙◌, ap, subst, arith, append_assoc, length-append}
+use Rattle.std.proofs.Common.{◌≡◌, ℕ, ◌+◌, ◌-◌, ◌*◌, ◌^◌, ◌<◌, ◌≤◌, Bool, true, false, cond, not, ◌||◌, List, [], ◌∷◌, ◌++◌, length, filter, refl, sym, ◌∙◌, ap, subst, arith, append_assoc, length-append}
 use mir.Val.{bool_byte}
-use Rattle.std.specs.Prelude.{All}
 use Rattle.std.specs.Str.{bytes_eq}
 use Rattle.std.specs.List.{AllByRecursion, concat}
 use Rattle.std.proofs.Math.Nat.{mod-lt, mul-le-mul_right}
@@ -11,24 +10,22 @@ use Rattle.std.proofs.lemmas.List.Elements.{All-append, All-from_recursion, recu
 use Rattle.std.proofs.lemmas.List.Folds.{concat-append}
 use Rattle.std.proofs.lemmas.List.Sums.{sum_by-append}
 use Rattle.bd_model.specs.declared.shape.Shape.{Shape}
-use Rattle.bd_model.specs.Laws.{entries_in}
 use Rattle.bd_model.specs.Layout.{record_bytes}
 use Rattle.bd_model.specs.Marks.{mark}
-use Rattle.bd_model.specs.Records.{records_of, spelled_recipe}
 use Rattle.bd_model.specs.Room.{up}
 use Rattle.bd_model.specs.Sizes.{Sizes, sizes_of}
-use Rattle.bd_space.specs.Allotment.{Allotment, extent_count, free_count}
+use Rattle.bd_space.specs.Allotment.{Allotment, free_count}
 use Rattle.bd_space.specs.Holding.{Holding}
 use Rattle.bd_extio.proofs.Places.{range_small}
 use Rattle.bd_catalog.specs.Standing.{BeginWith}
 use Rattle.bd_intake.specs.declared.staging.Staging.{Staging}
-use Rattle.bd_intake.specs.Firsts.{first_by_mark, is_marked, knows, with_new, extents_of}
+use Rattle.bd_intake.specs.Firsts.{first_by_mark, knows, with_new, extents_of}
 use Rattle.bd_intake.specs.Places.{AreApart}
 use Rattle.bd_intake.specs.Spaces.{Adds, Owns}
-use Rattle.bd_intake.specs.Staging.{HasTaken, HasExtents, HasWritten, IsStaging, Grows}
+use Rattle.bd_intake.specs.Staging.{HasTaken, HasExtents, IsStaging, Grows}
 use Rattle.bd_intake.proofs.Firsts.{first_by_mark-push, is_marked-push}
 use Rattle.bd_intake.proofs.Owning.{owns_fresh, owns_recipe, owns_apart}
-use Rattle.bd_intake.proofs.Writing.{begins_longer, length-records}
+use Rattle.bd_intake.proofs.Writing.{begins_longer}
 
 -- ---- extents
 
@@ -109,10 +106,18 @@ module _ (shape : Shape) (staging : Staging) where
       let all = recursion_from_All (IsShort s.max) taken has.each in
       let most = mul-le-mul_right {m = s.max} {n = 65536} (length taken) (omega (arith, shape.in_range.max_high)) in
       record {
-        entries = omega (arith, up-enough s.extent (40 * staging.chunks) some_extent, ap (λ n. n * s.extent) long.recipe,
-            range_small s staging.recipe.numbers apart.recipe_extents (omega (arith, shape.in_range.extents_high)) (omega (arith, shape.in_range.extent_high)));
-        records = omega (arith, up-enough s.extent staging.fresh_bytes some_extent, ap (λ n. n * s.extent) long.fresh,
-            range_small s staging.fresh.numbers apart.fresh_extents (omega (arith, shape.in_range.extents_high)) (omega (arith, shape.in_range.extent_high)));
+        entries = omega (
+          arith,
+          up-enough s.extent (40 * staging.chunks) some_extent,
+          ap (λ n. n * s.extent) long.recipe,
+          range_small s staging.recipe.numbers apart.recipe_extents (omega (arith, shape.in_range.extents_high)) (omega (arith, shape.in_range.extent_high)),
+        );
+        records = omega (
+          arith,
+          up-enough s.extent staging.fresh_bytes some_extent,
+          ap (λ n. n * s.extent) long.fresh,
+          range_small s staging.fresh.numbers apart.fresh_extents (omega (arith, shape.in_range.extents_high)) (omega (arith, shape.in_range.extent_high)),
+        );
         stream = omega (arith, has.stream_bytes, has.chunk_count, stream-high s.max taken all, most);
         few = omega (arith, has.fresh_count, has.chunk_count, firsts-few taken);
       }

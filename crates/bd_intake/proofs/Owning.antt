@@ -1,5 +1,5 @@
 -- What is taken of a space, one extent after the other.
-use Rattle.std.proofs.Common.{◌≡◌, ℕ, ◌+◌, ◌<◌, ◌≤◌, List, [], ◌∷◌, ◌++◌, length, refl, sym, ◌∙◌, ap, subst, arith, append_assoc, length-append, nat_eq, inl, inr, ⊎_elim, Some}
+use Rattle.std.proofs.Common.{◌≡◌, ℕ, ◌<◌, List, [], ◌++◌, length, refl, sym, ◌∙◌, ap, subst, arith, append_assoc, length-append, nat_eq, ⊎_elim, Some}
 use Rattle.std.specs.Prelude.{All, Contains, IsPermutation, slice_get}
 use Rattle.std.specs.List.{IsDistinct}
 use Rattle.std.proofs.lemmas.List.{append-nil}
@@ -9,12 +9,11 @@ use Rattle.std.proofs.lemmas.Map.Made.{AllPairs-from_IsDistinct}
 use Rattle.std.proofs.lemmas.Bool.Decides.{Decides-eqb}
 use Rattle.std.proofs.lemmas.Option.{slice_get_within}
 use Rattle.bd_space.specs.declared.space.Use.TheVariants.{Free, Taken}
-use Rattle.bd_space.specs.Allotment.{Allotment, extent_count, IsFree, IsTaken, free_count, held_count, Marks, TakenExactly}
+use Rattle.bd_space.specs.Allotment.{Allotment, extent_count, IsFree, IsTaken, TakenExactly}
 use Rattle.bd_space.proofs.Distinct.{distinct_left, distinct_right, distinct_apart}
-use Rattle.bd_space.proofs.Exact.{TakenExactly-append, TakenExactly-permutation, TakenExactly-left}
+use Rattle.bd_space.proofs.Exact.{TakenExactly-append, TakenExactly-permutation}
 use Rattle.bd_space.proofs.Numbers.{Contains_decided}
 use Rattle.bd_model.specs.Sizes.{Sizes}
-use Rattle.bd_extio.specs.Ranges.{AreExtents}
 use Rattle.bd_intake.specs.Places.{AreApart}
 use Rattle.bd_intake.specs.Spaces.{Adds, Owns}
 

@@ -1,6 +1,5 @@
 -- What an intake answers.
-use Rattle.std.specs.Prelude.{◌≡◌, ℕ, ◌<◌, ◌≤◌, List, [], length, Option, Some, None, Result, Ok, Err}
-use Rattle.bd_model.specs.Chunks.{chunks}
+use Rattle.std.specs.Prelude.{◌≡◌, ℕ, ◌<◌, ◌≤◌, List, [], Option, Some, None, Result, Ok, Err}
 use Rattle.bd_model.specs.Laws.{entries_in}
 use Rattle.bd_model.specs.Records.{records_of, spelled_recipe}
 use Rattle.bd_model.specs.Room.{need_of, counted_of}
@@ -13,7 +12,7 @@ use Rattle.bd_catalog.specs.Steps.{fresh_entries}
 use Rattle.bd_intake.specs.declared.fault.IntakeFault.{IntakeFault}
 use Rattle.bd_intake.specs.declared.fault.IntakeFault.TheVariants.{Full, SourceFault, DiskFault, OutOfMemory}
 use Rattle.bd_intake.specs.declared.staged.Staged.{Staged}
-use Rattle.bd_intake.specs.Firsts.{cut_in, first_by_mark}
+use Rattle.bd_intake.specs.Firsts.{first_by_mark}
 
 -- a refusal for room names what is counted, what is free and what is held; no other fault says anything of these
 abbrev pub RefusesRoom : ℕ → ℕ → ℕ → IntakeFault → Type 0

@@ -2,7 +2,7 @@
 use Rattle.std.specs.Prelude.{◌≡◌, ℕ, ◌≤◌, Result, Ok, Err}
 use Rattle.bd_disk.specs.Calls.{Rose}
 use Rattle.bd_intake.specs.declared.fault.IntakeFault.{IntakeFault}
-use Rattle.bd_intake.specs.declared.fault.IntakeFault.TheVariants.{Full, SourceFault, DiskFault, OutOfMemory}
+use Rattle.bd_intake.specs.declared.fault.IntakeFault.TheVariants.{SourceFault, DiskFault, OutOfMemory}
 
 -- no disk and no source failed
 abbrev pub IsQuiet : {T : Type 0} → Result T IntakeFault → Type 0

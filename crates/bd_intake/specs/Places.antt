@@ -1,13 +1,9 @@
 -- Places on the disk, by the extents in which they lie.
-use Rattle.std.specs.Prelude.{◌≡◌, ℕ, List, [], ◌++◌, Contains, Result, Err}
-use Rattle.bd_disk.specs.History.{History}
+use Rattle.std.specs.Prelude.{ℕ, List, Contains}
 use Rattle.bd_disk.specs.Images.{InRange}
-use Rattle.bd_disk.specs.Trace.{ReadsOnly}
 use Rattle.bd_model.specs.Sizes.{Sizes, extent_place}
 use Rattle.bd_space.specs.Allotment.{Allotment, IsFree}
 use Rattle.bd_extio.specs.Ranges.{AreExtents}
-use Rattle.bd_intake.specs.declared.fault.IntakeFault.{IntakeFault}
-use Rattle.bd_intake.specs.declared.fault.IntakeFault.TheVariants.{DiskFault}
 
 -- a place in one of these extents
 pub record InOneOf (s : Sizes) (extents : List ℕ) (place : ℕ) : Type 0 where
@@ -26,8 +22,3 @@ pub record AreApart (s : Sizes) (recipe fresh : List ℕ) : Type 0 where
   pub recipe_extents : AreExtents s recipe
   pub fresh_extents : AreExtents s fresh
   pub apart : (e : ℕ) → Contains recipe e → Contains fresh e → ⊥
-
--- nothing was read, but for a fault of the disk, of which this says nothing
-abbrev pub ReadsNothing : {T : Type 0} → Type 0 → History → History → Result T IntakeFault → Type 0
-ReadsNothing told old new (Err DiskFault) = Unit {0}
-ReadsNothing told old new _ = told → ReadsOnly [] old new

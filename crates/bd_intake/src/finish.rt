@@ -36,12 +36,7 @@ pub(crate) fn nothing_staged(alloc: Global) -> Staging
 }
 
 // The open category that begins with this version, where it has chunks.
-fn category_of(
-    version: u32,
-    chunks: u64,
-    bytes: u64,
-    extents: Owned,
-) -> Option<ActiveCategory>
+fn category_of(version: u32, chunks: u64, bytes: u64, extents: Owned) -> Option<ActiveCategory>
     requires { chunks ≡ 0 → extents.numbers ≡ [] }
     ensures entries { fresh_entries result ≡ (if nat_lt 0 chunks then record { row = record { start = version; chunks = chunks; bytes = bytes }; extents = extents.numbers } ∷ [] else []) }
     ensures extents { fresh_extents result ≡ extents.numbers }

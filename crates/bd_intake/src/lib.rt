@@ -4,7 +4,6 @@
 
 mod fault;
 mod finish;
-mod take_in;
 mod laws;
 mod record;
 mod room;
@@ -13,8 +12,12 @@ mod source;
 mod staged;
 mod staging;
 mod stream;
+mod take_in;
 
 pub use fault::IntakeFault;
-pub use take_in::intake;
 pub use laws::first_chunks_are_the_different_ones;
 pub use staged::Staged;
+pub use take_in::intake;
+
+#[cfg(test)]
+mod tests;

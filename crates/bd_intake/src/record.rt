@@ -41,7 +41,7 @@ fn write_record<D: Disk>(
     ensures written { OnOk result (D.tells → (firsts : List (List ℕ)) → length (records_of firsts) ≡ staging.now.fresh_bytes
         → BeginWith (sizes_of shape.now) staging.now.fresh.numbers (records_of firsts) (contents (D.history disk.old))
         → BeginWith (sizes_of shape.now) staging.now.fresh.numbers (records_of (with_new is_new body.now firsts)) (contents (D.history disk.new))) }
-    ensures places { OnOk result (D.tells → ReadsOnly [] (D.history disk.old) (D.history disk.new)) }
+    ensures places { D.tells → ReadsOnly [] (D.history disk.old) (D.history disk.new) }
 {
     if !is_new {
         return Ok(());
@@ -76,7 +76,7 @@ fn write_own_entry<D: Disk>(
     ensures written { OnOk result (D.tells → (taken : List (List ℕ)) → length taken ≡ staging.now.chunks
         → BeginWith (sizes_of shape.now) staging.now.recipe.numbers (spelled_recipe (entries_in [] version taken)) (contents (D.history disk.old))
         → BeginWith (sizes_of shape.now) staging.now.recipe.numbers (spelled_recipe (entries_in [] version (taken ++ body.now ∷ []))) (contents (D.history disk.new))) }
-    ensures places { OnOk result (D.tells → ReadsOnly [] (D.history disk.old) (D.history disk.new)) }
+    ensures places { D.tells → ReadsOnly [] (D.history disk.old) (D.history disk.new) }
 {
     let entry = RecipeEntry {
         mark: *own,
@@ -118,7 +118,7 @@ pub(crate) fn write_parts<D: Disk>(
     ensures entries { OnOk result (D.tells → (taken : List (List ℕ)) → length taken ≡ staging.now.chunks
         → BeginWith (sizes_of shape.now) staging.now.recipe.numbers (spelled_recipe (entries_in [] version taken)) (contents (D.history disk.old))
         → BeginWith (sizes_of shape.now) staging.now.recipe.numbers (spelled_recipe (entries_in [] version (taken ++ body.now ∷ []))) (contents (D.history disk.new))) }
-    ensures places { OnOk result (D.tells → ReadsOnly [] (D.history disk.old) (D.history disk.new)) }
+    ensures places { D.tells → ReadsOnly [] (D.history disk.old) (D.history disk.new) }
 {
     write_record(disk, shape, staging, is_new, own, body)?;
     write_own_entry(disk, shape, staging, version, own, body)?;

@@ -1,7 +1,8 @@
 // A source, piece after piece.
-ghost use Rattle.std.specs.Prelude.{◌≡◌, ℕ, ◌+◌, ◌<◌, ◌≤◌, List, length, OnOk, IfOk, IfErr, IsFalse, Err};
+ghost use Rattle.std.specs.Prelude.{◌≡◌, ℕ, ◌+◌, ◌<◌, ◌≤◌, List, [], length, OnOk, IfOk, IfErr, IsFalse, Err};
 ghost use Rattle.bd_disk.specs.History.{contents};
 ghost use Rattle.bd_disk.specs.Made.{WritesOnly};
+ghost use Rattle.bd_disk.specs.Trace.{ReadsOnly};
 ghost use Rattle.bd_files.specs.Files.{Fetches, Holds, Lacks};
 ghost use Rattle.bd_model.specs.Chunks.{chunks};
 ghost use Rattle.bd_model.specs.Sizes.{sizes_of, disk_bytes};
@@ -10,7 +11,7 @@ ghost use Rattle.bd_intake.specs.Answers.{RefusesVersion};
 ghost use Rattle.bd_intake.specs.Causes.{FailsByCount, FailsBySource};
 ghost use Rattle.bd_intake.specs.Filling.{CountsMissing, Filled, Fills};
 ghost use Rattle.bd_intake.specs.Firsts.{cut_in};
-ghost use Rattle.bd_intake.specs.Places.{InOneOf, ReadsNothing};
+ghost use Rattle.bd_intake.specs.Places.{InOneOf};
 ghost use Rattle.bd_intake.specs.Staging.{Grows, IsStaging, staged_extents};
 
 use crate::fault::IntakeFault;
@@ -73,7 +74,7 @@ fn take_piece<D: Disk, F: Files>(
     ensures missing { F.tells → Lacks (F.files files.old) name.now → result ≡ Err IntakeFault.SourceFault }
     ensures same { F.tells → F.files files.new ≡ F.files files.old }
     ensures writes { D.tells → WritesOnly (InOneOf (sizes_of shape.now) (staged_extents staging.new)) (D.history disk.old) (D.history disk.new) }
-    ensures places { ReadsNothing D.tells (D.history disk.old) (D.history disk.new) result }
+    ensures places { D.tells → ReadsOnly [] (D.history disk.old) (D.history disk.new) }
     ensures grows { Grows space.old space.new staging.old staging.new }
     ensures staging { OnOk result (IsStaging (sizes_of shape.now) free space.new staging.new) }
     ensures open { OnOk result (IsFalse chunker.new.finished) }
@@ -116,7 +117,7 @@ pub(crate) fn fill<D: Disk, F: Files>(
     ensures missing { F.tells → Lacks (F.files files.old) name.now → result ≡ Err IntakeFault.SourceFault }
     ensures same { F.tells → F.files files.new ≡ F.files files.old }
     ensures writes { D.tells → WritesOnly (InOneOf (sizes_of shape.now) (staged_extents staging.new)) (D.history disk.old) (D.history disk.new) }
-    ensures places { ReadsNothing D.tells (D.history disk.old) (D.history disk.new) result }
+    ensures places { D.tells → ReadsOnly [] (D.history disk.old) (D.history disk.new) }
     ensures grows { Grows space.old space.new staging.old staging.new }
     ensures staging { OnOk result (IsStaging (sizes_of shape.now) free space.new staging.new) }
     ensures filled { OnOk result (Filled (sizes_of shape.now) version chunker.new staging.new D.tells (contents (D.history disk.new)) F.tells (F.files files.old) name.now) }

@@ -1,12 +1,13 @@
 ghost use Rattle.std.specs.Prelude.{◌≡◌, ℕ, ◌+◌, ◌≤◌, List, [], ◌++◌, ◌∷◌, length, OnOk, IfErr, if◌then◌else◌};
 ghost use Rattle.bd_disk.specs.History.{contents};
 ghost use Rattle.bd_disk.specs.Made.{WritesOnly};
+ghost use Rattle.bd_disk.specs.Trace.{ReadsOnly};
 ghost use Rattle.bd_model.specs.Sizes.{sizes_of, disk_bytes};
 ghost use Rattle.bd_space.specs.Allotment.{held_count};
 ghost use Rattle.bd_intake.specs.Answers.{RefusesRoom};
 ghost use Rattle.bd_intake.specs.Causes.{FailsByDisk};
 ghost use Rattle.bd_intake.specs.Firsts.{extents_of};
-ghost use Rattle.bd_intake.specs.Places.{InOneOf, ReadsNothing};
+ghost use Rattle.bd_intake.specs.Places.{InOneOf};
 ghost use Rattle.bd_intake.specs.Staging.{Grows, HasTaken, HasWritten, IsStaging, staged_extents};
 
 use crate::fault::IntakeFault;
@@ -58,7 +59,7 @@ pub(crate) fn take_chunk<D: Disk>(
     ensures bytes { D.bytes disk.new ≡ D.bytes disk.old }
     ensures cause { FailsByDisk (D.faults disk.old) (D.faults disk.new) result }
     ensures writes { D.tells → WritesOnly (InOneOf (sizes_of shape.now) (staged_extents staging.new)) (D.history disk.old) (D.history disk.new) }
-    ensures places { ReadsNothing D.tells (D.history disk.old) (D.history disk.new) result }
+    ensures places { D.tells → ReadsOnly [] (D.history disk.old) (D.history disk.new) }
     ensures grows { Grows space.old space.new staging.old staging.new }
     ensures staging { OnOk result (IsStaging (sizes_of shape.now) free space.new staging.new) }
     ensures taken { OnOk result ((taken : List (List ℕ)) → HasTaken (sizes_of shape.now) taken staging.old → HasTaken (sizes_of shape.now) (taken ++ body.now ∷ []) staging.new) }

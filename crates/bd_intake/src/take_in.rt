@@ -1,6 +1,7 @@
 ghost use Rattle.std.specs.Prelude.{◌≡◌, ℕ, ◌+◌, ◌<◌, ◌≤◌, List, [], ◌++◌, OnOk, OnErr, IfOk, IfErr};
 ghost use Rattle.bd_disk.specs.History.{contents};
 ghost use Rattle.bd_disk.specs.Made.{WritesOnly};
+ghost use Rattle.bd_disk.specs.Trace.{ReadsOnly};
 ghost use Rattle.bd_files.specs.Files.{Holds, Lacks};
 ghost use Rattle.bd_model.specs.Chunks.{chunks};
 ghost use Rattle.bd_model.specs.Sizes.{sizes_of, disk_bytes};
@@ -12,7 +13,7 @@ ghost use Rattle.bd_intake.specs.Answers.{AnswersIntake, HoldsVersion, RefusesVe
 ghost use Rattle.bd_intake.specs.Causes.{FailsByCount, MissesSource};
 ghost use Rattle.bd_intake.specs.Filling.{CountsMissing, HasStream};
 ghost use Rattle.bd_intake.specs.Firsts.{cut_in};
-ghost use Rattle.bd_intake.specs.Places.{InFree, InOneOf, ReadsNothing};
+ghost use Rattle.bd_intake.specs.Places.{InFree, InOneOf};
 ghost use Rattle.bd_intake.specs.Staging.{Grows, HasTaken, IsStaging, staged_extents};
 
 use crate::fault::IntakeFault;
@@ -52,7 +53,7 @@ fn stage<D: Disk, F: Files>(
     ensures missing { F.tells → Lacks (F.files files.old) name.now → MissesSource result }
     ensures same { F.tells → F.files files.new ≡ F.files files.old }
     ensures writes { D.tells → WritesOnly (InOneOf (sizes_of shape.now) (staged_extents staging.new)) (D.history disk.old) (D.history disk.new) }
-    ensures places { ReadsNothing D.tells (D.history disk.old) (D.history disk.new) result }
+    ensures places { D.tells → ReadsOnly [] (D.history disk.old) (D.history disk.new) }
     ensures grows { Grows space.old space.new staging.old staging.new }
     ensures staging { OnOk result (IsStaging (sizes_of shape.now) free space.new staging.new) }
     ensures whole { OnOk result (F.tells → (stream : List ℕ) → Holds (F.files files.old) name.now stream
@@ -75,15 +76,7 @@ fn stage<D: Disk, F: Files>(
         &mut buffer,
     )?;
     chunker.finish();
-    take_chunks(
-        staging,
-        &mut chunker,
-        disk,
-        space,
-        shape,
-        version,
-        free,
-    )
+    take_chunks(staging, &mut chunker, disk, space, shape, version, free)
 }
 
 /// Takes in the stream under the name as the first version of an empty store: its chunks, each of which is stored once, and
@@ -109,7 +102,7 @@ pub fn intake<D: Disk, F: Files>(
     ensures missing { F.tells → Lacks (F.files files.old) name.now → MissesSource result }
     ensures files { F.tells → F.files files.new ≡ F.files files.old }
     ensures writes { D.tells → WritesOnly (InFree catalog.now.found.sizes space.old) (D.history disk.old) (D.history disk.new) }
-    ensures places { ReadsNothing D.tells (D.history disk.old) (D.history disk.new) result }
+    ensures places { D.tells → ReadsOnly [] (D.history disk.old) (D.history disk.new) }
     ensures owned { IfOk result (λ staged. TakenExactly space.new (all_extents catalog.now.found.catalogue ++ brought (Backup staged.version staged.fresh))) }
     ensures given_back { OnErr result (TakenExactly space.new (all_extents catalog.now.found.catalogue)) }
     ensures size { extent_count space.new ≡ extent_count space.old }

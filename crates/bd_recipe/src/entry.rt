@@ -38,7 +38,7 @@ pub fn write_entry<D: Disk>(
     ensures cause { HasCause (D.faults disk.old) (D.faults disk.new) result }
     ensures writes { D.tells → WritesOnly (InOwner (sizes_of shape.now) extents.now (40 * index) 40) (D.history disk.old) (D.history disk.new) }
     ensures written { OnOk result (D.tells → owner_bytes (sizes_of shape.now) extents.now (contents (D.history disk.new)) ≡ overwritten (owner_bytes (sizes_of shape.now) extents.now (contents (D.history disk.old))) (40 * index) (spelled_entry entry.now)) }
-    ensures places { OnOk result (D.tells → ReadsOnly [] (D.history disk.old) (D.history disk.new)) }
+    ensures places { D.tells → ReadsOnly [] (D.history disk.old) (D.history disk.new) }
 {
     let mut bytes = [0u8; ENTRY];
     put_entry(&mut bytes, 0, entry);

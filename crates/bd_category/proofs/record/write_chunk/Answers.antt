@@ -35,5 +35,8 @@ returns-clause-written g c = λ told.
     ∙ overwritten-append owner c.args.at header c.args.body.now (omega (arith, long, sized, c.requires.range))
     ∙ ap (λ h. overwritten owner c.args.at (h ++ c.args.body.now)) c.header_bytes-header.ensures.so
 
+pub returns-in_err-write_at-2-clause-places : goal.returns-in_err-write_at-2-clause-places
+returns-in_err-write_at-2-clause-places g c = λ told. reads_both (c.in_ok-write_at.ensures.places told) (c.write_at-2.ensures.places told)
+
 pub returns-clause-places : goal.returns-clause-places
 returns-clause-places g c = λ told. reads_both (c.in_ok-write_at.ensures.places told) (c.in_ok-write_at-2.ensures.places told)

@@ -6,6 +6,7 @@ use Rattle.bd_disk.proofs.Frames.{made_none, made_both, writes_wider}
 use Rattle.bd_disk.proofs.Traces.{reads_none, reads_both, write_reads}
 use Rattle.bd_model.specs.Sizes.{sizes_of, disk_bytes}
 use Rattle.bd_model.specs.Extents.{owner_bytes}
+use Rattle.bd_extio.proofs.Failing.{failed_reads}
 use Rattle.bd_extio.proofs.Places.{range_small}
 use Rattle.bd_extio.proofs.Ranges.{overwritten-none, write_more, piece_in_owner}
 use Rattle.bd_extio.proofs.range.write_at.Goals as goal
@@ -33,6 +34,9 @@ returns-in_err-write-clause-writes g c = λ told.
     let start = c.piece_at-piece.ensures.place in
     let long : length (bytes_at done (done + n - done) c.args.from.now) ≡ n = omega (arith, length-bytes_at done (done + n - done) c.args.from.now) in
     made_both (c.loop-done.invariant.writes told) (writes_wider _ (λ place r. piece_in_owner s c.args.extents.now (omega arith) c.args.at done n (length c.args.from.now) place within inside (omega (arith, r.0, start), omega (arith, r.1, start, long))) (c.write.ensures.writes told))
+
+pub returns-in_err-write-clause-places : goal.returns-in_err-write-clause-places
+returns-in_err-write-clause-places g c = λ told. reads_both (c.loop-done.invariant.places told) (failed_reads (c.in_err-write.ensures.err told))
 
 pub loop-done-preserved : goal.loop-done-preserved
 loop-done-preserved g c =

@@ -42,5 +42,8 @@ returns-clause-entries g c = λ told taken long begins.
     c.in_ok-write_own_entry.ensures.written told taken long
     (still_begins s recipe fresh (spelled_recipe (entries_in [] c.args.version taken)) c.requires.numbers.apart (c.write_record.ensures.writes told) begins)
 
+pub returns-in_err-write_own_entry-clause-places : goal.returns-in_err-write_own_entry-clause-places
+returns-in_err-write_own_entry-clause-places g c = λ told. reads_both (c.in_ok-write_record.ensures.places told) (c.write_own_entry.ensures.places told)
+
 pub returns-clause-places : goal.returns-clause-places
 returns-clause-places g c = λ told. reads_both (c.in_ok-write_record.ensures.places told) (c.in_ok-write_own_entry.ensures.places told)

@@ -1,14 +1,12 @@
-use Rattle.std.proofs.Common.{◌≡◌, ℕ, ◌+◌, ◌^◌, ◌<◌, ◌≤◌, List, sym, ◌∙◌, ap, subst, arith, length}
+use Rattle.std.proofs.Common.{◌≡◌, ◌+◌, ◌^◌, ◌<◌, sym, ◌∙◌, subst, arith}
 use Rattle.std.proofs.lemmas.Result.{err_from_is_err_and}
 use Rattle.bd_disk.specs.History.{contents}
-use Rattle.bd_files.specs.Files.{Holds}
 use Rattle.bd_model.specs.Chunks.{chunks}
 use Rattle.bd_model.specs.Sizes.{sizes_of}
 use Rattle.bd_space.specs.Allotment.{held_count}
 use Rattle.bd_intake.specs.Answers.{RefusesVersion}
-use Rattle.bd_intake.specs.Filling.{Fills}
 use Rattle.bd_intake.specs.Firsts.{cut_in}
-use Rattle.bd_intake.proofs.Draining.{quiet_as, quiet_before, reads_so_far, writes_so_far}
+use Rattle.bd_intake.proofs.Draining.{reads_so_far, writes_so_far}
 use Rattle.bd_intake.proofs.Filling.{filled_all, filled_small, fills_again, holds_again, missing_more}
 use Rattle.bd_intake.proofs.Growing.{grows_both}
 use Rattle.bd_intake.proofs.source.fill.Goals as goal
@@ -18,11 +16,7 @@ returns-in_err-count-clause-writes g c =
     writes_so_far (sizes_of c.args.shape.now) g.D.Disk.tells c.loop-count.space c.take_piece.new.space c.loop-count.staging c.take_piece.new.staging c.take_piece.ensures.grows c.loop-count.invariant.writes c.take_piece.ensures.writes
 
 pub returns-in_err-count-clause-places : goal.returns-in_err-count-clause-places
-returns-in_err-count-clause-places g c =
-    let p = err_from_is_err_and c.from_residual.result c.from_residual.ensures.1 in
-    rw (p.1, p.2)
-    (quiet_before (Unit {0}) g.D.Disk.tells (g.D.Disk.history c.args.disk.now) (g.D.Disk.history c.loop-count.disk) (g.D.Disk.history c.take_piece.new.disk) c.loop-count.invariant.reads c.in_err-count.field-0.0
-    (quiet_as ℕ (Unit {0}) g.D.Disk.tells (g.D.Disk.history c.loop-count.disk) (g.D.Disk.history c.take_piece.new.disk) c.in_err-count.field-0.0 c.in_err-count.ensures.places))
+returns-in_err-count-clause-places g c = reads_so_far g.D.Disk.tells c.loop-count.invariant.reads c.take_piece.ensures.places
 
 pub returns-in_err-count-clause-grows : goal.returns-in_err-count-clause-grows
 returns-in_err-count-clause-grows g c = grows_both c.loop-count.invariant.grows c.take_piece.ensures.grows
@@ -42,7 +36,7 @@ returns-then-count-eq0-clause-writes g c =
     writes_so_far (sizes_of c.args.shape.now) g.D.Disk.tells c.loop-count.space c.take_piece.new.space c.loop-count.staging c.take_piece.new.staging c.take_piece.ensures.grows c.loop-count.invariant.writes c.take_piece.ensures.writes
 
 pub returns-then-count-eq0-clause-places : goal.returns-then-count-eq0-clause-places
-returns-then-count-eq0-clause-places g c = reads_so_far g.D.Disk.tells c.loop-count.invariant.reads c.in_ok-count.ensures.places
+returns-then-count-eq0-clause-places g c = reads_so_far g.D.Disk.tells c.loop-count.invariant.reads c.take_piece.ensures.places
 
 pub returns-then-count-eq0-clause-grows : goal.returns-then-count-eq0-clause-grows
 returns-then-count-eq0-clause-grows g c = grows_both c.loop-count.invariant.grows c.take_piece.ensures.grows
@@ -89,7 +83,7 @@ loop-count-preserved g c =
       short = c.in_ok-count.ensures.short;
       grows = grows_both before.grows c.take_piece.ensures.grows;
       writes = writes_so_far s g.D.Disk.tells c.loop-count.space c.take_piece.new.space c.loop-count.staging c.take_piece.new.staging c.take_piece.ensures.grows before.writes c.take_piece.ensures.writes;
-      reads = reads_so_far g.D.Disk.tells before.reads c.in_ok-count.ensures.places;
+      reads = reads_so_far g.D.Disk.tells before.reads c.take_piece.ensures.places;
       fills = fills_again s c.args.version (c.loop-count.at + c.in_ok-count.count) c.take_piece.new.chunker c.take_piece.new.staging g.D.Disk.tells (contents (g.D.Disk.history c.take_piece.new.disk)) g.F.Files.tells other files c.args.name.now
           (λ t. sym (before.same t)) c.in_ok-count.ensures.fills;
     }

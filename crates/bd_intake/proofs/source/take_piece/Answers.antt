@@ -1,10 +1,10 @@
-use Rattle.std.proofs.Common.{◌≡◌, ℕ, ◌+◌, List, ◌++◌, true, false, sym, ◌∙◌, ap, subst, arith, refl, length, take, drop}
+use Rattle.std.proofs.Common.{◌≡◌, ◌++◌, true, sym, ◌∙◌, ap, subst, arith, length, take, drop}
 use Rattle.std.proofs.lemmas.Bool.{false≢true}
 use Rattle.std.proofs.lemmas.Result.{err_from_is_err_and}
 use Rattle.bd_disk.specs.History.{contents}
 use Rattle.bd_gear.specs.Chunking.{Chunking}
 use Rattle.bd_model.specs.Chunks.{chunks}
-use Rattle.bd_model.specs.Sizes.{Sizes, sizes_of}
+use Rattle.bd_model.specs.Sizes.{sizes_of}
 use Rattle.bd_space.specs.Allotment.{held_count}
 use Rattle.bd_intake.specs.Answers.{RefusesVersion}
 use Rattle.bd_intake.specs.Filling.{IsFront}

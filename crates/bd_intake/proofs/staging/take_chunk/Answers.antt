@@ -1,4 +1,4 @@
-use Rattle.std.proofs.Common.{◌≡◌, ℕ, ◌+◌, ◌*◌, ◌||◌, not, cond, List, [], ◌∷◌, ◌++◌, sym, ◌∙◌, ap, subst, arith, length}
+use Rattle.std.proofs.Common.{◌≡◌, ◌+◌, ◌*◌, ◌||◌, not, [], ◌∷◌, ◌++◌, sym, ◌∙◌, ap, subst, arith}
 use Rattle.std.specs.Str.{bytes_eq}
 use Rattle.std.proofs.lemmas.Result.{err_from_is_err_and}
 use Rattle.bd_disk.specs.History.{contents}
@@ -6,14 +6,13 @@ use Rattle.bd_model.specs.Laws.{entries_in}
 use Rattle.bd_model.specs.Marks.{mark}
 use Rattle.bd_model.specs.Records.{records_of, spelled_recipe}
 use Rattle.bd_model.specs.Room.{up}
-use Rattle.bd_model.specs.Sizes.{Sizes, sizes_of}
+use Rattle.bd_model.specs.Sizes.{sizes_of}
 use Rattle.bd_space.specs.Allotment.{held_count}
 use Rattle.bd_catalog.specs.Standing.{BeginWith}
 use Rattle.bd_intake.specs.declared.staging.Staging.{Staging}
 use Rattle.bd_intake.specs.Answers.{RefusesRoom}
-use Rattle.bd_intake.specs.Firsts.{first_by_mark, knows, with_new, extents_of}
-use Rattle.bd_intake.specs.Staging.{HasTaken, HasWritten}
-use Rattle.bd_intake.proofs.Growing.{IsSmall, as_number, one_or_none, extents-after, longer, new_is, staging_is_small, staging_left, took}
+use Rattle.bd_intake.specs.Firsts.{first_by_mark, knows, extents_of}
+use Rattle.bd_intake.proofs.Growing.{as_number, one_or_none, extents-after, longer, new_is, staging_is_small, took}
 use Rattle.bd_intake.proofs.Owning.{owns_apart}
 use Rattle.bd_intake.proofs.Writing.{length-records}
 use Rattle.bd_intake.proofs.staging.take_chunk.Goals as goal

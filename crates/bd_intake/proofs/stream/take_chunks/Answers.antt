@@ -1,11 +1,10 @@
-use Rattle.std.proofs.Common.{◌≡◌, ℕ, ◌≤◌, List, sym, ◌∙◌, ap, subst, arith, refl, length}
+use Rattle.std.proofs.Common.{sym, ◌∙◌, ap, arith, refl}
 use Rattle.std.proofs.lemmas.Result.{err_from_is_err_and}
 use Rattle.bd_disk.proofs.Frames.{made_both}
 use Rattle.bd_gear.specs.Chunking.{Chunking}
-use Rattle.bd_model.specs.Sizes.{Sizes, sizes_of}
+use Rattle.bd_model.specs.Sizes.{sizes_of}
 use Rattle.bd_intake.specs.Firsts.{cut_in}
-use Rattle.bd_intake.specs.Places.{ReadsNothing}
-use Rattle.bd_intake.proofs.Draining.{advanced, drains_none, drains_one, next-short, quiet_before, refuses_one, wider}
+use Rattle.bd_intake.proofs.Draining.{advanced, drains_none, drains_one, next-short, reads_so_far, refuses_one, wider}
 use Rattle.bd_intake.proofs.Growing.{grows_both}
 use Rattle.bd_intake.proofs.stream.take_chunks.Goals as goal
 
@@ -40,7 +39,7 @@ loop-len-preserved g c =
             finished = ap (λ (d : Chunking). d.finished) c.advance.ensures.removed ∙ c.next_length.ensures.finished;
             grows = c.take_chunk-taken.ensures.grows;
             writes = c.take_chunk-taken.ensures.writes;
-            reads = c.in_ok-taken.ensures.places;
+            reads = c.take_chunk-taken.ensures.places;
             fed = advanced s c.loop-len.chunker c.next_length.new.self c.advance.new.self c.in-Some.len body c.chunk.ensures.bytes c.next_length.ensures.fed c.advance.ensures.taken;
             has = c.in_ok-taken.ensures.taken;
             written = c.in_ok-taken.ensures.written;
@@ -53,9 +52,7 @@ returns-in_err-taken-clause-writes g c = λ t.
     made_both (wider (sizes_of c.args.shape.now) c.loop-len.space c.take_chunk-taken.new.space c.loop-len.staging c.take_chunk-taken.new.staging c.take_chunk-taken.ensures.grows (drains.writes t)) (c.take_chunk-taken.ensures.writes t)
 
 pub returns-in_err-taken-clause-places : goal.returns-in_err-taken-clause-places
-returns-in_err-taken-clause-places g c =
-    let p = err_from_is_err_and c.from_residual.result c.from_residual.ensures.1 in
-    rw (p.1, p.2) (quiet_before (Unit {0}) g.D.Disk.tells (g.D.Disk.history c.args.disk.now) (g.D.Disk.history c.loop-len.disk) (g.D.Disk.history c.take_chunk-taken.new.disk) c.loop-len.invariant.drains.reads c.in_err-taken.field-0.0 c.in_err-taken.ensures.places)
+returns-in_err-taken-clause-places g c = reads_so_far g.D.Disk.tells c.loop-len.invariant.drains.reads c.take_chunk-taken.ensures.places
 
 pub returns-in_err-taken-clause-grows : goal.returns-in_err-taken-clause-grows
 returns-in_err-taken-clause-grows g c = grows_both c.loop-len.invariant.drains.grows c.take_chunk-taken.ensures.grows

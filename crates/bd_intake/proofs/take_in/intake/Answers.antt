@@ -1,17 +1,16 @@
-use Rattle.std.proofs.Common.{◌≡◌, ℕ, ◌+◌, ◌++◌, List, length, sym, ◌∙◌, ap, subst, arith, flat_map, append_assoc}
+use Rattle.std.proofs.Common.{◌≡◌, ◌+◌, ◌++◌, sym, ◌∙◌, ap, subst, flat_map}
 use Rattle.bd_disk.specs.History.{contents}
 use Rattle.bd_disk.specs.Made.{WritesOnly}
 use Rattle.bd_model.specs.Chunks.{chunks}
 use Rattle.bd_model.specs.Sizes.{Sizes, sizes_of}
-use Rattle.bd_space.specs.Allotment.{extent_count, free_count, held_count, TakenExactly}
+use Rattle.bd_space.specs.Allotment.{free_count, held_count, TakenExactly}
 use Rattle.bd_catalog.specs.Catalogue.{VersionEntry, all_extents}
 use Rattle.bd_catalog.specs.Rules.{obeys}
 use Rattle.bd_catalog.specs.Shown.{version_entry}
 use Rattle.bd_catalog.specs.Steps.{FitsBackup, fresh_entries}
-use Rattle.bd_intake.specs.Answers.{AnswersIntake, HoldsVersion, IsVersion, RefusesVersion, fresh_extents}
+use Rattle.bd_intake.specs.Answers.{HoldsVersion, IsVersion, RefusesVersion}
 use Rattle.bd_intake.specs.Firsts.{cut_in}
 use Rattle.bd_intake.specs.Places.{InFree}
-use Rattle.bd_intake.specs.Spaces.{Owns}
 use Rattle.bd_intake.proofs.Ending.{begin_staging, entries_extents, first_counted, first_fits, first_owns, first_stored, in_free}
 use Rattle.bd_intake.proofs.Owning.{owns_last}
 use Rattle.bd_intake.proofs.take_in.intake.Goals as goal

@@ -1,4 +1,4 @@
-use Rattle.std.proofs.Common.{◌≡◌, ℕ, [], sym, ◌∙◌, ap, subst, arith, refl}
+use Rattle.std.proofs.Common.{◌≡◌, [], sym, ◌∙◌, ap, subst, refl}
 use Rattle.std.proofs.lemmas.Result.{err_from_is_err_and, on_ok_weaker}
 use Rattle.bd_disk.specs.History.{contents}
 use Rattle.bd_gear.specs.Chunking.{Chunking}
@@ -6,8 +6,8 @@ use Rattle.bd_model.specs.Sizes.{sizes_of}
 use Rattle.bd_space.specs.Allotment.{held_count}
 use Rattle.bd_intake.specs.Causes.{FailsByCount}
 use Rattle.bd_intake.specs.Firsts.{cut_in}
-use Rattle.bd_intake.proofs.Draining.{writes_so_far}
-use Rattle.bd_intake.proofs.Ending.{by_disk, quiet_then, refuses_last, whole_stream}
+use Rattle.bd_intake.proofs.Draining.{reads_so_far, writes_so_far}
+use Rattle.bd_intake.proofs.Ending.{by_disk, refuses_last, whole_stream}
 use Rattle.bd_intake.proofs.Growing.{grows_both}
 use Rattle.bd_intake.proofs.take_in.stage.Goals as goal
 
@@ -32,8 +32,7 @@ returns-clause-writes g c =
     writes_so_far (sizes_of c.args.shape.now) g.D.Disk.tells c.fill.new.space c.take_chunks.new.space c.fill.new.staging c.take_chunks.new.staging c.take_chunks.ensures.grows c.fill.ensures.writes c.take_chunks.ensures.writes
 
 pub returns-clause-places : goal.returns-clause-places
-returns-clause-places g c =
-    quiet_then (Unit {0}) g.D.Disk.tells (g.D.Disk.history c.args.disk.now) (g.D.Disk.history c.fill.new.disk) (g.D.Disk.history c.take_chunks.new.disk) c.in_ok-fill.ensures.places c.take_chunks.result c.take_chunks.ensures.places
+returns-clause-places g c = reads_so_far g.D.Disk.tells c.fill.ensures.places c.take_chunks.ensures.places
 
 pub returns-clause-grows : goal.returns-clause-grows
 returns-clause-grows g c = grows_both c.fill.ensures.grows c.take_chunks.ensures.grows

@@ -1,4 +1,4 @@
-use Rattle.std.proofs.Common.{◌≡◌, ◌∙◌, Bool, true, false, cond, ◌||◌, refl, ap, sym}
+use Rattle.std.proofs.Common.{◌≡◌, ◌∙◌, Bool, true, false, cond, ◌||◌, refl, ap}
 use Rattle.std.specs.Str.{bytes_eq}
 use Rattle.bd_intake.specs.Firsts.{knows}
 use Rattle.bd_intake.proofs.Firsts.{bytes_eq-sym}
