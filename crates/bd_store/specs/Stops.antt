@@ -11,6 +11,7 @@ use Rattle.bd_model.specs.declared.command.Command.{Command}
 use Rattle.bd_catalog.specs.Standing.{Stands}
 use Rattle.bd_store.specs.Steps.{Task, task, LeadsTo, IsNear, StandsOnEitherSide}
 use Rattle.bd_store.specs.declared.fault.StoreFault.{StoreFault}
+use Rattle.bd_store.specs.declared.fault.StoreFault.TheVariants.{DiskFault}
 
 -- each image that a stop now may leave stands for the state
 abbrev pub IsSureOf : Task → History → Type 0
@@ -22,15 +23,18 @@ pub record IsSureAfter (t : Task) (new : History) : Type 0 where
   pub leads : LeadsTo t outcome
   pub sure : LeavesNow (Stands t.shape t.held outcome.state) new
 
-abbrev pub IsSureOnOk : Task → History → Result Answer StoreFault → Type 0
-IsSureOnOk t new (Ok answer) = IsSureAfter t new
-IsSureOnOk t new (Err fault) = Unit {0}
+-- once it has answered, each image stands for the state after it; after a fault of anything but the disk every image did
+-- for the state before it, at any moment
+abbrev pub IsSureBy : Task → History → History → Result Answer StoreFault → Type 0
+IsSureBy t old new (Ok answer) = IsSureAfter t new
+IsSureBy t old new (Err DiskFault) = Unit {0}
+IsSureBy t old new (Err fault) = LeavesSince (Stands t.shape t.held t.state) old new
 
--- Each image that a stop at any moment of the command left stands for the state before it or for the one after, and
--- once it has answered, for the one after.
+-- Each image that a stop at any moment of the command left stands for the state before it or for the one after; once it has
+-- answered, for the one after; and where something else than the disk failed, for the one before.
 pub record StopsOnEitherSide (t : Task) (old new : History) (result : Result Answer StoreFault) : Type 0 where
   pub within : LeavesSince (StandsOnEitherSide t) old new
-  pub done : IsSureOnOk t new result
+  pub done : IsSureBy t old new result
 
 -- Whatever state each image at entry stood for: a stop leaves that state or the one after.
 pub record IsSafeAtStops (command : Command) (held : ℕ) (old new : History) (files : FileMap) (result : Result Answer StoreFault) : Type 0 where
