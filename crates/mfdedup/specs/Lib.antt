@@ -1,1 +1,12 @@
 pub mod Words
+pub mod Statuses
+pub mod Counts
+pub mod Drops
+pub mod Course
+pub mod Answers
+pub mod Exit
+pub mod Moments
+pub mod Reads
+pub mod Ends
+pub mod Whole
+pub mod Headline

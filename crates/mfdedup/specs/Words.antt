@@ -1,6 +1,7 @@
 -- What words ask for.
 use Rattle.std.specs.Prelude.{◌≡◌, ℕ, ◌+◌, ◌*◌, ◌-◌, Bool, true, false, not, ◌&&◌, ◌||◌, ◌==◌, List, [], ◌∷◌, length, slice_index, codes, nat_le, Option, Some, None, if◌then◌else◌}
-use Rattle.std.specs.Str.{bytes_eq, all_ascii_digits}
+use Rattle.std.specs.List.{list_all}
+use Rattle.std.specs.Str.{bytes_eq}
 use Rattle.bd_model.specs.Limits.{is_name}
 use Rattle.bd_model.specs.Sizes.{Sizes, sizes_of}
 use Rattle.bd_model.specs.declared.command.Command.{Command}
@@ -24,9 +25,12 @@ abbrev pub default_sizes : Sizes
 default_sizes = record { extent = 1048576; extents = 4096; retain = 64; min = 2048; bits = 13; max = 65536 }
 
 -- ---- numbers
+abbrev pub is_digit : ℕ → Bool
+is_digit b = nat_le 48 b && nat_le b 57
+
 -- decimal digits that begin with a 0 only where they are no more
 abbrev pub is_digits : List ℕ → Bool
-is_digits bytes = not (length bytes == 0) && all_ascii_digits bytes && (length bytes == 1 || not (slice_index bytes 0 == 48))
+is_digits bytes = not (length bytes == 0) && (list_all is_digit bytes && (length bytes == 1 || not (slice_index bytes 0 == 48)))
 
 -- the number that digits spell behind a number
 abbrev pub read_on : ℕ → List ℕ → ℕ

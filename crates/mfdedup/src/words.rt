@@ -1,7 +1,8 @@
 ghost use Rattle.std.specs.Prelude.{◌≡◌, ◌⊎◌, ◌≤◌, ◌<◌, ◌^◌, ◌↔◌, ◌∷◌, [], true, false, IfOk, IfErr, IsTrue, map, string_bytes, Some};
+ghost use Rattle.std.specs.List.{list_all};
 ghost use Rattle.bd_model.specs.Limits.{is_name};
 ghost use Rattle.bd_model.specs.Sizes.{sizes_of};
-ghost use Rattle.mfdedup.specs.Words.{AsksFor, ToRun, Refused, default_sizes, is_digits, is_value, number_of, reading, reading_alone, reading_one, reading_two, restore_request, blank_request, soak_request};
+ghost use Rattle.mfdedup.specs.Words.{AsksFor, ToRun, Refused, default_sizes, is_digit, is_digits, is_value, number_of, reading, reading_alone, reading_one, reading_two, restore_request, blank_request, soak_request};
 ghost use Rattle.mfdedup.specs.declared.report.End.TheVariants.{BadName, BadNumber, OutOfMemory};
 
 use crate::report::{End, Request};
@@ -20,10 +21,11 @@ pub fn read(alloc: Global, words: &[String]) -> Result<Request, End>
     ensures refused { IfErr result (λ ending. (reading (map string_bytes words.now) ≡ Refused ending) ⊎ (ending ≡ OutOfMemory)) }
 {
     match words {
+        [] => Err(End::BadWords),
         [word] => read_alone(alloc, word.as_str()),
         [word, value] => read_one(alloc, word.as_str(), value.as_str()),
         [word, first, second] => read_two(alloc, word.as_str(), first.as_str(), second.as_str()),
-        _ => Err(End::BadWords),
+        [_, _, _, _, ..] => Err(End::BadWords),
     }
 }
 
@@ -177,17 +179,26 @@ fn number(text: &str, most: u64) -> Option<u64>
         return None;
     }
     match text.parse::<u64>() {
-        Ok(number) if number <= most => Some(number),
-        _ => None,
+        Ok(number) => {
+            if number <= most {
+                Some(number)
+            } else {
+                None
+            }
+        }
+        Err(_) => None,
     }
+}
+
+fn all_digits(bytes: &[u8]) -> bool
+    ensures { result ≡ list_all is_digit bytes.now }
+{
+    bytes.iter().all(|b| *b >= b'0' && *b <= b'9')
 }
 
 // Whether these are decimal digits that begin with a 0 only where they are no more.
 fn is_digits(bytes: &[u8]) -> bool
     ensures { result ≡ is_digits bytes.now }
 {
-    if bytes.is_empty() || !bytes.iter().all(|b| b.is_ascii_digit()) {
-        return false;
-    }
-    bytes.len() == 1 || bytes[0] != b'0'
+    !bytes.is_empty() && all_digits(bytes) && (bytes.len() == 1 || bytes[0] != b'0')
 }
