@@ -1,5 +1,5 @@
-ghost use Rattle.std.specs.Prelude.{◌≡◌, ◌≤◌, ◌↔◌, length, take, IsTrue, IsNone, IfSome};
-ghost use Rattle.bd_model.specs.Texts.{line, answer_text, none_text};
+ghost use Rattle.std.specs.Prelude.{◌≡◌, ◌≤◌, ◌↔◌, take, IsTrue, IsNone, IfSome};
+ghost use Rattle.bd_model.specs.Texts.{answer_text, none_text};
 ghost use Rattle.bd_model.specs.declared.answer.Answer.TheVariants.{BackedUp, Restored, Expired, Arranged, FullVersions, FullExtents, NoVersion, Blanked};
 ghost use Rattle.bd_script.specs.Long.{is_long};
 
@@ -35,7 +35,7 @@ pub fn short_line(answer: &Answer) -> Option<Line>
         Answer::Restored { version, bytes } => Some(restored(*version, *bytes)),
         Answer::Expired { version, extents } => Some(expired(*version, *extents)),
         Answer::Arranged { owned, free } => Some(arranged(*owned, *free)),
-        Answer::FullNumbers => Some(whole_line(b"full: numbers")),
+        Answer::FullNumbers => Some(Line::whole(b"full: numbers")),
         Answer::FullVersions { retained } => Some(full_versions(*retained)),
         Answer::FullExtents {
             counted,
@@ -48,20 +48,10 @@ pub fn short_line(answer: &Answer) -> Option<Line>
             newest,
         } => Some(no_version(*asked, *oldest, *newest)),
         Answer::NothingRetained { asked } => Some(nothing_retained(*asked)),
-        Answer::Formatted => Some(whole_line(b"formatted")),
+        Answer::Formatted => Some(Line::whole(b"formatted")),
         Answer::Blanked { bytes } => Some(blanked(*bytes)),
         Answer::Scrubbed { .. } | Answer::Listed { .. } | Answer::Soaked { .. } => None,
     }
-}
-
-fn whole_line(text: &[u8]) -> Line
-    requires { length text.now ≤ 100 }
-    ensures { result ≡ line text.now }
-{
-    let mut line = Line::new();
-    line.push_text(text);
-    line.push_line_end();
-    line
 }
 
 fn backed_up(version: u32, bytes: u64, chunks: u64, fresh: u64, need: u64) -> Line
@@ -147,7 +137,7 @@ fn nothing_retained(asked: Option<u32>) -> Line
 {
     match asked {
         Some(version) => none_retained(version),
-        None => whole_line(b"no version: none retained"),
+        None => Line::whole(b"no version: none retained"),
     }
 }
 

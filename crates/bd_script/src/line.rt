@@ -1,5 +1,5 @@
 ghost use Rattle.std.specs.Prelude.{◌≡◌, ◌+◌, ◌≤◌, ◌↔◌, [], ◌∷◌, ◌++◌, length, decimal, IsTrue};
-ghost use Rattle.bd_model.specs.Texts.{named, hex};
+ghost use Rattle.bd_model.specs.Texts.{line, named, hex};
 
 use bd_model::Mark;
 use itoa::Buffer;
@@ -34,6 +34,17 @@ impl Line {
             text: [0; ROOM],
             used: 0,
         }
+    }
+
+    /// A text with its line feed.
+    pub fn whole(text: &[u8]) -> Line
+        requires { length text.now + 1 ≤ 256 }
+        ensures { result ≡ line text.now }
+    {
+        let mut line = Line::new();
+        line.push_text(text);
+        line.push_line_end();
+        line
     }
 
     /// The bytes so far.
