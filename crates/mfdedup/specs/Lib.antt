@@ -10,3 +10,6 @@ pub mod Reads
 pub mod Ends
 pub mod Whole
 pub mod Headline
+pub mod Telling
+pub mod Failing
+pub mod Built

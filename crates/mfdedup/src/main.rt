@@ -1,7 +1,10 @@
 //! A store of versions on a disk, from the words of a command line.
 #![tactic(auto)]
 
+mod progress;
 mod report;
+mod status;
+mod telling;
 mod words;
 
 fn main(rt: HostRuntime) {}
