@@ -6,7 +6,6 @@ use Rattle.bd_model.specs.declared.answer.Answer.{Answer}
 use Rattle.bd_model.specs.declared.command.Command.{Command}
 use Rattle.bd_model.specs.declared.command.Command.TheVariants.{Backup, List as Listing}
 use Rattle.bd_catalog.specs.Opening.{Found}
-use Rattle.bd_script.specs.Long.{is_long}
 use Rattle.bd_store.specs.Touches.{is_unbuilt}
 use Rattle.bd_store.specs.declared.fault.StoreFault.{StoreFault}
 use Rattle.bd_store.specs.declared.fault.StoreFault.TheVariants.{SourceFault, TargetFault, DiskFault, Damaged, OutOfMemory, Unbuilt}
@@ -17,10 +16,10 @@ is_built (Backup name) = true
 is_built Listing = true
 is_built _ = false
 
--- an answer of many lines comes from a command that touches nothing
-abbrev pub TouchesNothingForLong : Result Answer StoreFault → History → History → Type 0
-TouchesNothingForLong (Ok answer) old new = is_long answer ≡ true → TouchesNothing old new
-TouchesNothingForLong (Err fault) old new = Unit {0}
+-- a list touches nothing
+abbrev pub TouchesAsIts : Command → History → History → Type 0
+TouchesAsIts Listing old new = TouchesNothing old new
+TouchesAsIts command old new = Unit {0}
 
 -- which command can meet a fault: a source that fails belongs to a backup, and a backup alone is still to come
 abbrev pub FaultFits : Found → Command → Result Answer StoreFault → Type 0

@@ -1,6 +1,7 @@
 //! A store of versions on a disk, from the words of a command line.
 #![tactic(auto)]
 
+mod command;
 mod progress;
 mod report;
 mod status;

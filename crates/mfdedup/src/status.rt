@@ -1,8 +1,9 @@
 ghost use Rattle.std.specs.Prelude.{◌≡◌, ◌≤◌, ◌+◌, ◌++◌, length};
+ghost use Rattle.std.specs.List.{list_any};
 ghost use Rattle.bd_model.specs.Texts.{line, named};
 ghost use Rattle.mfdedup.specs.Statuses.{end_text, field_text, finds_damage, is_refusal, place_text, status_of};
 
-ghost use Rattle.mfdedup.specs.declared.report.End.TheVariants.{TooSmall};
+ghost use Rattle.mfdedup.specs.declared.report.End.TheVariants.{Done, TooSmall};
 
 use crate::report::End;
 use bd_model::{Answer, Answers, Field, Place};
@@ -29,15 +30,27 @@ pub fn status_of(end: &End, answers: &Answers) -> u8
 }
 
 fn status_of_answers(answers: &[Answer]) -> u8
-    ensures { result ≡ status_of End.Done answers.now }
+    ensures { result ≡ status_of Done answers.now }
 {
-    if answers.iter().any(finds_damage) {
+    if some_damage(answers) {
         return 3;
     }
-    if answers.iter().any(is_refusal) {
+    if some_refusal(answers) {
         return 1;
     }
     0
+}
+
+fn some_damage(answers: &[Answer]) -> bool
+    ensures { result ≡ list_any finds_damage answers.now }
+{
+    answers.iter().any(|answer| finds_damage(answer))
+}
+
+fn some_refusal(answers: &[Answer]) -> bool
+    ensures { result ≡ list_any is_refusal answers.now }
+{
+    answers.iter().any(|answer| is_refusal(answer))
 }
 
 fn is_refusal(answer: &Answer) -> bool

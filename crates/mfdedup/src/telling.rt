@@ -34,6 +34,7 @@ fn put_text<D: Disk, O: Sink>(disk: &D, out: &mut O, text: &[u8]) -> Result<u64,
     ensures noted { IfOk result (λ moment. O.tells → D.tells → O.moments out.new ≡ O.moments out.old ++ moment ∷ []) }
     ensures written { OnOk result (O.tells → O.written out.new ≡ O.written out.old ++ text.now) }
     ensures err { OnErr result (O.tells → O.moments out.new ≡ O.moments out.old) }
+    ensures later_moments { O.tells → (more : List ℕ) × (O.moments out.new ≡ O.moments out.old ++ more) }
 {
     match tell(disk, out, text) {
         Ok(moment) => Ok(moment),
@@ -80,20 +81,29 @@ pub fn note_answer<D: Disk, O: Sink>(alloc: Global, progress: Progress, answer: 
         mut clocks,
         ..
     } = progress;
-    let end = match tell_answer(alloc, disk, out, &answer) {
+    match tell_answer(alloc, disk, out, &answer) {
         Ok(moment) => {
             answers.push(answer);
             clocks.push(moment);
-            End::Done
+            Progress {
+                commands,
+                answers,
+                clocks,
+                end: End::Done,
+            }
         }
-        Err(Untold::Output) => End::OutputFault,
-        Err(Untold::Memory) => End::OutOfMemory,
-    };
-    Progress {
-        commands,
-        answers,
-        clocks,
-        end,
+        Err(Untold::Output) => Progress {
+            commands,
+            answers,
+            clocks,
+            end: End::OutputFault,
+        },
+        Err(Untold::Memory) => Progress {
+            commands,
+            answers,
+            clocks,
+            end: End::OutOfMemory,
+        },
     }
 }
 
