@@ -1,5 +1,5 @@
 -- How a list of commands may end.
-use Rattle.std.specs.Prelude.{◌≡◌, ◌⊎◌, ℕ, ◌<◌, ◌≤◌, ◌≢◌, List, Option, Some}
+use Rattle.std.specs.Prelude.{◌≡◌, ◌⊎◌, ℕ, ◌<◌, ◌≤◌, ◌≢◌, List, Option, Some, slice_get}
 use Rattle.bd_model.specs.FileMap.{FileMap}
 use Rattle.bd_model.specs.History.{newest, retained}
 use Rattle.bd_model.specs.State.{VersionState, history, last_number}
@@ -38,8 +38,7 @@ pub record EndsWell (shape : Shape) (st : VersionState) (c : Course) (before now
   pub met : IsMetBy shape st (next_command c) c.ending
   pub complete : NoFault before now → (c.ending ≡ Done) ⊎ ((c.ending ≡ OutOfMemory) ⊎ (c.ending ≡ Unbuilt))
 
--- The count of missing sources rose only where the command after the last answer is a backup of one. A backup that finds
--- none changes no file and ends the list, so the files at the end tell.
-pub record StraysOnlyFor (next : Option Command) (files : FileMap) (before now : ℕ) : Type 0 where
+-- The count of missing sources rose only where one of the commands is a backup of one.
+pub record StraysOnlyFor (commands : List Command) (files : FileMap) (before now : ℕ) : Type 0 where
   pub later : before ≤ now
-  pub missing : (now ≡ before) ⊎ ((name : List ℕ) × (next ≡ Some (Backup name)) × Lacks files name)
+  pub missing : (now ≡ before) ⊎ ((name : List ℕ) × (k : ℕ) × (slice_get commands k ≡ Some (Backup name)) × Lacks files name)
