@@ -1,6 +1,8 @@
 -- What a call on the store and the put of its text make of one command.
 use Rattle.std.proofs.Common.{◌≡◌, ◌⊎◌, ◌∙◌, ℕ, ◌+◌, ◌-◌, ◌^◌, ◌<◌, ◌≤◌, Bool, true, false, List, [], ◌∷◌, inl, inr, refl, sym, subst, ap, arith, Some, None, Option, Ok, Err, Result}
-use Rattle.std.specs.Prelude.{length, slice_get}
+use Rattle.std.specs.Prelude.{length, slice_get, not, nat_lt, ◌&&◌, ◌||◌, ◌==◌}
+use Rattle.std.proofs.lemmas.Bool.Decides.{nat_tests}
+use Rattle.bd_model.specs.Sizes.{Sizes}
 use Rattle.bd_disk.specs.Calls.{Rose}
 use Rattle.bd_disk.specs.History.{History, clock, contents}
 use Rattle.bd_disk.specs.Made.{WritesOnly}
@@ -170,6 +172,15 @@ answered_met shape st next answer moment Unbuilt answers clocks noted = absurd n
 first_next : (command : Command) (commands : List Command) (answers : List Answer) → commands ≡ command ∷ [] → answers ≡ [] → slice_get commands (length answers) ≡ Some command
 first_next command commands answers e f = subst (λ cs. slice_get cs (length answers) ≡ Some command) (sym e) (subst (λ (xs : List Answer). slice_get (command ∷ []) (length xs) ≡ Some command) (sym f) refl)
 
+unbuilt-some : (n r k : ℕ) → (not (n == last_number || r == k) && nat_lt 0 r) ≡ true → 0 < r
+unbuilt-some n r k e = grind (arith, nat_tests)
+
+unbuilt-numbers : (n r k : ℕ) → (not (n == last_number || r == k) && nat_lt 0 r) ≡ true → n ≡ last_number → ⊥
+unbuilt-numbers n r k e same = grind (arith, nat_tests)
+
+unbuilt-versions : (n r k : ℕ) → (not (n == last_number || r == k) && nat_lt 0 r) ≡ true → r ≡ k → ⊥
+unbuilt-versions n r k e same = grind (arith, nat_tests)
+
 -- a store to which a second version is to come
 to_come : (shape : Shape) (st : VersionState) (command : Command) (next : Option Command) (h : History) (found : Found) → next ≡ Some command → Agrees found h → Stands shape 0 st (contents h) → (name : List ℕ) × ((command ≡ Backup name) × (is_unbuilt found ≡ true)) → IsToCome shape st next
 to_come shape st command next h found at agrees stands (name, (e, unbuilt)) =
@@ -177,9 +188,9 @@ to_come shape st command next h found at agrees stands (name, (e, unbuilt)) =
     record {
       name = name;
       command = at ∙ ap Some e;
-      some = ?;
-      numbers = ?;
-      versions = ?;
+      some = subst (λ n. 0 < n) shows.numbers.retained (unbuilt-some _ _ _ unbuilt);
+      numbers = λ same. unbuilt-numbers _ _ _ unbuilt (shows.numbers.newest ∙ same);
+      versions = λ same. unbuilt-versions _ _ _ unbuilt (shows.numbers.retained ∙ same ∙ sym (ap (λ (s : Sizes). s.retain) shows.sizes));
     }
 
 -- a fault's end

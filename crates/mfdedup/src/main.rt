@@ -4,6 +4,7 @@
 mod command;
 mod progress;
 mod report;
+mod run;
 mod status;
 mod telling;
 mod words;

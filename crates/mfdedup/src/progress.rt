@@ -51,6 +51,18 @@ impl Progress {
             end: End::Done,
         })
     }
+
+    /// The same, ended so.
+    pub fn ending(self, end: End) -> Progress
+        ensures { result ≡ record self { end = end } }
+    {
+        Progress {
+            commands: self.commands,
+            answers: self.answers,
+            clocks: self.clocks,
+            end,
+        }
+    }
 }
 
 fn copy_of(alloc: Global, command: &Command) -> Result<Command, OutOfMemory>
