@@ -20,7 +20,8 @@ use Rattle.bd_catalog.specs.Opening.{Found}
 use Rattle.bd_catalog.specs.Standing.{Stands}
 use Rattle.bd_catalog.proofs.Standing.{stands-shows}
 use Rattle.bd_script.specs.Long.{is_long}
-use Rattle.bd_store.specs.Causes.{counts, FailsOnlyByCount}
+use Rattle.bd_store.specs.Causes.{StraysOnlyBy}
+use Rattle.bd_files.specs.Files.{Lacks}
 use Rattle.bd_store.specs.Steps.{task, Answered, IsOneStep, IsNear}
 use Rattle.bd_store.specs.Stops.{IsSafeAtStops}
 use Rattle.bd_store.specs.Touches.{is_unbuilt}
@@ -29,7 +30,7 @@ use Rattle.bd_store.specs.declared.fault.StoreFault.TheVariants.{SourceFault as 
 use Rattle.mfdedup.specs.Built.{is_built, FaultFits, TouchesAsIts}
 use Rattle.mfdedup.specs.Counts.{AllCounts, all_counts, EndsByCount, NoFault}
 use Rattle.mfdedup.specs.Course.{Course, IsPromised, tried}
-use Rattle.mfdedup.specs.Ends.{EndsWell, IsMetBy, IsToCome}
+use Rattle.mfdedup.specs.Ends.{EndsWell, IsMetBy, IsToCome, StraysOnlyFor}
 use Rattle.mfdedup.specs.Failing.{end_of}
 use Rattle.mfdedup.specs.Telling.{NotesAnswer}
 use Rattle.mfdedup.specs.Whole.{MeetsTheHeadline}
@@ -203,3 +204,10 @@ failed_met shape st command commands answers h h' files files' found (StoreDamag
     absurd (step.each shape st promised.disk.stands.phase (near shape st command files h answers built promised) promised.disk.stands.so)
 failed_met shape st command commands answers h h' files files' found StoreMemory built only none agrees fits step promised = tt
 failed_met shape st command commands answers h h' files files' found StoreUnbuilt built only none agrees fits step promised = to_come shape st command _ h found (first_next command commands answers only none) agrees promised.disk.stands fits
+
+-- ---- missing sources
+pub strays_one : {command : Command} {files files' : FileMap} {before now : ℕ} → StraysOnlyBy command files before now → files' ≡ files → StraysOnlyFor (command ∷ []) files' before now
+strays_one {command} {files} {files'} {before} {now} strays same = record { later = strays.later; missing = missing strays.missing } where
+  missing : (now ≡ before) ⊎ ((name : List ℕ) × (command ≡ Backup name) × Lacks files name) → (now ≡ before) ⊎ ((name : List ℕ) × (k : ℕ) × (slice_get (command ∷ []) k ≡ Some (Backup name)) × Lacks files' name)
+  missing (inl e) = inl e
+  missing (inr (name, e, lacks)) = inr (name, 0, ap Some e, subst (λ (m : FileMap). Lacks m name) (sym same) lacks)

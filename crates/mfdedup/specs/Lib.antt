@@ -13,3 +13,4 @@ pub mod Headline
 pub mod Telling
 pub mod Failing
 pub mod Built
+pub mod Requests

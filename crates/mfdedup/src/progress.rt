@@ -30,6 +30,25 @@ impl Progress {
         }
     }
 
+    /// No command was given, but something else that has an answer: with room for it.
+    pub fn alone(alloc: Global) -> Result<Progress, OutOfMemory>
+        ensures commands { IfOk result (λ p. p.commands.items ≡ []) }
+        ensures answers { IfOk result (λ p. p.answers.items ≡ []) }
+        ensures clocks { IfOk result (λ p. p.clocks.items ≡ []) }
+        ensures room { IfOk result (λ p. (1 ≤ p.answers.spare) × (1 ≤ p.clocks.spare)) }
+    {
+        let mut answers = Answers::new(alloc);
+        let mut clocks = Moments::new(alloc);
+        answers.reserve(1)?;
+        clocks.reserve(1)?;
+        Ok(Progress {
+            commands: Commands::new(alloc),
+            answers,
+            clocks,
+            end: End::Done,
+        })
+    }
+
     /// The one command, with room for its answer.
     pub fn of(alloc: Global, command: &Command) -> Result<Progress, OutOfMemory>
         ensures commands { IfOk result (λ p. p.commands.items ≡ command.now ∷ []) }
