@@ -2,6 +2,7 @@
 #![tactic(auto)]
 
 mod command;
+mod once;
 mod progress;
 mod report;
 mod run;
