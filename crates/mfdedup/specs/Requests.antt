@@ -16,6 +16,7 @@ use Rattle.bd_recover.specs.Answers.{format_refusal}
 use Rattle.bd_recover.specs.declared.fault.FormatFault.{FormatFault}
 use Rattle.bd_recover.specs.declared.fault.FormatFault.TheVariants.{AlreadyAStore as FormatMarked, TooSmall as FormatSmall}
 use Rattle.bd_store.specs.Openings.{IsNoneOrEmpty}
+use Rattle.mfdedup.specs.Ends.{StraysOnlyFor}
 use Rattle.mfdedup.specs.Words.{Reading, ToFormat, ToRun, ToScript, ToBlank, ToSoak, Refused}
 use Rattle.mfdedup.specs.declared.report.End.{End}
 use Rattle.mfdedup.specs.declared.report.End.TheVariants.{Done, OutputFault, AlreadyAStore, TooSmall, DiskFault, OutOfMemory, TargetFault}
@@ -54,3 +55,20 @@ pub record Formats (shape : Shape) (bytes : ℕ) (ending : End) (clocks : List �
 pub record Blanks (name : List ℕ) (count : ℕ) (ending : End) (old new : FileMap) : Type 0 where
   pub made : IsCarriedOut ending → new ≡ map.insert old name (replicate count 0)
   pub others : ChangesOnly name old new
+
+-- what comes of a request on the disk: a format writes before the first extent alone, commands leave the superblock, and
+-- every other request leaves the disk
+abbrev pub MeetsOnDisk : Reading → ℕ → End → List ℕ → History → History → Type 0
+MeetsOnDisk (ToFormat sizes) bytes ending clocks old new = (shape : Shape) × (sizes_of shape ≡ sizes) × Formats shape bytes ending clocks old new
+MeetsOnDisk (ToRun command) bytes ending clocks old new = WritesOnly (λ place. 64 ≤ place) old new
+MeetsOnDisk reading bytes ending clocks old new = new ≡ old
+
+-- and on the files: no request changes them yet but that for a blank file
+abbrev pub MeetsOnFiles : Reading → End → FileMap → FileMap → Type 0
+MeetsOnFiles (ToBlank length name) ending old new = Blanks name length ending old new
+MeetsOnFiles reading ending old new = new ≡ old
+
+-- the count of missing sources stays but for a backup of one
+abbrev pub StraysOnlyByWords : Reading → FileMap → ℕ → ℕ → Type 0
+StraysOnlyByWords (ToRun command) files before now = StraysOnlyFor (command ∷ []) files before now
+StraysOnlyByWords reading files before now = now ≡ before
