@@ -1,11 +1,11 @@
 -- The headline of one command, from its session and the opening before it.
-use Rattle.std.proofs.Common.{◌≡◌, ◌⊎◌, ◌∙◌, ℕ, ◌<◌, ◌≤◌, Bool, true, false, List, [], ◌∷◌, inl, inr, refl, sym, subst, ap, Some, None, Option, Ok, Err, Result, cond}
+use Rattle.std.proofs.Common.{◌≡◌, ◌⊎◌, ◌∙◌, ℕ, ◌<◌, ◌≤◌, Bool, true, false, List, [], ◌∷◌, inl, inr, refl, sym, subst, ap, arith, Some, None, Option, Ok, Err, Result, cond}
 use Rattle.std.specs.Prelude.{length, slice_get}
 use Rattle.bd_disk.specs.Calls.{Rose}
 use Rattle.bd_disk.specs.History.{History, clock, contents}
 use Rattle.bd_disk.specs.Looks.{LooksOnlyAt}
 use Rattle.bd_disk.specs.Made.{WritesNothing, WritesOnly}
-use Rattle.bd_disk.proofs.Frames.{leaves_quiet}
+use Rattle.bd_disk.proofs.Frames.{leaves_quiet, made_none}
 use Rattle.bd_model.specs.FileMap.{FileMap}
 use Rattle.bd_model.specs.Sizes.{extent_place}
 use Rattle.bd_model.specs.State.{VersionState}
@@ -25,13 +25,13 @@ use Rattle.bd_store.specs.declared.fault.StoreFault.TheVariants.{SourceFault as 
 use Rattle.bd_store.specs.declared.fault.OpenFault.{OpenFault}
 use Rattle.bd_store.specs.declared.fault.OpenFault.TheVariants.{NotAStore as OpenNotAStore, DiskFault as OpenDisk, OutOfMemory as OpenMemory}
 use Rattle.mfdedup.specs.Built.{is_built, FaultFits}
-use Rattle.mfdedup.specs.Counts.{AllCounts, all_counts, EndsByCount}
+use Rattle.mfdedup.specs.Counts.{AllCounts, all_counts, EndsByCount, NoFault}
 use Rattle.mfdedup.specs.Course.{IsHonest, IsPromised, tried}
 use Rattle.mfdedup.specs.Ends.{EndsWell}
 use Rattle.mfdedup.specs.Failing.{end_of, end_of_opening}
-use Rattle.mfdedup.specs.Headline.{IsTheHeadline, IsEarlyFault, course_of}
+use Rattle.mfdedup.specs.Headline.{IsTheHeadline, Ran, DidNotRun, IsEarlyFault, commands_asked, course_of}
 use Rattle.mfdedup.specs.Whole.{MeetsTheHeadline}
-use Rattle.mfdedup.specs.Words.{ToRun}
+use Rattle.mfdedup.specs.Words.{Reading, ToFormat, ToRun, ToScript, ToBlank, ToSoak, Refused}
 use Rattle.mfdedup.specs.declared.progress.Progress.{Progress}
 use Rattle.mfdedup.specs.declared.report.End.{End}
 use Rattle.mfdedup.specs.declared.report.End.TheVariants.{DiskFault, OutOfMemory}
@@ -90,9 +90,9 @@ opened_headline command p before mid now a b c files files' found built only sam
 }
 
 -- an end before the first command
-pub early_headline : (command : Command) (p : Progress) (before now : AllCounts) (a b : History) (files : FileMap) → p.commands.items ≡ [] → p.answers.items ≡ [] → p.clocks.items ≡ [] → WritesNothing a b →
-    ((shape : Shape) → (st : VersionState) → IsHonest shape st a → IsEarlyFault p.end) → EndsByCount p.end before now → IsTheHeadline (ToRun command) p before now a b files files
-early_headline command p before now a b files no_commands no_answers no_clocks quiet ends cause = record {
+pub early_headline : (reading : Reading) (p : Progress) (before now : AllCounts) (a b : History) (files : FileMap) → p.commands.items ≡ [] → p.answers.items ≡ [] → p.clocks.items ≡ [] → WritesNothing a b →
+    ((shape : Shape) → (st : VersionState) → IsHonest shape st a → IsEarlyFault p.end) → EndsByCount p.end before now → IsTheHeadline reading p before now a b files files
+early_headline reading p before now a b files no_commands no_answers no_clocks quiet ends cause = record {
   each = λ shape st commands asked promised.
       let early = ends shape st promised.disk in
       inr (record {
@@ -124,3 +124,42 @@ pub opening_cause : (fault : OpenFault) (ending : End) (d s t o d' : ℕ) → en
 opening_cause (OpenNotAStore place) ending d s t o d' e rose = subst (λ x. EndsByCount x (all_counts d s t o) (all_counts d' s t o)) (sym e) tt
 opening_cause OpenDisk ending d s t o d' e rose = subst (λ x. EndsByCount x (all_counts d s t o) (all_counts d' s t o)) (sym e) (rose refl)
 opening_cause OpenMemory ending d s t o d' e rose = subst (λ x. EndsByCount x (all_counts d s t o) (all_counts d' s t o)) (sym e) tt
+
+-- words that were refused ask for no commands
+pub refused_headline : (reading : Reading) (p : Progress) (before now : AllCounts) (h : History) (files : FileMap) → p.commands.items ≡ [] → p.answers.items ≡ [] → p.clocks.items ≡ [] → (reading ≡ Refused p.end) ⊎ (p.end ≡ OutOfMemory) → IsTheHeadline reading p before now h h files files
+refused_headline reading p before now h files no_commands no_answers no_clocks (inl e) = record {
+  each = λ shape st commands asked promised.
+      let clash : None ≡ Some commands = sym (ap commands_asked e) ∙ asked in absurd (cc clash);
+}
+refused_headline reading p before now h files no_commands no_answers no_clocks (inr e) =
+    early_headline reading p before now h h files no_commands no_answers no_clocks (made_none _ h) (λ shape st honest. inr e) (subst (λ x. EndsByCount x before now) (sym e) tt)
+
+-- the text of the end is put after the commands: a count that hasn't risen by then hadn't before
+no_fault_before : (d s t o d' s' t' m n : ℕ) → o ≤ m → m ≤ n → NoFault (all_counts d s t o) (all_counts d' s' t' n) → NoFault (all_counts d s t o) (all_counts d' s' t' m)
+no_fault_before d s t o d' s' t' m n low high none =
+    let sink : n ≡ o = ap (λ (c : AllCounts). c.sink) none.same in
+    let at : m ≡ n = omega (arith, sink, low, high) in
+    subst (λ x. NoFault (all_counts d s t o) (all_counts d' s' t' x)) (sym at) none
+
+pub headline_later : (reading : Reading) (p q : Progress) (d s t o d' s' t' m n : ℕ) (a b : History) (files files' : FileMap) → o ≤ m → m ≤ n → q ≡ p → IsTheHeadline reading p (all_counts d s t o) (all_counts d' s' t' m) a b files files' → IsTheHeadline reading q (all_counts d s t o) (all_counts d' s' t' n) a b files files'
+headline_later reading p q d s t o d' s' t' m n a b files files' low high e meets = subst (λ x. IsTheHeadline reading x (all_counts d s t o) (all_counts d' s' t' n) a b files files') (sym e) (record { each = λ shape st commands asked promised. later_of shape st commands (meets.each shape st commands asked promised) }) where
+  later_of : (shape : Shape) (st : VersionState) (commands : List Command) → Ran shape st commands p (all_counts d s t o) (all_counts d' s' t' m) a b files files' ⊎ DidNotRun shape st p (all_counts d s t o) (all_counts d' s' t' m) a b files files' →
+      Ran shape st commands p (all_counts d s t o) (all_counts d' s' t' n) a b files files' ⊎ DidNotRun shape st p (all_counts d s t o) (all_counts d' s' t' n) a b files files'
+  later_of shape st commands (inl ran) = inl (record {
+    commands = ran.commands;
+    begun = ran.begun;
+    opened = ran.opened;
+    headline = ran.headline;
+    well = record { met = ran.well.met; complete = λ none. ran.well.complete (no_fault_before d s t o d' s' t' m n low high none) };
+  })
+  later_of shape st commands (inr early) = inr (record {
+    commands = early.commands;
+    answers = early.answers;
+    clocks = early.clocks;
+    ends = early.ends;
+    writes = early.writes;
+    stands = early.stands;
+    stops = early.stops;
+    beside = early.beside;
+    complete = λ none. early.complete (no_fault_before d s t o d' s' t' m n low high none);
+  })

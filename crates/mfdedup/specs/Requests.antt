@@ -56,10 +56,10 @@ pub record Blanks (name : List ℕ) (count : ℕ) (ending : End) (old new : File
   pub made : IsCarriedOut ending → new ≡ map.insert old name (replicate count 0)
   pub others : ChangesOnly name old new
 
--- what comes of a request on the disk: a format writes before the first extent alone, commands leave the superblock, and
+-- what comes of a request on the disk: a format that isn't given up before it begins writes before the first extent alone, commands leave the superblock, and
 -- every other request leaves the disk
 abbrev pub MeetsOnDisk : Reading → ℕ → End → List ℕ → History → History → Type 0
-MeetsOnDisk (ToFormat sizes) bytes ending clocks old new = (shape : Shape) × (sizes_of shape ≡ sizes) × Formats shape bytes ending clocks old new
+MeetsOnDisk (ToFormat sizes) bytes ending clocks old new = ((ending ≡ OutOfMemory) × (new ≡ old)) ⊎ ((shape : Shape) × (sizes_of shape ≡ sizes) × Formats shape bytes ending clocks old new)
 MeetsOnDisk (ToRun command) bytes ending clocks old new = WritesOnly (λ place. 64 ≤ place) old new
 MeetsOnDisk reading bytes ending clocks old new = new ≡ old
 

@@ -7,7 +7,7 @@ use Rattle.bd_model.specs.Sizes.{Sizes, sizes_of}
 use Rattle.bd_model.specs.declared.command.Command.{Command}
 use Rattle.bd_model.specs.declared.command.Command.TheVariants.{Backup, Restore, Expire, Reorganise, Scrub, List as Listing}
 use Rattle.mfdedup.specs.declared.report.End.{End}
-use Rattle.mfdedup.specs.declared.report.End.TheVariants.{BadWords, BadNumber, BadName}
+use Rattle.mfdedup.specs.declared.report.End.TheVariants.{BadWords, BadNumber, BadName, OutOfMemory}
 use Rattle.mfdedup.specs.declared.report.Request.{Request}
 use Rattle.mfdedup.specs.declared.report.Request.TheVariants.{Format, Run, Script, Blank, Soak}
 
@@ -110,3 +110,11 @@ AsksFor (ToBlank length name) (Some (Blank bytes named)) = (bytes ≡ length) ×
 AsksFor (ToSoak seed count) (Some (Soak drawn turns)) = (drawn ≡ seed) × (turns ≡ count)
 AsksFor (Refused ending) None = Unit {0}
 AsksFor reading request = ⊥
+
+-- the ends that reading words can bring
+abbrev pub IsOfWords : End → Type 0
+IsOfWords BadWords = Unit {0}
+IsOfWords (BadNumber position) = Unit {0}
+IsOfWords BadName = Unit {0}
+IsOfWords OutOfMemory = Unit {0}
+IsOfWords ending = ⊥

@@ -2,7 +2,7 @@ ghost use Rattle.std.specs.Prelude.{◌≡◌, ◌⊎◌, ◌≤◌, ◌<◌, �
 ghost use Rattle.std.specs.List.{list_all};
 ghost use Rattle.bd_model.specs.Limits.{is_name};
 ghost use Rattle.bd_model.specs.Sizes.{sizes_of};
-ghost use Rattle.mfdedup.specs.Words.{AsksFor, ToRun, Refused, default_sizes, is_digit, is_digits, is_value, number_of, reading, reading_alone, reading_one, reading_two, restore_request, blank_request, soak_request};
+ghost use Rattle.mfdedup.specs.Words.{AsksFor, IsOfWords, ToRun, Refused, default_sizes, is_digit, is_digits, is_value, number_of, reading, reading_alone, reading_one, reading_two, restore_request, blank_request, soak_request};
 ghost use Rattle.mfdedup.specs.declared.report.End.TheVariants.{BadName, BadNumber, OutOfMemory};
 
 use crate::report::{End, Request};
@@ -19,6 +19,7 @@ const MOST_TURNS: u64 = 16;
 pub fn read(alloc: Global, words: &[String]) -> Result<Request, End>
     ensures asked { IfOk result (λ request. AsksFor (reading (map string_bytes words.now)) (Some request)) }
     ensures refused { IfErr result (λ ending. (reading (map string_bytes words.now) ≡ Refused ending) ⊎ (ending ≡ OutOfMemory)) }
+    ensures kind { IfErr result IsOfWords }
 {
     match words {
         [] => Err(End::BadWords),
@@ -32,6 +33,7 @@ pub fn read(alloc: Global, words: &[String]) -> Result<Request, End>
 fn read_alone(alloc: Global, word: &str) -> Result<Request, End>
     ensures asked { IfOk result (λ request. AsksFor (reading_alone word.now) (Some request)) }
     ensures refused { IfErr result (λ ending. (reading_alone word.now ≡ Refused ending) ⊎ (ending ≡ OutOfMemory)) }
+    ensures kind { IfErr result IsOfWords }
 {
     if word == "format" {
         return Ok(Request::Format {
@@ -56,6 +58,7 @@ fn read_alone(alloc: Global, word: &str) -> Result<Request, End>
 fn read_one(alloc: Global, word: &str, value: &str) -> Result<Request, End>
     ensures asked { IfOk result (λ request. AsksFor (reading_one word.now value.now) (Some request)) }
     ensures refused { IfErr result (λ ending. (reading_one word.now value.now ≡ Refused ending) ⊎ (ending ≡ OutOfMemory)) }
+    ensures kind { IfErr result IsOfWords }
 {
     if !is_value(value) {
         return Err(End::BadWords);
@@ -74,6 +77,7 @@ fn read_one(alloc: Global, word: &str, value: &str) -> Result<Request, End>
 fn read_two(alloc: Global, word: &str, first: &str, second: &str) -> Result<Request, End>
     ensures asked { IfOk result (λ request. AsksFor (reading_two word.now first.now second.now) (Some request)) }
     ensures refused { IfErr result (λ ending. (reading_two word.now first.now second.now ≡ Refused ending) ⊎ (ending ≡ OutOfMemory)) }
+    ensures kind { IfErr result IsOfWords }
 {
     if !is_value(first) || !is_value(second) {
         return Err(End::BadWords);
@@ -93,6 +97,7 @@ fn read_two(alloc: Global, word: &str, first: &str, second: &str) -> Result<Requ
 fn read_restore(alloc: Global, version: &str, name: &str) -> Result<Request, End>
     ensures asked { IfOk result (λ request. AsksFor (restore_request version.now name.now) (Some request)) }
     ensures refused { IfErr result (λ ending. (restore_request version.now name.now ≡ Refused ending) ⊎ (ending ≡ OutOfMemory)) }
+    ensures kind { IfErr result IsOfWords }
 {
     let version = number_at(version, u64::from(u32::MAX), 0)? as u32;
     let name = name_of(alloc, name)?;
@@ -102,6 +107,7 @@ fn read_restore(alloc: Global, version: &str, name: &str) -> Result<Request, End
 fn read_blank(alloc: Global, length: &str, name: &str) -> Result<Request, End>
     ensures asked { IfOk result (λ request. AsksFor (blank_request length.now name.now) (Some request)) }
     ensures refused { IfErr result (λ ending. (blank_request length.now name.now ≡ Refused ending) ⊎ (ending ≡ OutOfMemory)) }
+    ensures kind { IfErr result IsOfWords }
 {
     let length = number_at(length, MOST_BLANK, 0)?;
     let name = name_of(alloc, name)?;
@@ -111,6 +117,7 @@ fn read_blank(alloc: Global, length: &str, name: &str) -> Result<Request, End>
 fn read_soak(seed: &str, count: &str) -> Result<Request, End>
     ensures asked { IfOk result (λ request. AsksFor (soak_request seed.now count.now) (Some request)) }
     ensures refused { IfErr result (λ ending. soak_request seed.now count.now ≡ Refused ending) }
+    ensures kind { IfErr result IsOfWords }
 {
     let seed = number_at(seed, u64::MAX, 0)?;
     let count = number_at(count, MOST_TURNS, 1)? as u32;
@@ -124,6 +131,7 @@ fn read_soak(seed: &str, count: &str) -> Result<Request, End>
 fn run_of(alloc: Global, command: Command) -> Result<Request, End>
     ensures asked { IfOk result (λ request. AsksFor (ToRun command) (Some request)) }
     ensures refused { IfErr result (λ ending. ending ≡ OutOfMemory) }
+    ensures kind { IfErr result IsOfWords }
 {
     let mut commands = Commands::new(alloc);
     if commands.reserve(1).is_err() {
@@ -152,6 +160,7 @@ fn is_value(word: &str) -> bool
 fn name_of(alloc: Global, text: &str) -> Result<Name, End>
     ensures name { IfOk result (λ name. (name ≡ text.now) × (is_name text.now ≡ true)) }
     ensures bad { IfErr result (λ ending. ((ending ≡ BadName) × (is_name text.now ≡ false)) ⊎ (ending ≡ OutOfMemory)) }
+    ensures kind { IfErr result IsOfWords }
 {
     match Name::new(alloc, text) {
         Ok(name) => Ok(name),
@@ -165,6 +174,7 @@ fn number_at(text: &str, most: u64, position: u32) -> Result<u64, End>
     ensures number { IfOk result (λ n. number_of most text.now ≡ Some n) }
     ensures fits { IfOk result (λ n. n ≤ most) }
     ensures bad { IfErr result (λ ending. (ending ≡ BadNumber position) × (number_of most text.now ≡ None)) }
+    ensures kind { IfErr result IsOfWords }
 {
     match number(text, most) {
         Some(number) => Ok(number),
