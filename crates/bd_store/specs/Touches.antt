@@ -22,11 +22,13 @@ abbrev pub is_unbuilt : Found → Bool
 is_unbuilt found = not (numbers_used_up found || versions_used_up found) && nat_lt 0 (retained_in found.catalogue)
 
 -- Where numbers or versions are used up, or the backup is still to come, exactly that is answered; else none of these is.
+-- A backup has no target that could fail.
 abbrev pub AnswersByNumbers : Found → Result Answer StoreFault → Type 0
 AnswersByNumbers found (Ok FullNumbers) = numbers_used_up found ≡ true
 AnswersByNumbers found (Ok (FullVersions retained)) = (numbers_used_up found ≡ false) × (versions_used_up found ≡ true) × (retained ≡ found.sizes.retain)
 AnswersByNumbers found (Ok answer) = (numbers_used_up found || versions_used_up found ≡ false) × (is_unbuilt found ≡ false)
 AnswersByNumbers found (Err Unbuilt) = is_unbuilt found ≡ true
+AnswersByNumbers found (Err TargetFault) = ⊥
 AnswersByNumbers found (Err fault) = (numbers_used_up found || versions_used_up found ≡ false) × (is_unbuilt found ≡ false)
 
 -- A backup into a store that retains nothing reads nothing, and one that is refused for a number touches nothing. Of what
@@ -38,9 +40,10 @@ BackupReads old new (Err Unbuilt) = TouchesNothing old new
 BackupReads old new (Err DiskFault) = Unit {0}
 BackupReads old new result = ReadsOnly [] old new
 
--- no answer that goes by numbers
+-- no answer that goes by numbers, and no fault of a target
 abbrev pub AnswersFirst : Result Answer StoreFault → Type 0
 AnswersFirst (Ok FullNumbers) = ⊥
 AnswersFirst (Ok (FullVersions retained)) = ⊥
 AnswersFirst (Err Unbuilt) = ⊥
+AnswersFirst (Err TargetFault) = ⊥
 AnswersFirst result = Unit {0}

@@ -1,0 +1,30 @@
+use Rattle.std.proofs.Common.{◌∙◌, inr, refl, sym, ap, subst, Ok, Err}
+use Rattle.bd_disk.proofs.Frames.{made_both, made_none, nothing_within}
+use Rattle.mfdedup.specs.Counts.{all_counts, EndsByCount}
+use Rattle.mfdedup.specs.Words.{ToRun}
+use Rattle.mfdedup.specs.declared.report.End.TheVariants.{OutOfMemory}
+use Rattle.mfdedup.proofs.OneHeadline.{opened_headline, early_headline, opening_early, opening_cause, not_a_store}
+use Rattle.mfdedup.proofs.run.run_command.Goals as goal
+
+pub returns-in-Ok-open_store-clause-writes : goal.returns-in-Ok-open_store-clause-writes
+returns-in-Ok-open_store-clause-writes g c = λ told. made_both (nothing_within _ (c.in-Ok-open_store.ensures.writes told)) (c.session.ensures.writes told)
+
+pub returns-in-Ok-open_store-clause-headline : goal.returns-in-Ok-open_store-clause-headline
+returns-in-Ok-open_store-clause-headline g c = λ told files_tell.
+    opened_headline c.args.command.now c.session.result _ _ _ _ _ _ _ _ c.in-Ok-open_store.store.found c.requires.built c.session.ensures.commands
+    (ap (λ d. all_counts d (g.F.Files.source_faults c.args.files.now) (g.F.Files.target_faults c.args.files.now) (g.O.Sink.faults c.args.out.now)) c.in-Ok-open_store.ensures.kept) (c.in-Ok-open_store.ensures.writes told) (c.in-Ok-open_store.ensures.opened told) (c.in-Ok-open_store.ensures.places told) (c.session.ensures.writes told)
+    (c.session.ensures.headline told files_tell) (c.session.ensures.ends told files_tell)
+
+pub returns-in-Err-open_store-clause-writes : goal.returns-in-Err-open_store-clause-writes
+returns-in-Err-open_store-clause-writes g c = λ told. nothing_within _ (c.in-Err-open_store.ensures.writes told)
+
+pub returns-in-Err-open_store-clause-headline : goal.returns-in-Err-open_store-clause-headline
+returns-in-Err-open_store-clause-headline g c = λ told files_tell.
+    let e = c.none.ensures.end ∙ c.end_of_opening.ensures in
+    early_headline (ToRun c.args.command.now) c.none.result _ _ _ _ _ c.none.ensures.commands c.none.ensures.answers c.none.ensures.clocks (c.in-Err-open_store.ensures.writes told)
+    (opening_early c.in-Err-open_store.fault c.none.result.end _ e (not_a_store _ c.in-Err-open_store.fault (c.in-Err-open_store.ensures.opened told)))
+    (opening_cause c.in-Err-open_store.fault c.none.result.end _ _ _ _ _ e (λ f. c.in-Err-open_store.ensures.cause (ap Err f)))
+
+pub returns-in-Err-clause-headline : goal.returns-in-Err-clause-headline
+returns-in-Err-clause-headline g c = λ told files_tell.
+    early_headline (ToRun c.args.command.now) c.none-in-Err.result _ _ _ _ _ c.none-in-Err.ensures.commands c.none-in-Err.ensures.answers c.none-in-Err.ensures.clocks (made_none _ _) (λ shape st honest. inr c.none-in-Err.ensures.end) (subst (λ x. EndsByCount x (all_counts (g.D.Disk.faults c.args.disk.now) (g.F.Files.source_faults c.args.files.now) (g.F.Files.target_faults c.args.files.now) (g.O.Sink.faults c.args.out.now)) (all_counts (g.D.Disk.faults c.args.disk.now) (g.F.Files.source_faults c.args.files.now) (g.F.Files.target_faults c.args.files.now) (g.O.Sink.faults c.args.out.now))) (sym c.none-in-Err.ensures.end) tt)

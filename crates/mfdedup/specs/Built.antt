@@ -1,0 +1,29 @@
+-- Which commands are built.
+use Rattle.std.specs.Prelude.{◌≡◌, ℕ, List, Bool, true, false, Result, Ok, Err}
+use Rattle.bd_disk.specs.History.{History}
+use Rattle.bd_disk.specs.Made.{TouchesNothing}
+use Rattle.bd_model.specs.declared.answer.Answer.{Answer}
+use Rattle.bd_model.specs.declared.command.Command.{Command}
+use Rattle.bd_model.specs.declared.command.Command.TheVariants.{Backup, List as Listing}
+use Rattle.bd_catalog.specs.Opening.{Found}
+use Rattle.bd_store.specs.Touches.{is_unbuilt}
+use Rattle.bd_store.specs.declared.fault.StoreFault.{StoreFault}
+use Rattle.bd_store.specs.declared.fault.StoreFault.TheVariants.{SourceFault, TargetFault, DiskFault, Damaged, OutOfMemory, Unbuilt}
+
+-- whether a command is built; the others are still to come
+abbrev pub is_built : Command → Bool
+is_built (Backup name) = true
+is_built Listing = true
+is_built _ = false
+
+-- a list touches nothing
+abbrev pub TouchesAsIts : Command → History → History → Type 0
+TouchesAsIts Listing old new = TouchesNothing old new
+TouchesAsIts command old new = Unit {0}
+
+-- which command can meet a fault: a source that fails belongs to a backup, and a backup alone is still to come
+abbrev pub FaultFits : Found → Command → Result Answer StoreFault → Type 0
+FaultFits found command (Err SourceFault) = (name : List ℕ) × (command ≡ Backup name)
+FaultFits found command (Err TargetFault) = ⊥
+FaultFits found command (Err Unbuilt) = (name : List ℕ) × ((command ≡ Backup name) × (is_unbuilt found ≡ true))
+FaultFits found command result = Unit {0}

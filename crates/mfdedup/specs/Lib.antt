@@ -1,0 +1,16 @@
+pub mod Words
+pub mod Statuses
+pub mod Counts
+pub mod Drops
+pub mod Course
+pub mod Answers
+pub mod Exit
+pub mod Moments
+pub mod Reads
+pub mod Ends
+pub mod Whole
+pub mod Headline
+pub mod Telling
+pub mod Failing
+pub mod Built
+pub mod Requests

@@ -1,0 +1,117 @@
+ghost use Rattle.std.specs.Prelude.{◌≡◌, ◌≤◌, [], ◌∷◌, IfOk};
+ghost use Rattle.mfdedup.specs.declared.report.End.TheVariants.{Done};
+
+use crate::report::End;
+use bd_model::{Answers, Command, Commands, Moments, Name, NameFault};
+use std::alloc::{AllocError as OutOfMemory, Global};
+
+/// The commands that the store was given, and what came of them so far.
+#[derive(Drop)]
+pub struct Progress {
+    pub commands: Commands,
+    pub answers: Answers,
+    pub clocks: Moments,
+    pub end: End,
+}
+
+impl Progress {
+    /// No command was given.
+    pub fn none(alloc: Global, end: End) -> Progress
+        ensures commands { result.commands.items ≡ [] }
+        ensures answers { result.answers.items ≡ [] }
+        ensures clocks { result.clocks.items ≡ [] }
+        ensures end { result.end ≡ end }
+    {
+        Progress {
+            commands: Commands::new(alloc),
+            answers: Answers::new(alloc),
+            clocks: Moments::new(alloc),
+            end,
+        }
+    }
+
+    /// No command was given, but something else that has an answer: with room for it.
+    pub fn alone(alloc: Global) -> Result<Progress, OutOfMemory>
+        ensures commands { IfOk result (λ p. p.commands.items ≡ []) }
+        ensures answers { IfOk result (λ p. p.answers.items ≡ []) }
+        ensures clocks { IfOk result (λ p. p.clocks.items ≡ []) }
+        ensures room { IfOk result (λ p. (1 ≤ p.answers.spare) × (1 ≤ p.clocks.spare)) }
+    {
+        let mut answers = Answers::new(alloc);
+        let mut clocks = Moments::new(alloc);
+        answers.reserve(1)?;
+        clocks.reserve(1)?;
+        Ok(Progress {
+            commands: Commands::new(alloc),
+            answers,
+            clocks,
+            end: End::Done,
+        })
+    }
+
+    /// The one command, with room for its answer.
+    pub fn of(alloc: Global, command: &Command) -> Result<Progress, OutOfMemory>
+        ensures commands { IfOk result (λ p. p.commands.items ≡ command.now ∷ []) }
+        ensures answers { IfOk result (λ p. p.answers.items ≡ []) }
+        ensures clocks { IfOk result (λ p. p.clocks.items ≡ []) }
+        ensures room { IfOk result (λ p. (1 ≤ p.answers.spare) × (1 ≤ p.clocks.spare)) }
+    {
+        let mut commands = Commands::new(alloc);
+        let mut answers = Answers::new(alloc);
+        let mut clocks = Moments::new(alloc);
+        commands.reserve(1)?;
+        answers.reserve(1)?;
+        clocks.reserve(1)?;
+        commands.push(copy_of(alloc, command)?);
+        Ok(Progress {
+            commands,
+            answers,
+            clocks,
+            end: End::Done,
+        })
+    }
+
+    /// The same, ended so.
+    pub fn ending(self, end: End) -> Progress
+        ensures { result ≡ record self { end = end } }
+    {
+        Progress {
+            commands: self.commands,
+            answers: self.answers,
+            clocks: self.clocks,
+            end,
+        }
+    }
+}
+
+fn copy_of(alloc: Global, command: &Command) -> Result<Command, OutOfMemory>
+    ensures { IfOk result (λ copy. copy ≡ command.now) }
+{
+    match command {
+        Command::Backup { name } => {
+            let name = name_of(alloc, name)?;
+            Ok(Command::Backup { name })
+        }
+        Command::Restore { version, name } => {
+            let name = name_of(alloc, name)?;
+            Ok(Command::Restore {
+                version: *version,
+                name,
+            })
+        }
+        Command::Expire => Ok(Command::Expire),
+        Command::Reorganise => Ok(Command::Reorganise),
+        Command::Scrub => Ok(Command::Scrub),
+        Command::List => Ok(Command::List),
+    }
+}
+
+fn name_of(alloc: Global, name: &Name) -> Result<Name, OutOfMemory>
+    ensures { IfOk result (λ copy. copy ≡ name.now) }
+{
+    match Name::new(alloc, name.text()) {
+        Ok(name) => Ok(name),
+        Err(NameFault::OutOfMemory) => Err(OutOfMemory),
+        Err(NameFault::BadName) => unreachable!(),
+    }
+}
