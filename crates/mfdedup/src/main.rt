@@ -15,10 +15,9 @@ mod words;
 use bd_disk::{Disk, FileDisk, MemDisk};
 use bd_files::{RealFiles, StdSink};
 use run::run;
-use std::env;
 use std::fs::{File, Files as Folder};
-use std::io;
 use std::process::ExitCode;
+use std::{env, io};
 
 fn main(rt: HostRuntime) -> ExitCode {
     let words: Vec<String> = match env::args(&rt) {

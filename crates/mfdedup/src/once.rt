@@ -65,7 +65,13 @@ pub fn blank<D: Disk, F: Files, O: Sink>(
 {
     match Progress::alone(alloc) {
         Ok(progress) => match put_zeros(length, name, files) {
-            Ok(()) => note_answer(alloc, progress, Answer::Blanked { bytes: length }, disk, out),
+            Ok(()) => note_answer(
+                alloc,
+                progress,
+                Answer::Blanked { bytes: length },
+                disk,
+                out,
+            ),
             Err(_) => progress.ending(End::TargetFault),
         },
         Err(_) => Progress::none(alloc, End::OutOfMemory),

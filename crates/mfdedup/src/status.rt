@@ -2,7 +2,6 @@ ghost use Rattle.std.specs.Prelude.{◌≡◌, ◌≤◌, ◌+◌, ◌++◌, len
 ghost use Rattle.std.specs.List.{list_any};
 ghost use Rattle.bd_model.specs.Texts.{line, named};
 ghost use Rattle.mfdedup.specs.Statuses.{end_text, field_text, finds_damage, is_refusal, place_text, status_of};
-
 ghost use Rattle.mfdedup.specs.declared.report.End.TheVariants.{Done, TooSmall};
 
 use crate::report::End;

@@ -43,7 +43,12 @@ fn put_text<D: Disk, O: Sink>(disk: &D, out: &mut O, text: &[u8]) -> Result<u64,
 }
 
 // Puts the text of an answer. Only one of many lines takes memory for it.
-fn tell_answer<D: Disk, O: Sink>(alloc: Global, disk: &D, out: &mut O, answer: &Answer) -> Result<u64, Untold>
+fn tell_answer<D: Disk, O: Sink>(
+    alloc: Global,
+    disk: &D,
+    out: &mut O,
+    answer: &Answer,
+) -> Result<u64, Untold>
     requires takes { O.tells → D.tells → O.takes D D.history }
     ensures later { O.faults out.old ≤ O.faults out.new }
     ensures cause { ToldByCount answer.now result (O.faults out.old) (O.faults out.new) }
@@ -63,7 +68,13 @@ fn tell_answer<D: Disk, O: Sink>(alloc: Global, disk: &D, out: &mut O, answer: &
 }
 
 /// Puts the text of the answer to the one command, and notes it with its moment.
-pub fn note_answer<D: Disk, O: Sink>(alloc: Global, progress: Progress, answer: Answer, disk: &D, out: &mut O) -> Progress
+pub fn note_answer<D: Disk, O: Sink>(
+    alloc: Global,
+    progress: Progress,
+    answer: Answer,
+    disk: &D,
+    out: &mut O,
+) -> Progress
     requires takes { O.tells → D.tells → O.takes D D.history }
     requires answers { progress.answers.items ≡ [] }
     requires clocks { progress.clocks.items ≡ [] }

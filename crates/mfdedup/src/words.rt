@@ -189,13 +189,7 @@ fn number(text: &str, most: u64) -> Option<u64>
         return None;
     }
     match text.parse::<u64>() {
-        Ok(number) => {
-            if number <= most {
-                Some(number)
-            } else {
-                None
-            }
-        }
+        Ok(number) => { if number <= most { Some(number) } else { None } }
         Err(_) => None,
     }
 }

@@ -12,13 +12,13 @@ use Rattle.mfdedup.proofs.once.format.Goals.{in-Ok-format, in-Err-format}
 pub returns-after-format-clause-format : goal.returns-after-format-clause-format
 returns-after-format-clause-format g c = λ told.
     elim c.match-format.branch [
-      in-Ok-format w ↦
-      let noted = w.note_answer.ensures.noted in
-      subst (λ (p : Progress). Formats c.args.shape (g.D.Disk.bytes c.args.disk.now) p.end p.clocks.items (g.D.Disk.history c.args.disk.now) (g.D.Disk.history c.format.new.disk)) (sym w.result-is)
-      (formats_done c.args.shape (g.D.Disk.bytes c.args.disk.now) _ noted.0 w.note_answer.result.end w.note_answer.result.answers.items w.note_answer.result.clocks.items _ _ (w.in-Ok-format.ensures.refused told) (noted.1.0 told) (w.in-Ok-format.ensures.made told) (w.in-Ok-format.ensures.settled told) (w.in-Ok-format.ensures.writes told) (w.in-Ok-format.ensures.stops told) noted.1.1)
+      | in-Ok-format w ↦
+          let noted = w.note_answer.ensures.noted in
+          subst (λ (p : Progress). Formats c.args.shape (g.D.Disk.bytes c.args.disk.now) p.end p.clocks.items (g.D.Disk.history c.args.disk.now) (g.D.Disk.history c.format.new.disk)) (sym w.result-is)
+          (formats_done c.args.shape (g.D.Disk.bytes c.args.disk.now) _ noted.0 w.note_answer.result.end w.note_answer.result.answers.items w.note_answer.result.clocks.items _ _ (w.in-Ok-format.ensures.refused told) (noted.1.0 told) (w.in-Ok-format.ensures.made told) (w.in-Ok-format.ensures.settled told) (w.in-Ok-format.ensures.writes told) (w.in-Ok-format.ensures.stops told) noted.1.1)
       | in-Err-format w ↦
-      subst (λ (p : Progress). Formats c.args.shape (g.D.Disk.bytes c.args.disk.now) p.end p.clocks.items (g.D.Disk.history c.args.disk.now) (g.D.Disk.history c.format.new.disk)) (sym w.result-is)
-      (formats_failed c.args.shape (g.D.Disk.bytes c.args.disk.now) w.in-Err-format.fault w.ending.result.end w.ending.result.clocks.items _ _ (ap (λ (p : Progress). p.end) w.ending.ensures ∙ w.end_of_format.ensures) (ap (λ (p : Progress). p.clocks.items) w.ending.ensures ∙ c.in-Ok.ensures.clocks) (w.in-Err-format.ensures.refused told) (w.in-Err-format.ensures.untouched told) (w.in-Err-format.ensures.writes told) (w.in-Err-format.ensures.stops told))
+          subst (λ (p : Progress). Formats c.args.shape (g.D.Disk.bytes c.args.disk.now) p.end p.clocks.items (g.D.Disk.history c.args.disk.now) (g.D.Disk.history c.format.new.disk)) (sym w.result-is)
+          (formats_failed c.args.shape (g.D.Disk.bytes c.args.disk.now) w.in-Err-format.fault w.ending.result.end w.ending.result.clocks.items _ _ (ap (λ (p : Progress). p.end) w.ending.ensures ∙ w.end_of_format.ensures) (ap (λ (p : Progress). p.clocks.items) w.ending.ensures ∙ c.in-Ok.ensures.clocks) (w.in-Err-format.ensures.refused told) (w.in-Err-format.ensures.untouched told) (w.in-Err-format.ensures.writes told) (w.in-Err-format.ensures.stops told))
     ]
 
 pub returns-in-Err-clause-format : goal.returns-in-Err-clause-format
