@@ -103,8 +103,8 @@ pub fn intake<D: Disk, F: Files>(
     ensures files { F.tells → F.files files.new ≡ F.files files.old }
     ensures writes { D.tells → WritesOnly (InFree catalog.now.found.sizes space.old) (D.history disk.old) (D.history disk.new) }
     ensures places { D.tells → ReadsOnly [] (D.history disk.old) (D.history disk.new) }
-    ensures owned { IfOk result (λ staged. TakenExactly space.new (all_extents catalog.now.found.catalogue ++ brought (Backup staged.version staged.fresh))) }
-    ensures given_back { OnErr result (TakenExactly space.new (all_extents catalog.now.found.catalogue)) }
+    ensures owners { IfOk result (λ staged. TakenExactly space.new (all_extents catalog.now.found.catalogue ++ brought (Backup staged.version staged.fresh))) }
+    ensures returned { OnErr result (TakenExactly space.new (all_extents catalog.now.found.catalogue)) }
     ensures size { extent_count space.new ≡ extent_count space.old }
     ensures held { held_count space.new ≡ held_count space.old }
     ensures fits { IfOk result (λ staged. Fits catalog.now.found.sizes catalog.now.found.catalogue (Backup staged.version staged.fresh)) }

@@ -30,8 +30,8 @@ give_back-requires g c =
     let owns = c.stage.ensures.grows.owners base c.args.space.now (first_owns base c.args.space.now c.nothing_staged-staging.result c.nothing_staged-staging.ensures.recipe c.nothing_staged-staging.ensures.fresh c.requires.owners) in
     record { base = base; exact = owns.exact }
 
-pub returns-in-Err-clause-given_back : goal.returns-in-Err-clause-given_back
-returns-in-Err-clause-given_back g c =
+pub returns-in-Err-clause-returned : goal.returns-in-Err-clause-returned
+returns-in-Err-clause-returned g c =
     let base = all_extents c.args.catalog.now.found.catalogue in
     let owns = c.stage.ensures.grows.owners base c.args.space.now (first_owns base c.args.space.now c.nothing_staged-staging.result c.nothing_staged-staging.ensures.recipe c.nothing_staged-staging.ensures.fresh c.requires.owners) in
     c.give_back.ensures.owners base owns.exact
@@ -56,8 +56,8 @@ returns-in-Ok-clause-held g c =
     let owns = c.stage.ensures.grows.owners base c.args.space.now (first_owns base c.args.space.now c.nothing_staged-staging.result c.nothing_staged-staging.ensures.recipe c.nothing_staged-staging.ensures.fresh c.requires.owners) in
     owns.held
 
-pub returns-in-Ok-clause-owned : goal.returns-in-Ok-clause-owned
-returns-in-Ok-clause-owned g c =
+pub returns-in-Ok-clause-owners : goal.returns-in-Ok-clause-owners
+returns-in-Ok-clause-owners g c =
     let base = all_extents c.args.catalog.now.found.catalogue in
     let b = c.stage.new.staging in
     let staged = c.finished.result in
