@@ -9,7 +9,7 @@ use Rattle.bd_model.specs.declared.answer.Answer.TheVariants.{FullNumbers, FullV
 use Rattle.bd_catalog.specs.Catalogue.{retained_in}
 use Rattle.bd_catalog.specs.Opening.{Found}
 use Rattle.bd_store.specs.declared.fault.StoreFault.{StoreFault}
-use Rattle.bd_store.specs.declared.fault.StoreFault.TheVariants.{DiskFault, Unbuilt}
+use Rattle.bd_store.specs.declared.fault.StoreFault.TheVariants.{DiskFault, Unbuilt, TargetFault}
 
 abbrev pub numbers_used_up : Found → Bool
 numbers_used_up found = found.catalogue.newest == last_number
