@@ -10,9 +10,10 @@ use std::test::Fail;
 /// The bytes of a disk for the smallest shape that is tried.
 const SMALL: u64 = 133_894;
 
-fn words_of(alloc: Global, line: &[&str]) -> Result<Vec<String>, AllocError> {
+// The words of a line, which stand between bars.
+fn words_of(alloc: Global, line: &str) -> Result<Vec<String>, AllocError> {
     let mut words = Vec::new(alloc);
-    for word in line {
+    for word in line.split('|') {
         words.push(String::from_str(alloc, word)?)?;
     }
     Ok(words)
@@ -21,7 +22,7 @@ fn words_of(alloc: Global, line: &[&str]) -> Result<Vec<String>, AllocError> {
 // Runs one line, and answers its report with what was written.
 fn call(
     alloc: Global,
-    line: &[&str],
+    line: &str,
     disk: &mut MemDisk,
     files: &mut MemFiles,
 ) -> Result<(Report, String), Fail> {
@@ -50,31 +51,31 @@ fn with_abc(alloc: Global) -> Result<MemFiles, Fail> {
 #[test]
 fn bad_lines_are_refused(rt: HostRuntime) -> Result<(), Fail> {
     let alloc = rt.alloc();
-    let mut long = String::new(alloc);
+    let mut long = String::from_str(alloc, "run|")?;
     for _ in 0..256 {
         long.push('a')?;
     }
-    let cases: [(&[&str], &str); 20] = [
-        (&[], "bad words\n"),
-        (&["backup"], "bad words\n"),
-        (&["backup", "a", "b"], "bad words\n"),
-        (&["backup", "-a"], "bad words\n"),
-        (&["list", "a"], "bad words\n"),
-        (&["lists"], "bad words\n"),
-        (&["blank", "1", "-"], "bad words\n"),
-        (&["restore", "1", "a", "b"], "bad words\n"),
-        (&["restore", "01", "a"], "bad number: 0\n"),
-        (&["restore", "4294967296", "a"], "bad number: 0\n"),
-        (&["restore", "+1", ""], "bad number: 0\n"),
-        (&["blank", "1099516763351", "a"], "bad number: 0\n"),
-        (&["blank", "", "a"], "bad number: 0\n"),
-        (&["soak", "18446744073709551616", "x"], "bad number: 0\n"),
-        (&["soak", "0", "0"], "bad number: 1\n"),
-        (&["soak", "0", "17"], "bad number: 1\n"),
-        (&["backup", ""], "bad name\n"),
-        (&["backup", "a\tb"], "bad name\n"),
-        (&["blank", "0", "\u{7f}"], "bad name\n"),
-        (&["run", long.as_str()], "bad name\n"),
+    let cases: [(&str, &str); 20] = [
+        ("", "bad words\n"),
+        ("backup", "bad words\n"),
+        ("backup|a|b", "bad words\n"),
+        ("backup|-a", "bad words\n"),
+        ("list|a", "bad words\n"),
+        ("lists", "bad words\n"),
+        ("blank|1|-", "bad words\n"),
+        ("restore|1|a|b", "bad words\n"),
+        ("restore|01|a", "bad number: 0\n"),
+        ("restore|4294967296|a", "bad number: 0\n"),
+        ("restore|+1|", "bad number: 0\n"),
+        ("blank|1099516763351|a", "bad number: 0\n"),
+        ("blank||a", "bad number: 0\n"),
+        ("soak|18446744073709551616|x", "bad number: 0\n"),
+        ("soak|0|0", "bad number: 1\n"),
+        ("soak|0|17", "bad number: 1\n"),
+        ("backup|", "bad name\n"),
+        ("backup|a\tb", "bad name\n"),
+        ("blank|0|\u{7f}", "bad name\n"),
+        (long.as_str(), "bad name\n"),
     ];
     let mut files = MemFiles::new(alloc);
     for (line, want) in cases.iter() {
@@ -90,13 +91,13 @@ fn bad_lines_are_refused(rt: HostRuntime) -> Result<(), Fail> {
 #[test]
 fn commands_to_come_are_unbuilt(rt: HostRuntime) -> Result<(), Fail> {
     let alloc = rt.alloc();
-    let cases: [&[&str]; 6] = [
-        &["restore", "4294967295", "a"],
-        &["expire"],
-        &["reorganise"],
-        &["scrub"],
-        &["run", "a"],
-        &["soak", "18446744073709551615", "16"],
+    let cases: [&str; 6] = [
+        "restore|4294967295|a",
+        "expire",
+        "reorganise",
+        "scrub",
+        "run|a",
+        "soak|18446744073709551615|16",
     ];
     let mut files = MemFiles::new(alloc);
     for line in cases.iter() {
@@ -115,15 +116,15 @@ fn a_blank_file_is_zeros(rt: HostRuntime) -> Result<(), Fail> {
     let mut disk = MemDisk::blank(alloc, 0)?;
     let mut files = MemFiles::new(alloc);
     let name = Name::new(alloc, "zeros")?;
-    let line = ["blank", "5", "zeros"];
-    let (report, text) = call(alloc, &line, &mut disk, &mut files)?;
+    let line = "blank|5|zeros";
+    let (report, text) = call(alloc, line, &mut disk, &mut files)?;
     assert_eq!(rt; text.as_str(), "blank: 5 bytes\n");
     assert_eq!(rt; report.status, 0);
     assert_eq!(rt; report.clocks.len(), 1);
     assert_eq!(rt; files.bytes_of(&name).unwrap_or(&[]), [0u8; 5].as_slice());
     for failing in 2..4 {
         files.fail_target(failing);
-        let (report, text) = call(alloc, &line, &mut disk, &mut files)?;
+        let (report, text) = call(alloc, line, &mut disk, &mut files)?;
         assert_eq!(rt; text.as_str(), "target fault\n");
         assert_eq!(rt; report.status, 4);
     }
@@ -136,11 +137,11 @@ fn formatting_refuses_a_small_disk(rt: HostRuntime) -> Result<(), Fail> {
     let alloc = rt.alloc();
     let mut disk = MemDisk::blank(alloc, SMALL)?;
     let mut files = MemFiles::new(alloc);
-    let (report, text) = call(alloc, &["format"], &mut disk, &mut files)?;
+    let (report, text) = call(alloc, "format", &mut disk, &mut files)?;
     assert_eq!(rt; text.as_str(), "too small: need 4295415766, have 133894\n");
     assert_eq!(rt; report.status, 1);
     let mut disk = formatted(alloc, 16)?;
-    let (report, text) = call(alloc, &["format"], &mut disk, &mut files)?;
+    let (report, text) = call(alloc, "format", &mut disk, &mut files)?;
     assert_eq!(rt; text.as_str(), "already a store\n");
     assert_eq!(rt; report.status, 1);
     Ok(())
@@ -151,7 +152,7 @@ fn zeros_are_no_store(rt: HostRuntime) -> Result<(), Fail> {
     let alloc = rt.alloc();
     let mut disk = MemDisk::blank(alloc, SMALL)?;
     let mut files = with_abc(alloc)?;
-    for line in [&["backup", "abc"] as &[&str], &["list"]] {
+    for line in ["backup|abc", "list"] {
         let (report, text) = call(alloc, line, &mut disk, &mut files)?;
         assert_eq!(rt; text.as_str(), "not a store: gate\n");
         assert_eq!(rt; report.status, 3);
@@ -164,23 +165,23 @@ fn a_backup_is_listed(rt: HostRuntime) -> Result<(), Fail> {
     let alloc = rt.alloc();
     let mut disk = formatted(alloc, 16)?;
     let mut files = with_abc(alloc)?;
-    let (report, text) = call(alloc, &["list"], &mut disk, &mut files)?;
+    let (report, text) = call(alloc, "list", &mut disk, &mut files)?;
     assert_eq!(rt; text.as_str(), "0 versions\n");
     assert_eq!(rt; report.status, 0);
-    let (report, text) = call(alloc, &["backup", "none"], &mut disk, &mut files)?;
+    let (report, text) = call(alloc, "backup|none", &mut disk, &mut files)?;
     assert_eq!(rt; text.as_str(), "source fault\n");
     assert_eq!(rt; report.status, 4);
-    let (report, text) = call(alloc, &["backup", "abc"], &mut disk, &mut files)?;
+    let (report, text) = call(alloc, "backup|abc", &mut disk, &mut files)?;
     assert_eq!(rt;
         text.as_str(),
         "version 1: 12 bytes, 3 chunks, 3 new, need 4\n"
     );
     assert_eq!(rt; report.status, 0);
     assert_eq!(rt; report.clocks.as_slice(), [disk.clock()].as_slice());
-    let (report, text) = call(alloc, &["list"], &mut disk, &mut files)?;
+    let (report, text) = call(alloc, "list", &mut disk, &mut files)?;
     assert_eq!(rt; text.as_str(), "1 12 3 3\n1 versions\n");
     assert_eq!(rt; report.status, 0);
-    let (report, text) = call(alloc, &["backup", "abc"], &mut disk, &mut files)?;
+    let (report, text) = call(alloc, "backup|abc", &mut disk, &mut files)?;
     assert_eq!(rt; text.as_str(), "unbuilt\n");
     assert_eq!(rt; report.status, 2);
     Ok(())
@@ -191,7 +192,7 @@ fn a_backup_is_refused_for_room(rt: HostRuntime) -> Result<(), Fail> {
     let alloc = rt.alloc();
     let mut disk = formatted(alloc, 3)?;
     let mut files = with_abc(alloc)?;
-    let (report, text) = call(alloc, &["backup", "abc"], &mut disk, &mut files)?;
+    let (report, text) = call(alloc, "backup|abc", &mut disk, &mut files)?;
     assert_eq!(rt; text.as_str(), "full: counted 4, free 3, held 0\n");
     assert_eq!(rt; report.status, 1);
     Ok(())
@@ -200,11 +201,11 @@ fn a_backup_is_refused_for_room(rt: HostRuntime) -> Result<(), Fail> {
 #[test]
 fn each_fault_ends_a_backup(rt: HostRuntime) -> Result<(), Fail> {
     let alloc = rt.alloc();
-    let words = words_of(alloc, &["backup", "abc"])?;
+    let words = words_of(alloc, "backup|abc")?;
     let mut files = with_abc(alloc)?;
     files.fail_fetch(0);
     let mut disk = formatted(alloc, 16)?;
-    let (report, _) = call(alloc, &["backup", "abc"], &mut disk, &mut files)?;
+    let (report, _) = call(alloc, "backup|abc", &mut disk, &mut files)?;
     assert_eq!(rt; report.end, End::SourceFault);
     let mut out = MemSink::new(alloc);
     out.fail_at(0);
@@ -216,7 +217,7 @@ fn each_fault_ends_a_backup(rt: HostRuntime) -> Result<(), Fail> {
     for number in 0..64 {
         let mut disk = formatted(alloc, 16)?;
         disk.fail_at(disk.clock() + number);
-        let (report, text) = call(alloc, &["backup", "abc"], &mut disk, &mut files)?;
+        let (report, text) = call(alloc, "backup|abc", &mut disk, &mut files)?;
         if report.end == End::Done {
             break;
         }
