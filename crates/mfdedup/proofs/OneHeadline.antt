@@ -22,8 +22,8 @@ use Rattle.bd_store.specs.Steps.{IsOneStep}
 use Rattle.bd_store.specs.Stops.{IsSafeAtStops}
 use Rattle.bd_store.specs.declared.fault.StoreFault.{StoreFault}
 use Rattle.bd_store.specs.declared.fault.StoreFault.TheVariants.{SourceFault as StoreSource, TargetFault as StoreTarget, DiskFault as StoreDisk, Damaged as StoreDamaged, OutOfMemory as StoreMemory, Unbuilt as StoreUnbuilt}
-use Rattle.bd_store.specs.declared.fault.OpenFault.{OpenFault}
-use Rattle.bd_store.specs.declared.fault.OpenFault.TheVariants.{NotAStore as OpenNotAStore, DiskFault as OpenDisk, OutOfMemory as OpenMemory}
+use Rattle.bd_recover.specs.declared.fault.OpenFault.{OpenFault}
+use Rattle.bd_recover.specs.declared.fault.OpenFault.TheVariants.{NotAStore as OpenNotAStore, DiskFault as OpenDisk, OutOfMemory as OpenMemory}
 use Rattle.mfdedup.specs.Built.{is_built, FaultFits}
 use Rattle.mfdedup.specs.Counts.{AllCounts, all_counts, EndsByCount, NoFault}
 use Rattle.mfdedup.specs.Course.{IsHonest, IsPromised, tried}
