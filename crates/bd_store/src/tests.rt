@@ -134,7 +134,7 @@ fn what_is_refused_leaves_the_store(rt: HostRuntime) -> Result<(), Fail> {
 #[test]
 fn a_stop_within_a_backup_leaves_nothing_or_the_version(rt: HostRuntime) -> Result<(), Fail> {
     let alloc = rt.alloc();
-    let mut opened_by_filler = 0;
+    let mut opened_by_filler: u32 = 0;
     for stop in 0..40 {
         let mut disk = formatted(alloc, Shape::new(64, 16, 4, 4, 0, 4)?)?;
         let begun = disk.trace().len() as u64;
@@ -145,7 +145,7 @@ fn a_stop_within_a_backup_leaves_nothing_or_the_version(rt: HostRuntime) -> Resu
             let versions = retained(alloc, &image)?;
             if versions == Some(1) && !done {
                 assert_eq!(rt; filler, 0x4F, "only a gate that the stop opened");
-                opened_by_filler += 1;
+                opened_by_filler = opened_by_filler.saturating_add(1);
             } else {
                 assert_eq!(rt; versions, Some(usize::from(done)), "at {stop}");
             }
