@@ -3,6 +3,7 @@ pub mod Entries
 pub mod Found
 pub mod Holding
 pub mod Locating
+pub mod Marking
 pub mod Pieces
 pub mod Spelling
 pub mod Versions
