@@ -4,6 +4,7 @@ pub mod Found
 pub mod Holding
 pub mod Locating
 pub mod Marking
+pub mod Occurring
 pub mod Pieces
 pub mod Spelling
 pub mod Versions
