@@ -1,5 +1,5 @@
 -- The entries with one mark, visited from each to the next.
-use Rattle.std.proofs.Common.{◌≡◌, ℕ, suc, ◌+◌, ◌-◌, ◌≤◌, ◌<◌, Bool, true, false, cond, List, [], ◌∷◌, length, length-drop, drop, drop-drop, get_or, get_or-drop, refl, sym, ◌∙◌, ap, arith, subst, Some, None, IfSome, unwrap_or, ⊎_elim}
+use Rattle.std.proofs.Common.{◌≡◌, ℕ, suc, ◌+◌, ◌-◌, ◌≤◌, ◌<◌, true, false, cond, List, [], ◌∷◌, length, length-drop, drop, drop-drop, get_or, get_or-drop, refl, sym, ◌∙◌, ap, arith, subst, Some, None, IfSome, unwrap_or, ⊎_elim}
 use Rattle.std.specs.Str.{bytes_eq}
 use Rattle.std.proofs.lemmas.Bool.{cases_eq}
 use Rattle.bd_model.specs.declared.layout.RecipeEntry.{RecipeEntry}

@@ -1,4 +1,4 @@
-use Rattle.std.proofs.Common.{◌≡◌, ◌∙◌, ap, Some, None}
+use Rattle.std.proofs.Common.{◌∙◌, ap, Some, None}
 use Rattle.bd_recipe.specs.Marked.{first_from}
 use Rattle.bd_recipe.proofs.Marking.{index_within, none_exactly}
 use Rattle.bd_recipe.proofs.neighbour.Neighbour.first_index.Goals as goal

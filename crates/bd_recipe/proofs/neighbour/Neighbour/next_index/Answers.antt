@@ -1,4 +1,4 @@
-use Rattle.std.proofs.Common.{◌≡◌, ap, sym}
+use Rattle.std.proofs.Common.{ap, sym}
 use Rattle.bd_recipe.proofs.Marking.{next_none, next_noted, next_some, next_within}
 use Rattle.bd_recipe.proofs.neighbour.Neighbour.next_index.Goals as goal
 
