@@ -3,6 +3,8 @@ pub mod Entries
 pub mod Found
 pub mod Holding
 pub mod Locating
+pub mod Marking
+pub mod Occurring
 pub mod Pieces
 pub mod Spelling
 pub mod Versions

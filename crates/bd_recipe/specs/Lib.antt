@@ -1,3 +1,4 @@
 pub mod Entries
 pub mod Located
+pub mod Marked
 pub mod Reading

@@ -5,6 +5,7 @@ mod entry;
 mod fault;
 mod limits;
 mod located;
+mod neighbour;
 mod recipe;
 #[cfg(test)]
 mod tests;
@@ -12,5 +13,6 @@ mod writing;
 
 pub use entry::write_entry;
 pub use fault::ReadFault;
+pub use neighbour::Neighbour;
 pub use recipe::{Recipe, read_recipe};
 pub use writing::write_entries;

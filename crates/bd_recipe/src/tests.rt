@@ -118,3 +118,51 @@ fn damage_and_faults_are_named(rt: HostRuntime) -> Result<(), Fail> {
     );
     Ok(())
 }
+
+/// A recipe of these entries.
+fn recipe_of(alloc: Global, entries: &[RecipeEntry]) -> Result<Recipe, Fail> {
+    let mut recipe = Recipe::new(alloc);
+    for entry in entries {
+        recipe.reserve(1)?;
+        recipe.push(*entry);
+    }
+    Ok(recipe)
+}
+
+#[test]
+fn entries_are_found_by_their_mark(rt: HostRuntime) -> Result<(), Fail> {
+    let alloc = rt.alloc();
+    let entries = [
+        entry(7, 4, 1),
+        entry(9, 5, 2),
+        entry(7, 6, 3),
+        entry(7, 3, 1),
+        entry(9, 2, 2),
+    ];
+    let neighbour = Neighbour::of(alloc, recipe_of(alloc, &entries)?)?;
+    assert_eq!(rt; neighbour.entries().as_slice(), entries.as_slice());
+    let seven = Mark([7; 32]);
+    let nine = Mark([9; 32]);
+    assert_eq!(rt; neighbour.find(&seven), Some((1, 4)));
+    assert_eq!(rt; neighbour.find(&nine), Some((2, 5)));
+    assert_eq!(rt; neighbour.first_index(&seven), Some(0));
+    assert_eq!(rt; neighbour.first_index(&nine), Some(1));
+    assert_eq!(rt; neighbour.next_index(0), Some(2));
+    assert_eq!(rt; neighbour.next_index(1), Some(4));
+    assert_eq!(rt; neighbour.next_index(2), Some(3));
+    assert_eq!(rt; neighbour.next_index(3), None);
+    assert_eq!(rt; neighbour.next_index(5), None);
+    Ok(())
+}
+
+#[test]
+fn a_mark_is_compared_to_its_last_byte(rt: HostRuntime) -> Result<(), Fail> {
+    let alloc = rt.alloc();
+    let neighbour = Neighbour::of(alloc, recipe_of(alloc, &[entry(7, 4, 1)])?)?;
+    let mut other = [7u8; 32];
+    other[31] = 8;
+    assert_eq!(rt; neighbour.find(&Mark(other)), None);
+    assert_eq!(rt; neighbour.first_index(&Mark(other)), None);
+    assert_eq!(rt; neighbour.find(&Mark([7; 32])), Some((1, 4)));
+    Ok(())
+}
