@@ -180,7 +180,14 @@ impl Store {
         // A stop at any moment leaves the state before it or the one after.
         ensures stops { D.tells → F.tells → IsSafeAtStops (Backup name.now) self.old.held (D.history disk.old) (D.history disk.new) (F.files files.old) result }
     {
-        let result = take_first(self.alloc, disk, &mut self.catalog, &mut self.space, files, name);
+        let result = take_first(
+            self.alloc,
+            disk,
+            &mut self.catalog,
+            &mut self.space,
+            files,
+            name,
+        );
         self.worn = is_disk_fault(&result);
         result
     }

@@ -20,18 +20,22 @@ fn sources(alloc: Global) -> Result<MemFiles, Fail> {
 // What a backup answered, as numbers: version, bytes, chunks, fresh chunks and need; or what a refusal counts.
 fn figures(answer: &Result<Answer, StoreFault>) -> [u64; 5] {
     match answer {
-        Ok(Answer::BackedUp {
-            version,
-            bytes,
-            chunks,
-            fresh,
-            need,
-        }) => [u64::from(*version), *bytes, *chunks, *fresh, *need],
-        Ok(Answer::FullExtents {
-            counted,
-            free,
-            held,
-        }) => [0, *counted, *free, *held, 0],
+        Ok(
+            Answer::BackedUp {
+                version,
+                bytes,
+                chunks,
+                fresh,
+                need,
+            },
+        ) => [u64::from(*version), *bytes, *chunks, *fresh, *need],
+        Ok(
+            Answer::FullExtents {
+                counted,
+                free,
+                held,
+            },
+        ) => [0, *counted, *free, *held, 0],
         _ => [0; 5],
     }
 }
