@@ -1,2 +1,5 @@
-pub mod Tables
+pub mod Faults
 pub mod Plan
+pub mod Tables
+pub mod Target
+pub mod Walk

@@ -2,8 +2,12 @@
 #![tactic(auto)]
 
 mod bucket;
+mod fault;
 mod plan;
+mod put;
+mod record;
 mod tables;
 
 pub use bd_recipe::ReadFault;
+pub use fault::RestoreFault;
 pub use plan::{Plan, plan_for};

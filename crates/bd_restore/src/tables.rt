@@ -1,5 +1,5 @@
-ghost use Rattle.std.specs.Prelude.{◌≡◌, ℕ, ◌+◌, ◌<◌, ◌≤◌, ◌^◌, ◌*◌, length, All, IfOk};
-ghost use Rattle.bd_restore.specs.Tables.{bucket_at, mark_at, place_at, AreChained, ArePlaces, IsLast};
+ghost use Rattle.std.specs.Prelude.{◌≡◌, ℕ, ◌+◌, ◌-◌, ◌<◌, ◌≤◌, ◌^◌, ◌*◌, length, All, IfOk};
+ghost use Rattle.bd_restore.specs.Tables.{bucket_at, bucket_of, length_at, mark_at, place_at, AreChained, ArePlaces, IsLast};
 
 use crate::bucket::bucket_of;
 use bd_model::{Mark, RecipeEntry};
@@ -46,6 +46,70 @@ impl Tables {
             earlier,
         })
     }
+
+    /// How many entries there are.
+    pub(crate) fn len(&self) -> usize
+        ensures { result ≡ length self.now }
+    {
+        self.recipe.len()
+    }
+
+    /// The entry of this index.
+    pub(crate) fn entry(&self, index: usize) -> RecipeEntry
+        requires within { index < length self.now }
+        ensures mark { result.mark.0 ≡ mark_at self.now index }
+        ensures length { result.length ≡ length_at self.now index }
+    {
+        self.recipe.as_slice()[index]
+    }
+
+    /// The place of this entry's chunk in the stream.
+    pub(crate) fn place(&self, index: usize) -> u64
+        requires within { index < length self.now }
+        ensures { result ≡ place_at self.now index }
+    {
+        self.places[index]
+    }
+
+    /// One more than the index of the last entry with this mark; 0 where none has it.
+    pub(crate) fn last(&self, mark: &Mark) -> usize
+        ensures { IsLast (mark_at self.now) mark.now.0 (length self.now) result }
+    {
+        let start = self.heads[bucket_of(mark, self.heads.len())];
+        search(self.recipe.as_slice(), &self.heads, &self.earlier, mark, start)
+    }
+
+    /// The same of the last one before this entry that has its mark.
+    pub(crate) fn earlier(&self, index: usize) -> usize
+        requires within { index < length self.now }
+        ensures { IsLast (mark_at self.now) (mark_at self.now index) index result }
+    {
+        let entries = self.recipe.as_slice();
+        search(entries, &self.heads, &self.earlier, &entries[index].mark, self.earlier[index])
+    }
+}
+
+// One more than the index of the last of the first `start` entries that has the mark. The last of them is in its bucket.
+fn search(
+    entries: &[RecipeEntry],
+    heads: &[usize],
+    earlier: &[usize],
+    mark: &Mark,
+    start: usize,
+) -> usize
+    requires chained { AreChained entries.now heads.now earlier.now }
+    requires within { start ≤ length entries.now }
+    requires bucket { 0 < start → bucket_at (length heads.now) entries.now (start - 1) ≡ bucket_of (length heads.now) mark.now }
+    ensures { IsLast (mark_at entries.now) mark.now.0 start result }
+{
+    let mut last = start;
+    while last > 0 {
+        if entries[last - 1].mark == *mark {
+            return last;
+        }
+        last = earlier[last - 1];
+    }
+    0
 }
 
 // The place of each entry's chunk in the stream.
