@@ -66,6 +66,7 @@ pub fn read_header<D: Disk>(
     ensures writes { D.tells → WritesNothing (D.history disk.old) (D.history disk.new) }
     ensures header { D.tells → AnswersHeader (header_at (sizes_of shape.now) who at end (owner_bytes (sizes_of shape.now) extents.now (contents (D.history disk.old)))) result }
     ensures short { IfOk result (λ header. header.length ≤ shape.now.max) }
+    ensures place { IfOk result (λ header. header.at ≡ at) }
     ensures within { IfOk result (λ header. at + 36 + header.length ≤ end) }
     ensures places { D.tells → ReadsHeader (sizes_of shape.now) extents.now at end (D.history disk.old) (D.history disk.new) result }
 {
@@ -147,6 +148,7 @@ fn checked_header(
 ) -> Result<Header, Damage>
     ensures so { result ≡ header_in max who at left bytes.now }
     ensures short { IfOk result (λ header. header.length ≤ max) }
+    ensures place { IfOk result (λ header. header.at ≡ at) }
     ensures within { IfOk result (λ header. header.length ≤ left) }
 {
     let (length, mark) = parts_of(bytes);

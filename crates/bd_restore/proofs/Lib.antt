@@ -1,3 +1,7 @@
+mod Answering
 mod Chains
+mod Joining
 mod Marks
 mod Putting
+mod Reading
+mod Walking

@@ -35,3 +35,11 @@ pub record FailsByDisk {T : Type 0} (before now : ℕ) (result : Result T Restor
 pub record FailsByTarget {T : Type 0} (before now : ℕ) (result : Result T RestoreFault) : Type 0 where
   pub later : before ≤ now
   pub cause : TargetByCount before now result
+
+-- no fault of the disk, and no want of memory
+abbrev pub OfTarget : {T : Type 0} → Result T RestoreFault → Type 0
+OfTarget (Ok value) = Unit {0}
+OfTarget (Err TargetFault) = Unit {0}
+OfTarget (Err DiskFault) = ⊥
+OfTarget (Err (Damaged damage)) = Unit {0}
+OfTarget (Err OutOfMemory) = ⊥

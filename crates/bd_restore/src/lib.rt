@@ -3,6 +3,7 @@
 
 mod bucket;
 mod fault;
+mod piece;
 mod plan;
 mod put;
 mod record;

@@ -2,7 +2,7 @@ ghost use Rattle.std.specs.Prelude.{◌≡◌, ◌≢◌, ℕ, ◌<◌, ◌≤�
 ghost use Rattle.std.specs.FinMap as map;
 ghost use Rattle.bd_disk.specs.Images.{overwritten};
 ghost use Rattle.bd_files.specs.Files.{ChangesOnly};
-ghost use Rattle.bd_restore.specs.Faults.{FailsByTarget, IfDamaged};
+ghost use Rattle.bd_restore.specs.Faults.{FailsByTarget, IfDamaged, OfTarget};
 ghost use Rattle.bd_restore.specs.Tables.{length_at, mark_at, place_at};
 ghost use Rattle.bd_restore.specs.Target.{held, IsTarget, Fills, Puts};
 
@@ -26,6 +26,7 @@ fn put_at<F: Files>(
     requires short { length body.now ≤ 65536 }
     requires there { F.tells → IsTarget tables.now name.now (F.files files.old) }
     ensures cause { FailsByTarget (F.target_faults files.old) (F.target_faults files.new) result }
+    ensures only { OfTarget result }
     ensures sources { F.source_faults files.new ≡ F.source_faults files.old }
     ensures strays { F.tells → F.strays files.new ≡ F.strays files.old }
     ensures others { F.tells → ChangesOnly name.now (F.files files.old) (F.files files.new) }
@@ -66,6 +67,7 @@ pub(crate) fn put_everywhere<F: Files>(
     requires short { length body.now ≤ 65536 }
     requires there { F.tells → IsTarget tables.now name.now (F.files files.old) }
     ensures cause { FailsByTarget (F.target_faults files.old) (F.target_faults files.new) result }
+    ensures only { OfTarget result }
     ensures sources { F.source_faults files.new ≡ F.source_faults files.old }
     ensures strays { F.tells → F.strays files.new ≡ F.strays files.old }
     ensures others { F.tells → ChangesOnly name.now (F.files files.old) (F.files files.new) }

@@ -18,7 +18,7 @@ loop-last-preserved g c =
     record {
       within = omega (arith, gap.within, fits);
       mark = gap.here;
-      faults = c.put_at.ensures.cause.cause ∙ inv.faults;
+      faults = c.in_ok-put_at.ensures.cause.cause ∙ inv.faults;
       sources = c.put_at.ensures.sources ∙ inv.sources;
       strays = λ told. c.put_at.ensures.strays told ∙ inv.strays told;
       others = λ told. changes_both name _ _ _ (inv.others told) (c.put_at.ensures.others told);
