@@ -1,6 +1,11 @@
 -- Walks that follow each other, and the records of a piece.
-use Rattle.std.proofs.Common.{◌≡◌, ℕ, zero, suc, ◌+◌, ◌-◌, ◌<◌, ◌≤◌, Bool, List, [], ◌∷◌, ◌++◌, length, take, drop, map, refl, sym, ◌∙◌, ap, subst, arith, append_assoc}
-use Rattle.std.specs.Prelude.{if◌then◌else◌}
+use Rattle.std.proofs.Common.{◌≡◌, ℕ, zero, suc, ◌+◌, ◌-◌, ◌<◌, ◌≤◌, Bool, cond, List, [], ◌∷◌, ◌++◌, length, take, drop, map, refl, sym, ◌∙◌, ap, subst, arith, append_assoc}
+use Rattle.std.specs.Prelude.{if◌then◌else◌, filter, nat_le}
+use Rattle.std.specs.List.{flat_map}
+use Rattle.std.proofs.lemmas.List.Elements.{filter-append}
+use Rattle.std.proofs.lemmas.Grind.{flat_map-append}
+use Rattle.std.proofs.lemmas.Bool.{le-leb, lt-leb}
+use Rattle.bd_catalog.specs.Catalogue.{OpenEntry}
 use Rattle.std.proofs.lemmas.List.{append-nil, map-append}
 use Rattle.bd_disk.specs.History.{History}
 use Rattle.bd_disk.specs.Trace.{ReadsOnly}
@@ -9,7 +14,7 @@ use Rattle.bd_model.specs.Sizes.{Sizes}
 use Rattle.bd_model.specs.Extents.{places_at}
 use Rattle.bd_model.specs.Records.{Stored, stored_at}
 use Rattle.bd_model.specs.declared.layout.RecipeEntry.{RecipeEntry}
-use Rattle.bd_restore.specs.Walk.{Spot, records_at, is_wanted, walk_reads, spots_from, past, AreFlags, AreGiven, Walks, Gives}
+use Rattle.bd_restore.specs.Walk.{Spot, records_at, is_wanted, open_spots, open_walk, walk_reads, spots_from, past, AreFlags, AreGiven, Walks, Gives}
 
 module _ (s : Sizes) (entries : List RecipeEntry) where
   reads-append : (seen : List Stored) (xs ys : List Spot) → walk_reads s entries seen (xs ++ ys) ≡ walk_reads s entries seen xs ++ walk_reads s entries (seen ++ records_at xs) ys
@@ -59,3 +64,16 @@ module _ (extents bytes : List ℕ) where
   pub past-more : (n at : ℕ) → past at (spots_from extents bytes (suc n) at) ≡ past at (spots_from extents bytes n at) + 36 + (stored_at (drop (past at (spots_from extents bytes n at)) bytes)).length
   past-more zero at = refl
   past-more (suc n) at = past-more n (at + 36 + (stored_at (drop at bytes)).length)
+
+-- ---- open categories
+
+pub walk-append : (s : Sizes) (image : List ℕ) (v : ℕ) (xs ys : List OpenEntry) → open_walk s image v (xs ++ ys) ≡ open_walk s image v xs ++ open_walk s image v ys
+walk-append s image v xs ys =
+    let begins : OpenEntry → Bool = λ e. nat_le e.row.start v in
+    ap (flat_map (open_spots s image)) (filter-append begins xs ys) ∙ flat_map-append (open_spots s image) (filter begins xs) (filter begins ys)
+
+pub walk-later : (s : Sizes) (image : List ℕ) (v : ℕ) (e : OpenEntry) → v < e.row.start → open_walk s image v (e ∷ []) ≡ []
+walk-later s image v e later = ap (λ b. flat_map (open_spots s image) (cond b (e ∷ []) [])) (lt-leb e.row.start v later)
+
+pub walk-one : (s : Sizes) (image : List ℕ) (v : ℕ) (e : OpenEntry) → e.row.start ≤ v → open_walk s image v (e ∷ []) ≡ open_spots s image e
+walk-one s image v e within = ap (λ b. flat_map (open_spots s image) (cond b (e ∷ []) [])) (le-leb e.row.start v within) ∙ append-nil (open_spots s image e)

@@ -1,12 +1,14 @@
 -- The records that a restore finds on its walk, what it reads of them, and what it has given back by then.
-use Rattle.std.specs.Prelude.{◌≡◌, ℕ, zero, suc, ◌+◌, ◌<◌, Bool, ◌&&◌, not, List, [], ◌∷◌, ◌++◌, length, map, take, drop, nat_lt, bytes_eq, IsTrue, if◌then◌else◌}
+use Rattle.std.specs.Prelude.{◌≡◌, ℕ, zero, suc, ◌+◌, ◌<◌, Bool, ◌&&◌, not, List, [], ◌∷◌, ◌++◌, length, map, take, drop, filter, flat_map, nat_le, nat_lt, ◌*◌, ◌≤◌, bytes_eq, IsTrue, if◌then◌else◌}
 use Rattle.std.specs.List.{list_any}
 use Rattle.bd_disk.specs.History.{History}
 use Rattle.bd_disk.specs.Trace.{ReadsOnly}
 use Rattle.bd_model.specs.Sizes.{Sizes}
-use Rattle.bd_model.specs.Extents.{places_at}
+use Rattle.bd_model.specs.Extents.{owner_bytes, places_at}
 use Rattle.bd_model.specs.Records.{Stored, stored_at}
 use Rattle.bd_model.specs.declared.layout.RecipeEntry.{RecipeEntry}
+use Rattle.bd_extio.specs.Ranges.{AreExtents}
+use Rattle.bd_catalog.specs.Catalogue.{OpenEntry}
 use Rattle.bd_catalog.specs.Sound.{with_mark, first_body}
 use Rattle.bd_restore.specs.Tables.{mark_at}
 use Rattle.bd_restore.specs.Target.{chunk_at, flag_at}
@@ -68,3 +70,19 @@ pub record Walks (s : Sizes) (entries : List RecipeEntry) (spots : List Spot) (o
 -- and what is wanted of them was given
 pub record Gives (entries : List RecipeEntry) (spots : List Spot) (filled : List Bool) (old new : List ℕ) : Type 0 where
   pub each : (seen : List Stored) → AreFlags entries seen filled → AreGiven entries seen old → AreGiven entries (seen ++ records_at spots) new
+
+-- the records of an open category, and of those of them that begin at v or before
+abbrev pub open_spots : Sizes → List ℕ → OpenEntry → List Spot
+open_spots s image e = spots_from e.extents (take e.row.bytes (owner_bytes s e.extents image)) e.row.chunks 0
+
+abbrev pub open_walk : Sizes → List ℕ → ℕ → List OpenEntry → List Spot
+open_walk s image v actives = flat_map (open_spots s image) (filter (λ e. nat_le e.row.start v) actives)
+
+-- the extents of an open category are there, none twice, and have room for its records
+pub record IsOpen (s : Sizes) (e : OpenEntry) : Type 0 where
+  pub numbers : AreExtents s e.extents
+  pub room : e.row.bytes ≤ length e.extents * s.extent
+
+-- of each entry the body of the first record with its mark, one after the other
+abbrev pub joined : List RecipeEntry → List Stored → List ℕ
+joined entries records = flat_map (λ e. first_body (with_mark e.mark.0 records)) entries

@@ -1,4 +1,4 @@
-ghost use Rattle.std.specs.Prelude.{◌≡◌, ℕ, ◌+◌, ◌*◌, ◌≤◌, ◌<◌, IfOk, OnOk};
+ghost use Rattle.std.specs.Prelude.{◌≡◌, ℕ, ◌+◌, ◌*◌, ◌≤◌, ◌<◌, length, replicate, false, IfOk, OnOk};
 ghost use Rattle.bd_disk.specs.History.{contents};
 ghost use Rattle.bd_disk.specs.Looks.{LooksOnlyAt};
 ghost use Rattle.bd_disk.specs.Made.{WritesNothing};
@@ -6,7 +6,7 @@ ghost use Rattle.bd_disk.specs.Trace.{ReadsOnly};
 ghost use Rattle.bd_model.specs.Sizes.{disk_bytes};
 ghost use Rattle.bd_catalog.specs.Catalogue.{oldest_in};
 ghost use Rattle.bd_catalog.specs.Damages.{IsSeen};
-ghost use Rattle.bd_recipe.specs.Reading.{FailsByCount, IfDamaged, InRecipe, IsRecipe, recipe_found, recipe_places};
+ghost use Rattle.bd_recipe.specs.Reading.{FailsByCount, IfDamaged, InRecipe, IsRecipe, recipe_found, recipe_places, total};
 ghost use Rattle.bd_restore.specs.Plan.{AnswersPlan};
 
 use crate::tables::Tables;
@@ -38,6 +38,26 @@ impl Model for Plan {
     ghost view = { λ p. record { version = p.version; entries = p.tables; room = list_length p.buffer.items } };
 
     ghost invariant = { λ p. IsFresh p.tables p.length p.filled.items };
+}
+
+impl Plan {
+    // The version and its length, its tables, a flag for each entry, none of them set, and the buffer.
+    pub(crate) fn into_parts(self) -> (u32, u64, Tables, Vec<bool>, Vec<u8>)
+        ensures version { result.0 ≡ self.version }
+        ensures length { result.1 ≡ total self.entries }
+        ensures entries { result.2 ≡ self.entries }
+        ensures flags { result.3.items ≡ replicate (length self.entries) false }
+        ensures buffer { length result.4.items ≡ self.room }
+    {
+        let Plan {
+            version,
+            length,
+            tables,
+            filled,
+            buffer,
+        } = self;
+        (version, length, tables, filled, buffer)
+    }
 }
 
 /// Reads the recipe of a retained version, as `read_recipe` does, and plans its restore. It takes about 65 bytes of memory
