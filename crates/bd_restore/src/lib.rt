@@ -11,6 +11,8 @@ mod put;
 mod record;
 mod run;
 mod tables;
+#[cfg(test)]
+mod tests;
 
 pub use bd_recipe::ReadFault;
 pub use fault::RestoreFault;
