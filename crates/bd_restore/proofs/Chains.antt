@@ -37,12 +37,12 @@ module _ (key_at : ℕ → ℕ) where
   heads_more heads now count i b sized lt is so was k within =
       let at = cases_eq k b in
       elim at [
-        inl same ↦
-          let here : get_or now k 0 ≡ i + 1 = (λ j. get_or (so j) (same j) 0) ∙ get_or-set_same heads b (i + 1) 0 (omega (arith, sized, lt)) in
-          subst (IsLast key_at k (i + 1)) (sym here) (last_here i k (is ∙ sym same))
-      | inr other ↦
-          let there : get_or now k 0 ≡ get_or heads k 0 = ap (λ hs. get_or hs k 0) so ∙ get_or-set_other heads b k (i + 1) 0 other in
-          subst (IsLast key_at k (i + 1)) (sym there) (last_more i k (get_or heads k 0) (λ eq. other (sym eq ∙ is)) (was k within))
+        | inl same ↦
+            let here : get_or now k 0 ≡ i + 1 = (λ j. get_or (so j) (same j) 0) ∙ get_or-set_same heads b (i + 1) 0 (omega (arith, sized, lt)) in
+            subst (IsLast key_at k (i + 1)) (sym here) (last_here i k (is ∙ sym same))
+        | inr other ↦
+            let there : get_or now k 0 ≡ get_or heads k 0 = ap (λ hs. get_or hs k 0) so ∙ get_or-set_other heads b k (i + 1) 0 other in
+            subst (IsLast key_at k (i + 1)) (sym there) (last_more i k (get_or heads k 0) (λ eq. other (sym eq ∙ is)) (was k within))
       ]
 
   -- the links after one more
@@ -51,10 +51,10 @@ module _ (key_at : ℕ → ℕ) where
   links_more links now i last sized so here was k within =
       let at = cases_eq k i in
       elim at [
-        inl same ↦
-          let is : get_or now k 0 ≡ last = (λ j. get_or (so j) (same j) 0) ∙ get_or_push links last 0 i sized in
-          subst (IsLast key_at (key_at k) k) (sym is) (subst (λ m. IsLast key_at (key_at m) m last) (sym same) here)
-      | inr other ↦
-          let is : get_or now k 0 ≡ get_or links k 0 = ap (λ l. get_or l k 0) so ∙ get_or_append_left links (last ∷ []) 0 k (omega (arith, within, other, sized)) in
-          subst (IsLast key_at (key_at k) k) (sym is) (was k (omega (arith, within, other)))
+        | inl same ↦
+            let is : get_or now k 0 ≡ last = (λ j. get_or (so j) (same j) 0) ∙ get_or_push links last 0 i sized in
+            subst (IsLast key_at (key_at k) k) (sym is) (subst (λ m. IsLast key_at (key_at m) m last) (sym same) here)
+        | inr other ↦
+            let is : get_or now k 0 ≡ get_or links k 0 = ap (λ l. get_or l k 0) so ∙ get_or_append_left links (last ∷ []) 0 k (omega (arith, within, other, sized)) in
+            subst (IsLast key_at (key_at k) k) (sym is) (was k (omega (arith, within, other)))
       ]

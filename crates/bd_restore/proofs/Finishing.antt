@@ -107,12 +107,12 @@ only_put old new name bytes changes there =
     let which = bool_cases (eq_by_cmp (slice_cmp nat_cmp) q name) in
     let by : map.get new q ≡ cond (eq_by_cmp (slice_cmp nat_cmp) q name) (Some bytes) (map.get old q) =
     elim which [
-      inl tie ↦
-        let same : q ≡ name = only_equal_names_tie q name (subst (λ b. T b) (sym tie) tt) in
-        ap (map.get new) same ∙ there ∙ ap (λ b. cond b (Some bytes) (map.get old q)) (sym tie)
-    | inr apart ↦
-        let other : q ≡ name → ⊥ = λ same. tf (sym (ap is_eq (tied_itself nat_list_cmp_total name)) ∙ ap (λ x. eq_by_cmp (slice_cmp nat_cmp) x name) (sym same) ∙ apart) in
-        changes.others q other ∙ ap (λ b. cond b (Some bytes) (map.get old q)) (sym apart)
+      | inl tie ↦
+          let same : q ≡ name = only_equal_names_tie q name (subst (λ b. T b) (sym tie) tt) in
+          ap (map.get new) same ∙ there ∙ ap (λ b. cond b (Some bytes) (map.get old q)) (sym tie)
+      | inr apart ↦
+          let other : q ≡ name → ⊥ = λ same. tf (sym (ap is_eq (tied_itself nat_list_cmp_total name)) ∙ ap (λ x. eq_by_cmp (slice_cmp nat_cmp) x name) (sym same) ∙ apart) in
+          changes.others q other ∙ ap (λ b. cond b (Some bytes) (map.get old q)) (sym apart)
     ] in
     by ∙ sym (get-insert nat_list_cmp_total old name bytes q)) where
       tf : true ≡ false → ⊥

@@ -31,8 +31,8 @@ module _ (count : ℕ) (entries : List RecipeEntry) (m : Mark) where
     none = λ k low high same.
         let side = cases_lt k mid in
         elim side [
-          inl below ↦ inner.none k low below same
-        | inr above ↦ outer.none k above high (bucket_here count entries k m (omega (arith, high, fits)) same)
+          | inl below ↦ inner.none k low below same
+          | inr above ↦ outer.none k above high (bucket_here count entries k m (omega (arith, high, fits)) same)
         ];
     here = inner.here;
   }

@@ -56,10 +56,10 @@ pub places_apart : (entries : List RecipeEntry) (j k place : ℕ) → j < length
 places_apart entries j k place jl kl apart a b =
     let order = cases_order j k in
     elim order [
-      inl same ↦ apart same
-    | inr rest ↦ elim rest [
-        inl lt ↦ omega (arith, place_next entries j jl, place_le entries (suc j) k (omega (arith, lt)), a, b)
-      | inr gt ↦ omega (arith, place_next entries k kl, place_le entries (suc k) j (omega (arith, gt)), a, b)
+      | inl same ↦ apart same
+      | inr rest ↦ elim rest [
+        | inl lt ↦ omega (arith, place_next entries j jl, place_le entries (suc j) k (omega (arith, lt)), a, b)
+        | inr gt ↦ omega (arith, place_next entries k kl, place_le entries (suc k) j (omega (arith, gt)), a, b)
       ]
     ]
 
@@ -111,14 +111,14 @@ module _ (entries : List RecipeEntry) (name body : List ℕ) (j : ℕ) (files ne
             ap (chunk_at entries k) now_held ∙
             (let which = cases_eq k j in
             elim which [
-              inl eq ↦ subst (λ i. chunk_at entries i (overwritten (held files name) (place_at entries j) body) ≡ body) (sym eq) (put_here entries j body (held files name) lt sized target.long)
-            | inr other ↦
-                put_other entries j body (held files name) lt sized target.long k high other
-                ∙ (let order = cases_order k j in
-                elim order [
-                  inl eq ↦ absurd (other eq)
-                | inr rest ↦ elim rest [ inl below ↦ absurd (gap.none k low below same) | inr above ↦ was.here k (omega (arith, is, above)) high same ]
-                ])
+              | inl eq ↦ subst (λ i. chunk_at entries i (overwritten (held files name) (place_at entries j) body) ≡ body) (sym eq) (put_here entries j body (held files name) lt sized target.long)
+              | inr other ↦
+                  put_other entries j body (held files name) lt sized target.long k high other
+                  ∙ (let order = cases_order k j in
+                  elim order [
+                    | inl eq ↦ absurd (other eq)
+                    | inr rest ↦ elim rest [ inl below ↦ absurd (gap.none k low below same) | inr above ↦ was.here k (omega (arith, is, above)) high same ]
+                  ])
             ]);
         others = λ k lt_k differ.
             ap (chunk_at entries k) now_held
@@ -135,10 +135,10 @@ fills_more entries m j last before first old new lt sized here is gap so was = r
       ap (λ l. flag_at l k) so ∙
       (let order = cases_order k j in
       elim order [
-        inl eq ↦ ap (λ i. flag_at (set old j true) i) eq ∙ get_or-set_same old j true false (omega (arith, lt, sized))
-      | inr rest ↦ elim rest [
-          inl below ↦ absurd (gap.none k low below same)
-        | inr above ↦ get_or-set_other old j k true false (λ (eq : k ≡ j). omega (arith, eq, above)) ∙ was.here k (omega (arith, is, above)) high same
+        | inl eq ↦ ap (λ i. flag_at (set old j true) i) eq ∙ get_or-set_same old j true false (omega (arith, lt, sized))
+        | inr rest ↦ elim rest [
+          | inl below ↦ absurd (gap.none k low below same)
+          | inr above ↦ get_or-set_other old j k true false (λ (eq : k ≡ j). omega (arith, eq, above)) ∙ was.here k (omega (arith, is, above)) high same
         ]
       ]);
   others = λ k lt_k differ.

@@ -131,8 +131,8 @@ module _ (entries : List RecipeEntry) (seen : List Stored) (r : Stored) where
     same_found k lt =
         let which = bool_cases (bytes_eq r.mark (mark_at entries k)) in
         elim which [
-          inl hit ↦ found_then k lt hit ∙ sym (now_found seen r (mark_at entries k) hit)
-        | inr miss ↦ ap (λ l. nat_lt 0 (length l)) (sym (other_same seen r (mark_at entries k) miss))
+          | inl hit ↦ found_then k lt hit ∙ sym (now_found seen r (mark_at entries k) hit)
+          | inr miss ↦ ap (λ l. nat_lt 0 (length l)) (sym (other_same seen r (mark_at entries k) miss))
         ]
 
     pub flags_unwanted : (filled : List Bool) → AreFlags entries seen filled → AreFlags entries (seen ++ r ∷ []) filled
@@ -155,8 +155,8 @@ module _ (entries : List RecipeEntry) (seen : List Stored) (r : Stored) where
       each = λ k lt.
           let which = bool_cases (bytes_eq r.mark (mark_at entries k)) in
           elim which [
-            inl hit ↦ fills.here k (omega arith) lt (mark_is k hit) ∙ sym (now_found seen r (mark_at entries k) hit)
-          | inr miss ↦ fills.others k lt (mark_differs k miss) ∙ flags.each k lt ∙ ap (λ l. nat_lt 0 (length l)) (sym (other_same seen r (mark_at entries k) miss))
+            | inl hit ↦ fills.here k (omega arith) lt (mark_is k hit) ∙ sym (now_found seen r (mark_at entries k) hit)
+            | inr miss ↦ fills.others k lt (mark_differs k miss) ∙ flags.each k lt ∙ ap (λ l. nat_lt 0 (length l)) (sym (other_same seen r (mark_at entries k) miss))
           ];
     }
 
@@ -166,10 +166,10 @@ module _ (entries : List RecipeEntry) (seen : List Stored) (r : Stored) where
           let which = bool_cases (bytes_eq r.mark (mark_at entries k)) in
           let unseen : is_found seen r.mark ≡ false = both_true (has_entry entries r.mark) (is_found seen r.mark) wanted in
           elim which [
-            inl hit ↦ puts.here k (omega arith) lt (mark_is k hit) ∙ sym (first_now seen r (mark_at entries k) (ap (is_found seen) (mark_is k hit) ∙ unseen) hit)
-          | inr miss ↦
-              let same = other_same seen r (mark_at entries k) miss in
-              puts.others k lt (mark_differs k miss) ∙ given.each k lt (ap (λ l. nat_lt 0 (length l)) (sym same) ∙ found) ∙ ap first_body (sym same)
+            | inl hit ↦ puts.here k (omega arith) lt (mark_is k hit) ∙ sym (first_now seen r (mark_at entries k) (ap (is_found seen) (mark_is k hit) ∙ unseen) hit)
+            | inr miss ↦
+                let same = other_same seen r (mark_at entries k) miss in
+                puts.others k lt (mark_differs k miss) ∙ given.each k lt (ap (λ l. nat_lt 0 (length l)) (sym same) ∙ found) ∙ ap first_body (sym same)
           ];
     }
 

@@ -48,7 +48,15 @@ pub fn run_plan<D: Disk, F: Files>(
     }
     let actives = catalog.actives().as_slice();
     run_actives(
-        disk, &shape, actives, version, &tables, &mut filled, &mut buffer, files, name,
+        disk,
+        &shape,
+        actives,
+        version,
+        &tables,
+        &mut filled,
+        &mut buffer,
+        files,
+        name,
     )?;
     if let Some(index) = first_missing(&filled) {
         let damage = Damage::Missing {

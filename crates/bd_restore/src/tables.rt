@@ -76,7 +76,13 @@ impl Tables {
         ensures { IsLast (mark_at self.now) mark.now.0 (length self.now) result }
     {
         let start = self.heads[bucket_of(mark, self.heads.len())];
-        search(self.recipe.as_slice(), &self.heads, &self.earlier, mark, start)
+        search(
+            self.recipe.as_slice(),
+            &self.heads,
+            &self.earlier,
+            mark,
+            start,
+        )
     }
 
     /// The same of the last one before this entry that has its mark.
@@ -85,7 +91,13 @@ impl Tables {
         ensures { IsLast (mark_at self.now) (mark_at self.now index) index result }
     {
         let entries = self.recipe.as_slice();
-        search(entries, &self.heads, &self.earlier, &entries[index].mark, self.earlier[index])
+        search(
+            entries,
+            &self.heads,
+            &self.earlier,
+            &entries[index].mark,
+            self.earlier[index],
+        )
     }
 }
 

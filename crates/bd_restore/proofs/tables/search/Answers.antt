@@ -33,12 +33,12 @@ loop-last-preserved c =
       none = λ k low high same.
           let side = cases_lt k last in
           elim side [
-            inl below ↦
-              (let at = cases_eq k (last - 1) in
-              elim at [
-                inl is ↦ other (ap (mark_at entries) (sym is) ∙ same)
-              | inr not ↦ link.none k low (omega (arith, below, not)) (bucket_here count entries k m (omega (arith, high, c.requires.within)) same ∙ sym here)
-              ])
-          | inr above ↦ inv.none k above high same
+            | inl below ↦
+                (let at = cases_eq k (last - 1) in
+                elim at [
+                  | inl is ↦ other (ap (mark_at entries) (sym is) ∙ same)
+                  | inr not ↦ link.none k low (omega (arith, below, not)) (bucket_here count entries k m (omega (arith, high, c.requires.within)) same ∙ sym here)
+                ])
+            | inr above ↦ inv.none k above high same
           ];
     }
