@@ -1,5 +1,6 @@
 mod Answering
 mod Chains
+mod Contents
 mod Finishing
 mod Joining
 mod Marks

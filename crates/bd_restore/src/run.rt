@@ -1,10 +1,11 @@
-ghost use Rattle.std.specs.Prelude.{◌≡◌, [], ◌≤◌, IfOk, OnOk};
+ghost use Rattle.std.specs.Prelude.{◌≡◌, [], ◌<◌, ◌≤◌, IfOk, OnOk};
 ghost use Rattle.std.specs.FinMap as map;
 ghost use Rattle.bd_disk.specs.History.{contents};
 ghost use Rattle.bd_disk.specs.Made.{WritesNothing};
 ghost use Rattle.bd_disk.specs.Trace.{ReadsOnly};
 ghost use Rattle.bd_files.specs.Files.{ChangesOnly};
 ghost use Rattle.bd_model.specs.Sizes.{disk_bytes};
+ghost use Rattle.bd_catalog.specs.Sound.{content, recipe_of};
 ghost use Rattle.bd_recipe.specs.Reading.{total};
 ghost use Rattle.bd_restore.specs.Faults.{FailsByDisk, FailsByTarget};
 ghost use Rattle.bd_restore.specs.Walk.{joined, open_walk, records_at, walk_reads};
@@ -39,6 +40,10 @@ pub fn run_plan<D: Disk, F: Files>(
     ensures writes { D.tells → WritesNothing (D.history disk.old) (D.history disk.new) }
     ensures length { IfOk result (λ bytes. bytes ≡ total plan.entries) }
     ensures file { OnOk result (D.tells → F.tells → F.files files.new ≡ map.insert (F.files files.old) name.now (joined plan.entries (records_at (open_walk catalog.now.found.sizes (contents (D.history disk.old)) plan.version catalog.now.found.catalogue.actives)))) }
+    // Of the newest version, whose records lie in the open categories alone, this is its content.
+    ensures content { OnOk result (D.tells → F.tells → 0 < plan.version → catalog.now.found.catalogue.newest ≤ plan.version
+        → plan.entries ≡ recipe_of catalog.now.found.sizes catalog.now.found.catalogue (contents (D.history disk.old)) plan.version
+        → F.files files.new ≡ map.insert (F.files files.old) name.now (content catalog.now.found (contents (D.history disk.old)) plan.version)) }
     ensures places { OnOk result (D.tells → ReadsOnly (walk_reads catalog.now.found.sizes plan.entries [] (open_walk catalog.now.found.sizes (contents (D.history disk.old)) plan.version catalog.now.found.catalogue.actives)) (D.history disk.old) (D.history disk.new)) }
 {
     let (version, length, tables, mut filled, mut buffer) = plan.into_parts();

@@ -1,4 +1,4 @@
-use Rattle.std.proofs.Common.{◌≡◌, ℕ, ◌+◌, ◌<◌, ◌≤◌, Bool, true, false, List, [], ◌++◌, length, replicate, ◌∙◌, ap, sym, refl, subst, arith, rules, Some}
+use Rattle.std.proofs.Common.{◌≡◌, ℕ, ◌+◌, ◌-◌, ◌<◌, ◌≤◌, Bool, true, false, List, [], ◌++◌, length, replicate, ◌∙◌, ap, sym, refl, subst, arith, rules, Some}
 use Rattle.std.specs.Prelude.{All}
 use Rattle.std.specs.Prelude.{map as each}
 use Rattle.std.specs.FinMap as map
@@ -12,6 +12,9 @@ use Rattle.bd_files.specs.Files.{ChangesOnly}
 use Rattle.bd_recipe.specs.Reading.{total}
 use Rattle.bd_restore.specs.Target.{held, flag_at, IsTarget}
 use Rattle.bd_restore.specs.Walk.{open_walk, records_at, walk_reads, joined, AreFlags, AreGiven, Gives, IsOpen, Walks}
+use Rattle.bd_model.specs.Chunks.{numbers}
+use Rattle.bd_model.proofs.ListLemmas.{numbers-none}
+use Rattle.bd_restore.proofs.Contents.{newest_records}
 use Rattle.bd_restore.proofs.Finishing.{ok_of, are_open, flags_none, given_none, target_begun, all_given, only_put}
 use Rattle.bd_restore.proofs.Putting.{changes_both}
 use Rattle.bd_restore.proofs.run.run_plan.Goals as goal
@@ -80,3 +83,14 @@ returns-clause-file g c = λ told tells.
     ∙ ap (λ n. map.insert old name (joined c.args.plan.entries (records_at (open_walk s image n opens)))) c.into_parts-version.ensures.version
     ∙ ap (λ es. map.insert old name (joined c.args.plan.entries (records_at (open_walk s image c.args.plan.version es)))) same
     ∙ ap (λ (t : Sizes). map.insert old name (joined c.args.plan.entries (records_at (open_walk t image c.args.plan.version found.catalogue.actives)))) c.shape-shape.ensures.sizes
+
+pub returns-clause-content : goal.returns-clause-content
+returns-clause-content g c = λ told tells some newest is.
+    let found = c.args.catalog.now.found in
+    let s = found.sizes in
+    let v = c.args.plan.version in
+    let image = contents (g.D.Disk.history c.args.disk.now) in
+    let none : numbers v (found.catalogue.newest - 1) ≡ [] = numbers-none v (found.catalogue.newest - 1) (omega arith) in
+    let records = newest_records s image v found.catalogue none in
+    returns-clause-file g c told tells
+    ∙ (λ i. map.insert (g.F.Files.files c.args.files.now) c.args.name.now (joined (is i) (records i)))
