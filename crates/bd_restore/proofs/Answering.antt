@@ -1,9 +1,9 @@
 -- What is known of an answer that passes a fault on.
-use Rattle.std.proofs.Common.{◌≡◌, ℕ, ◌≤◌, sym, subst, arith}
+use Rattle.std.proofs.Common.{◌≡◌, ℕ, sym, subst, arith}
 use Rattle.std.specs.Prelude.{Result, Ok, Err, IsErrAnd}
 use Rattle.bd_restore.specs.declared.fault.RestoreFault.{RestoreFault}
 use Rattle.bd_restore.specs.declared.fault.RestoreFault.TheVariants.{TargetFault, DiskFault, Damaged, OutOfMemory}
-use Rattle.bd_restore.specs.Faults.{OfTarget, FailsByDisk, DiskByCount}
+use Rattle.bd_restore.specs.Faults.{OfTarget, FailsByDisk}
 
 -- the disk's count stays where the fault isn't the disk's
 pub disk_stays : (U : Type 0) {T : Type 0} (before now : ℕ) (fault : RestoreFault) (result : Result T RestoreFault) → IsErrAnd result (λ e. e ≡ fault) → OfTarget {T = U} (Err fault) → now ≡ before → FailsByDisk before now result

@@ -1,12 +1,12 @@
 -- The records of the newest version's walk are those in which its content is looked for.
-use Rattle.std.proofs.Common.{◌≡◌, ℕ, zero, suc, ◌+◌, ◌-◌, ◌<◌, ◌≤◌, Bool, true, false, cond, List, [], ◌∷◌, ◌++◌, take, drop, map, refl, sym, ◌∙◌, ap, arith, drop-drop}
+use Rattle.std.proofs.Common.{◌≡◌, ℕ, zero, suc, ◌+◌, ◌-◌, Bool, true, false, cond, List, [], ◌∷◌, ◌++◌, take, drop, map, refl, sym, ◌∙◌, ap, arith, drop-drop}
 use Rattle.std.specs.Prelude.{filter, nat_le}
 use Rattle.std.specs.List.{flat_map}
 use Rattle.std.proofs.lemmas.List.{map-append}
 use Rattle.bd_model.specs.Sizes.{Sizes}
 use Rattle.bd_model.specs.Chunks.{numbers}
 use Rattle.bd_model.specs.Extents.{owner_bytes}
-use Rattle.bd_model.specs.Records.{Stored, stored_at, stored_in}
+use Rattle.bd_model.specs.Records.{stored_at, stored_in}
 use Rattle.bd_catalog.specs.Catalogue.{Catalogue, OpenEntry}
 use Rattle.bd_catalog.specs.Sound.{Part, part_records, volume_parts, active_parts, records_for}
 use Rattle.bd_restore.specs.Walk.{Spot, records_at, spots_from, open_spots, open_walk}

@@ -1,5 +1,5 @@
 -- Before the first record, and after the last.
-use Rattle.std.proofs.Common.{◌≡◌, ℕ, zero, suc, ◌+◌, ◌-◌, ◌*◌, ◌<◌, ◌≤◌, Bool, true, false, cond, T, ◌&&◌, List, [], ◌∷◌, ◌++◌, length, take, drop, get_or, map, replicate, refl, sym, ◌∙◌, ap, subst, arith, ◌⊎◌, inl, inr, Some, nat_le}
+use Rattle.std.proofs.Common.{◌≡◌, ℕ, zero, suc, ◌+◌, ◌*◌, ◌<◌, ◌≤◌, Bool, true, false, cond, T, List, [], ◌∷◌, ◌++◌, length, take, drop, get_or, replicate, refl, sym, ◌∙◌, ap, subst, arith, inl, inr, Some}
 use Rattle.std.specs.Prelude.{IsTrue, All, ◌==◌, Result, Ok, Err, OnOk}
 use Rattle.std.specs.Result.{is_err}
 use Rattle.std.specs.List.{list_all, flat_map}
@@ -28,7 +28,7 @@ use Rattle.bd_recipe.specs.Reading.{total}
 use Rattle.bd_recipe.proofs.Versions.{are_left, are_right, are_all}
 use Rattle.bd_restore.specs.Tables.{mark_at, length_at, place_at}
 use Rattle.bd_restore.specs.Target.{held, IsTarget, chunk_at, flag_at}
-use Rattle.bd_restore.specs.Walk.{is_found, joined, AreFlags, AreGiven, IsOpen}
+use Rattle.bd_restore.specs.Walk.{joined, AreFlags, AreGiven, IsOpen}
 use Rattle.bd_restore.proofs.Putting.{place-cons, held_put, held_is}
 use Rattle.bd_restore.proofs.Walking.{bool_cases}
 

@@ -1,17 +1,14 @@
 -- Bodies that are put at the places of entries.
-use Rattle.std.proofs.Common.{◌≡◌, ◌≢◌, ℕ, zero, suc, ◌+◌, ◌-◌, ◌<◌, ◌≤◌, Bool, true, false, cond, List, [], ◌∷◌, length, take, get_or, set, map, refl, sym, ◌∙◌, ap, subst, arith, ◌⊎◌, inl, inr, Some, unwrap_or}
+use Rattle.std.proofs.Common.{◌≡◌, ◌≢◌, ℕ, zero, suc, ◌+◌, ◌<◌, ◌≤◌, Bool, true, false, List, [], ◌∷◌, length, take, set, refl, sym, ◌∙◌, ap, subst, arith, inl, inr, Some, unwrap_or}
 use Rattle.std.specs.FinMap as map
-use Rattle.std.specs.FinMap.{get-insert, same_map, IsAntisymmetric, nat_cmp-IsAntisymmetric, slice_cmp-IsAntisymmetric}
-use Rattle.std.specs.Ordering.{nat_cmp, eq_by_cmp}
-use Rattle.std.specs.Cmp.Lexicographic.{slice_cmp, nat_list_cmp_total}
 use Rattle.std.proofs.lemmas.List.{take_all, length-set, get_or-set_same, get_or-set_other}
 use Rattle.std.proofs.lemmas.List.Sums.{sum_by-cons}
 use Rattle.std.proofs.lemmas.Bool.{cases_eq, cases_order}
-use Rattle.bd_disk.specs.Images.{InRange, AgreeBut, bytes_at, overwritten}
+use Rattle.bd_disk.specs.Images.{InRange, bytes_at, overwritten}
 use Rattle.bd_disk.proofs.Agreeing.{bytes_at-overwritten, length-overwritten, overwrite_agrees, same_bytes_at}
 use Rattle.bd_model.specs.FileMap.{FileMap}
 use Rattle.bd_model.specs.declared.layout.RecipeEntry.{RecipeEntry}
-use Rattle.bd_files.specs.Files.{ChangesOnly, Holds}
+use Rattle.bd_files.specs.Files.{ChangesOnly}
 use Rattle.bd_files.proofs.FileLemmas.{holds_what_was_put}
 use Rattle.bd_recipe.specs.Reading.{total}
 use Rattle.bd_restore.specs.Tables.{mark_at, length_at, place_at, IsLast}

@@ -1,7 +1,6 @@
 -- One record more on a walk, and walks that follow each other.
-use Rattle.std.proofs.Common.{◌≡◌, ◌≢◌, ℕ, zero, suc, ◌+◌, ◌-◌, ◌<◌, ◌≤◌, Bool, true, false, cond, ◌&&◌, not, List, [], ◌∷◌, ◌++◌, length, take, drop, get_or, map, refl, sym, ◌∙◌, ap, subst, arith, append_assoc, length-append, ◌⊎◌, inl, inr}
-use Rattle.std.specs.Prelude.{bytes_eq, nat_lt, if◌then◌else◌, filter, IsTrue}
-use Rattle.std.specs.List.{list_any}
+use Rattle.std.proofs.Common.{◌≡◌, ◌≢◌, ℕ, ◌+◌, ◌-◌, ◌<◌, Bool, true, false, cond, ◌&&◌, not, List, [], ◌∷◌, ◌++◌, length, get_or, refl, sym, ◌∙◌, ap, subst, arith, length-append, ◌⊎◌, inl, inr}
+use Rattle.std.specs.Prelude.{bytes_eq, nat_lt}
 use Rattle.std.proofs.lemmas.List.{append-nil}
 use Rattle.std.proofs.lemmas.List.Elements.{filter-append}
 use Rattle.std.proofs.lemmas.List.Folds.{list_any_at, list_any_none}
@@ -9,15 +8,14 @@ use Rattle.std.proofs.lemmas.Bool.{lt-ltb, ltb-true}
 use Rattle.std.proofs.lemmas.Slice.Eq.{bytes_eq-Decides}
 use Rattle.bd_disk.specs.History.{History}
 use Rattle.bd_disk.specs.Trace.{ReadsOnly}
-use Rattle.bd_disk.proofs.Traces.{reads_both}
 use Rattle.bd_model.specs.Sizes.{Sizes}
 use Rattle.bd_model.specs.Extents.{places_at}
 use Rattle.bd_model.specs.Records.{Stored}
 use Rattle.bd_model.specs.declared.layout.RecipeEntry.{RecipeEntry}
 use Rattle.bd_catalog.specs.Sound.{with_mark, first_body}
 use Rattle.bd_restore.specs.Tables.{mark_at, IsLast}
-use Rattle.bd_restore.specs.Target.{chunk_at, flag_at, Fills, Puts}
-use Rattle.bd_restore.specs.Walk.{Spot, records_at, has_entry, is_found, is_wanted, walk_reads, AreFlags, AreGiven, Walks, Gives}
+use Rattle.bd_restore.specs.Target.{flag_at, Fills, Puts}
+use Rattle.bd_restore.specs.Walk.{Spot, has_entry, is_found, is_wanted, AreFlags, AreGiven, Walks, Gives}
 use Rattle.bd_restore.proofs.Marks.{mark_here, no_entry}
 
 -- ---- tests

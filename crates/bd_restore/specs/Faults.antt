@@ -1,5 +1,5 @@
 -- Why a version wasn't given back, and by which count.
-use Rattle.std.specs.Prelude.{◌≡◌, ◌≢◌, ℕ, ◌≤◌, Result, Ok, Err}
+use Rattle.std.specs.Prelude.{◌≡◌, ℕ, ◌≤◌, Result, Ok, Err}
 use Rattle.bd_disk.specs.Calls.{Rose}
 use Rattle.bd_model.specs.declared.damage.Damage.{Damage}
 use Rattle.bd_category.specs.declared.fault.CategoryFault.{CategoryFault}

@@ -1,5 +1,5 @@
-use Rattle.std.proofs.Common.{◌≡◌, ℕ, ◌+◌, ◌<◌, ◌≤◌, List, [], ◌∷◌, ◌++◌, length, take, get_or, map, sym, ◌∙◌, ap, subst, arith}
-use Rattle.std.proofs.lemmas.List.{take_more, take_all, get_or-map, get_or_read, length-map}
+use Rattle.std.proofs.Common.{◌≡◌, ◌+◌, ◌<◌, List, [], ◌∷◌, ◌++◌, length, take, get_or, map, sym, ◌∙◌, ap, subst, arith}
+use Rattle.std.proofs.lemmas.List.{take_more, get_or-map, length-map}
 use Rattle.bd_disk.specs.History.{contents}
 use Rattle.bd_disk.proofs.Frames.{made_both, unchanged}
 use Rattle.bd_model.specs.Sizes.{sizes_of}
@@ -7,7 +7,7 @@ use Rattle.bd_catalog.specs.Catalogue.{OpenEntry}
 use Rattle.bd_catalog.specs.Shown.{open_entry}
 use Rattle.bd_restore.specs.Target.{held}
 use Rattle.bd_restore.specs.Walk.{open_walk, Gives, IsOpen, Walks}
-use Rattle.bd_restore.proofs.Joining.{walks_both, gives_both, walks_none, gives_none, walk-append}
+use Rattle.bd_restore.proofs.Joining.{walks_both, gives_both, walk-append}
 use Rattle.bd_restore.proofs.Putting.{changes_both}
 use Rattle.bd_restore.proofs.actives.run_actives.Goals as goal
 

@@ -1,4 +1,4 @@
-use Rattle.std.proofs.Common.{◌≡◌, ◌≤◌, length, take}
+use Rattle.std.proofs.Common.{◌≡◌, ◌≤◌, take}
 use Rattle.bd_disk.specs.History.{contents}
 use Rattle.bd_disk.specs.Made.{WritesNothing}
 use Rattle.bd_files.specs.Files.{ChangesOnly}

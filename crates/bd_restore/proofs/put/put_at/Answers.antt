@@ -1,4 +1,4 @@
-use Rattle.std.proofs.Common.{◌≡◌, ◌≤◌, ◌+◌, length, arith}
+use Rattle.std.proofs.Common.{arith}
 use Rattle.bd_restore.proofs.Putting.{place_within}
 use Rattle.bd_restore.specs.Target.{held}
 use Rattle.bd_restore.proofs.put.put_at.Goals as goal

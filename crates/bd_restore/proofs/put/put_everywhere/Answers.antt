@@ -1,4 +1,4 @@
-use Rattle.std.proofs.Common.{◌≡◌, ◌<◌, ◌≤◌, ◌+◌, ◌-◌, length, get_or, sym, ◌∙◌, ap, subst, arith}
+use Rattle.std.proofs.Common.{◌≡◌, ◌<◌, ◌+◌, ◌-◌, length, ◌∙◌, subst, arith}
 use Rattle.bd_restore.specs.Tables.{mark_at, IsLast}
 use Rattle.bd_restore.specs.Target.{held}
 use Rattle.bd_restore.proofs.Putting.{target_after, puts_more, fills_more, changes_both}

@@ -1,4 +1,4 @@
-use Rattle.std.proofs.Common.{◌≡◌, ℕ, ◌-◌, ◌<◌, ◌≤◌, length}
+use Rattle.std.proofs.Common.{◌≡◌, ◌-◌, ◌<◌, ◌≤◌, length}
 use Rattle.bd_files.specs.Files.{ChangesOnly}
 use Rattle.bd_restore.specs.Tables.{mark_at}
 use Rattle.bd_restore.specs.Target.{held, IsTarget, Fills, Puts}

@@ -1,4 +1,4 @@
-use Rattle.std.proofs.Common.{◌≡◌, ℕ, ◌+◌, ◌-◌, ◌*◌, ◌^◌, ◌<◌, ◌≤◌, true, false, not, List, [], ◌++◌, length, take, drop, sym, ◌∙◌, ap, subst, arith}
+use Rattle.std.proofs.Common.{◌≡◌, ◌+◌, ◌-◌, false, [], take, drop, sym, ◌∙◌, ap, subst, arith}
 use Rattle.std.specs.Prelude.{nat_lt, if◌then◌else◌}
 use Rattle.std.proofs.lemmas.Bool.{le-ltb}
 use Rattle.bd_disk.specs.History.{contents}
@@ -7,11 +7,11 @@ use Rattle.bd_disk.proofs.Frames.{made_both, unchanged}
 use Rattle.bd_disk.proofs.Traces.{reads_both}
 use Rattle.bd_model.specs.Sizes.{sizes_of}
 use Rattle.bd_model.specs.Extents.{owner_bytes, places_at}
-use Rattle.bd_model.specs.Records.{Stored, stored_at}
+use Rattle.bd_model.specs.Records.{stored_at}
 use Rattle.bd_extio.proofs.Places.{range_small}
 use Rattle.bd_category.specs.Records.{body_at}
 use Rattle.bd_restore.specs.Target.{held, Fills, Puts}
-use Rattle.bd_restore.specs.Walk.{is_wanted, AreFlags}
+use Rattle.bd_restore.specs.Walk.{is_wanted}
 use Rattle.bd_restore.proofs.Answering.{disk_stays}
 use Rattle.bd_restore.proofs.Reading.{IsStored, is_stored}
 use Rattle.bd_restore.proofs.Walking.{walks_unwanted, gives_unwanted, walks_wanted, gives_wanted}

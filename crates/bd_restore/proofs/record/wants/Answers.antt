@@ -1,4 +1,4 @@
-use Rattle.std.proofs.Common.{◌≡◌, sym, ◌∙◌, ap, arith}
+use Rattle.std.proofs.Common.{◌∙◌, arith}
 use Rattle.std.proofs.lemmas.Bool.{le-ltb}
 use Rattle.bd_restore.proofs.Walking.{wanted_by, unwanted_by}
 use Rattle.bd_restore.proofs.record.wants.Goals as goal

@@ -1,4 +1,4 @@
-use Rattle.std.proofs.Common.{◌≡◌, ℕ, ◌+◌, ◌-◌, ◌<◌, ◌≤◌, Bool, true, false, List, [], ◌++◌, length, replicate, ◌∙◌, ap, sym, refl, subst, arith, rules, Some}
+use Rattle.std.proofs.Common.{◌≡◌, ℕ, ◌-◌, ◌<◌, ◌≤◌, true, false, [], length, replicate, ◌∙◌, ap, sym, subst, arith, Some}
 use Rattle.std.specs.Prelude.{All}
 use Rattle.std.specs.Prelude.{map as each}
 use Rattle.std.specs.FinMap as map
@@ -6,12 +6,11 @@ use Rattle.std.proofs.lemmas.List.{take_at}
 use Rattle.bd_disk.specs.History.{contents}
 use Rattle.bd_disk.specs.Trace.{ReadsOnly}
 use Rattle.bd_model.specs.Sizes.{Sizes, sizes_of}
-use Rattle.bd_catalog.specs.Catalogue.{OpenEntry}
 use Rattle.bd_catalog.specs.Shown.{open_entry}
 use Rattle.bd_files.specs.Files.{ChangesOnly}
 use Rattle.bd_recipe.specs.Reading.{total}
 use Rattle.bd_restore.specs.Target.{held, flag_at, IsTarget}
-use Rattle.bd_restore.specs.Walk.{open_walk, records_at, walk_reads, joined, AreFlags, AreGiven, Gives, IsOpen, Walks}
+use Rattle.bd_restore.specs.Walk.{open_walk, records_at, walk_reads, joined, AreFlags, AreGiven, IsOpen}
 use Rattle.bd_model.specs.Chunks.{numbers}
 use Rattle.bd_model.proofs.ListLemmas.{numbers-none}
 use Rattle.bd_restore.proofs.Contents.{newest_records}

@@ -1,4 +1,4 @@
-use Rattle.std.proofs.Common.{◌≡◌, ℕ, ◌+◌, ◌<◌, ◌≤◌, get_or, length}
+use Rattle.std.proofs.Common.{◌≡◌, ℕ, ◌<◌, get_or, length}
 use Rattle.bd_restore.specs.Tables.{bucket_at, IsLast}
 use Rattle.bd_restore.proofs.tables.chains_of.Given as goal
 

@@ -1,4 +1,4 @@
-use Rattle.std.proofs.Common.{◌≡◌, ◌<◌, ◌≤◌, ◌+◌, length, get_or, sym, ◌∙◌, ap, subst, arith}
+use Rattle.std.proofs.Common.{◌≡◌, ◌<◌, length, get_or, sym, ◌∙◌, ap, subst, arith}
 use Rattle.std.proofs.lemmas.List.{get_or_read}
 use Rattle.bd_restore.specs.Tables.{bucket_at, bucket_of, mark_at, IsLast}
 use Rattle.bd_restore.proofs.Marks.{last_through, mark_here, bucket_here, no_entry}
