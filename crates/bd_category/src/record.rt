@@ -1,4 +1,4 @@
-ghost use Rattle.std.specs.Prelude.{◌≡◌, ◌+◌, ◌*◌, ◌≤◌, [], ◌++◌, length, take, drop, OnOk};
+ghost use Rattle.std.specs.Prelude.{◌≡◌, ◌+◌, ◌*◌, ◌≤◌, [], ◌++◌, length, take, drop, IfOk, OnOk};
 ghost use Rattle.std.specs.Int.{w32, from_be_bytes};
 ghost use Rattle.bd_disk.specs.Calls.{HasCause};
 ghost use Rattle.bd_disk.specs.History.{contents};
@@ -65,6 +65,9 @@ pub fn read_header<D: Disk>(
     ensures cause { FailsByCount (D.faults disk.old) (D.faults disk.new) result }
     ensures writes { D.tells → WritesNothing (D.history disk.old) (D.history disk.new) }
     ensures header { D.tells → AnswersHeader (header_at (sizes_of shape.now) who at end (owner_bytes (sizes_of shape.now) extents.now (contents (D.history disk.old)))) result }
+    ensures short { IfOk result (λ header. header.length ≤ shape.now.max) }
+    ensures place { IfOk result (λ header. header.at ≡ at) }
+    ensures within { IfOk result (λ header. at + 36 + header.length ≤ end) }
     ensures places { D.tells → ReadsHeader (sizes_of shape.now) extents.now at end (D.history disk.old) (D.history disk.new) result }
 {
     let left = end - at;
@@ -143,7 +146,10 @@ fn checked_header(
     at: u64,
     left: u64,
 ) -> Result<Header, Damage>
-    ensures { result ≡ header_in max who at left bytes.now }
+    ensures so { result ≡ header_in max who at left bytes.now }
+    ensures short { IfOk result (λ header. header.length ≤ max) }
+    ensures place { IfOk result (λ header. header.at ≡ at) }
+    ensures within { IfOk result (λ header. header.length ≤ left) }
 {
     let (length, mark) = parts_of(bytes);
     if length >= 1 && length <= max && u64::from(length) <= left {

@@ -1,0 +1,9 @@
+mod Answering
+mod Chains
+mod Contents
+mod Finishing
+mod Joining
+mod Marks
+mod Putting
+mod Reading
+mod Walking

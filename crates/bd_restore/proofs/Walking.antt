@@ -1,0 +1,203 @@
+-- One record more on a walk, and walks that follow each other.
+use Rattle.std.proofs.Common.{◌≡◌, ◌≢◌, ℕ, ◌+◌, ◌-◌, ◌<◌, Bool, true, false, cond, ◌&&◌, not, List, [], ◌∷◌, ◌++◌, length, get_or, refl, sym, ◌∙◌, ap, subst, arith, length-append, ◌⊎◌, inl, inr}
+use Rattle.std.specs.Prelude.{bytes_eq, nat_lt}
+use Rattle.std.proofs.lemmas.List.{append-nil}
+use Rattle.std.proofs.lemmas.List.Elements.{filter-append}
+use Rattle.std.proofs.lemmas.List.Folds.{list_any_at, list_any_none}
+use Rattle.std.proofs.lemmas.Bool.{lt-ltb, ltb-true}
+use Rattle.std.proofs.lemmas.Slice.Eq.{bytes_eq-Decides}
+use Rattle.bd_disk.specs.History.{History}
+use Rattle.bd_disk.specs.Trace.{ReadsOnly}
+use Rattle.bd_model.specs.Sizes.{Sizes}
+use Rattle.bd_model.specs.Extents.{places_at}
+use Rattle.bd_model.specs.Records.{Stored}
+use Rattle.bd_model.specs.declared.layout.RecipeEntry.{RecipeEntry}
+use Rattle.bd_catalog.specs.Sound.{with_mark, first_body}
+use Rattle.bd_restore.specs.Tables.{mark_at, IsLast}
+use Rattle.bd_restore.specs.Target.{flag_at, Fills, Puts}
+use Rattle.bd_restore.specs.Walk.{Spot, has_entry, is_found, is_wanted, AreFlags, AreGiven, Walks, Gives}
+use Rattle.bd_restore.proofs.Marks.{mark_here, no_entry}
+
+-- ---- tests
+
+pub bool_cases : (b : Bool) → (b ≡ true) ⊎ (b ≡ false)
+bool_cases true = inl refl
+bool_cases false = inr refl
+
+pub false_by : (b : Bool) → (b ≡ true → ⊥) → b ≡ false
+false_by true not_so = absurd (not_so refl)
+false_by false not_so = refl
+
+apart_eq : (x y : List ℕ) → (x ≡ y → ⊥) → bytes_eq x y ≡ false
+apart_eq x y ne = false_by (bytes_eq x y) (λ t. ne ((bytes_eq-Decides x y).0 t))
+
+not_false : (a b : Bool) → a ≡ true → (a && not b) ≡ false → b ≡ true
+not_false a true hit is = refl
+not_false true false hit is = absurd (miss is) where
+  miss : true ≡ false → ⊥
+  miss h = cc
+not_false false false hit is = absurd (miss hit) where
+  miss : false ≡ true → ⊥
+  miss h = cc
+
+both_true : (a b : Bool) → (a && not b) ≡ true → b ≡ false
+both_true a false is = refl
+both_true true true is = absurd (miss is) where
+  miss : false ≡ true → ⊥
+  miss h = cc
+both_true false true is = absurd (miss is) where
+  miss : false ≡ true → ⊥
+  miss h = cc
+
+clash : {A : Type 0} (b : Bool) → b ≡ true → b ≡ false → A
+clash {A} b hit miss = absurd (tf (sym hit ∙ miss)) where
+  tf : true ≡ false → ⊥
+  tf h = cc
+
+-- ---- entries with a mark
+
+pub has_true : (entries : List RecipeEntry) (m : List ℕ) (k : ℕ) → k < length entries → mark_at entries k ≡ m → has_entry entries m ≡ true
+has_true entries m k lt same =
+    list_any_at (λ e. bytes_eq e.mark.0 m) entries k no_entry lt ((bytes_eq-Decides (get_or entries k no_entry).mark.0 m).1 (sym (mark_here entries k no_entry lt) ∙ same))
+
+pub has_false : (entries : List RecipeEntry) (m : List ℕ) → ((k : ℕ) → k < length entries → mark_at entries k ≢ m) → has_entry entries m ≡ false
+has_false entries m none = list_any_none (λ e. bytes_eq e.mark.0 m) entries (λ k d lt. apart_eq (get_or entries k d).mark.0 m (λ same. none k lt (mark_here entries k d lt ∙ same)))
+
+-- ---- a body that is wanted, by the last entry with its mark
+
+module _ (entries : List RecipeEntry) (m : List ℕ) (last : ℕ) (filled : List Bool) (is : IsLast (mark_at entries) m (length entries) last) where
+  pub wanted_by : 0 < last → (seen : List Stored) → AreFlags entries seen filled → not (flag_at filled (last - 1)) ≡ is_wanted entries seen m
+  wanted_by some seen flags =
+      let lt : last - 1 < length entries = omega (arith, some, is.within) in
+      let has : has_entry entries m ≡ true = has_true entries m (last - 1) lt (is.here some) in
+      let flag : flag_at filled (last - 1) ≡ is_found seen m = flags.each (last - 1) lt ∙ ap (is_found seen) (is.here some) in
+      ap not flag ∙ ap (λ b. b && not (is_found seen m)) (sym has)
+
+  pub unwanted_by : (0 < last → ⊥) → (seen : List Stored) → AreFlags entries seen filled → false ≡ is_wanted entries seen m
+  unwanted_by miss seen flags =
+      let has : has_entry entries m ≡ false = has_false entries m (λ k lt. is.none k (omega (arith, no_more miss)) lt) in
+      ap (λ b. b && not (is_found seen m)) (sym has) where
+        no_more : (0 < last → ⊥) → last ≡ 0
+        no_more miss = omega (arith, miss)
+
+-- ---- one record more
+
+front_body : (xs ys : List Stored) → nat_lt 0 (length xs) ≡ true → first_body (xs ++ ys) ≡ first_body xs
+front_body [] ys some = absurd (miss some) where
+  miss : nat_lt 0 0 ≡ true → ⊥
+  miss h = cc
+front_body (x ∷ xs) ys some = refl
+
+front_found : (xs ys : List Stored) → nat_lt 0 (length xs) ≡ true → nat_lt 0 (length (xs ++ ys)) ≡ true
+front_found xs ys some = lt-ltb 0 (length (xs ++ ys)) (omega (arith, length-append xs ys, ltb-true 0 (length xs) some))
+
+none_found : (xs : List Stored) → nat_lt 0 (length xs) ≡ false → xs ≡ []
+none_found [] miss = refl
+none_found (x ∷ xs) miss = clash (nat_lt 0 (length (x ∷ xs))) (lt-ltb 0 (length (x ∷ xs)) (omega arith)) miss
+
+module _ (seen : List Stored) (r : Stored) (m : List ℕ) where
+  more : with_mark m (seen ++ r ∷ []) ≡ with_mark m seen ++ with_mark m (r ∷ [])
+  more = filter-append (λ x. bytes_eq x.mark m) seen (r ∷ [])
+
+  still_found : is_found seen m ≡ true → is_found (seen ++ r ∷ []) m ≡ true
+  still_found some = ap (λ l. nat_lt 0 (length l)) more ∙ front_found (with_mark m seen) (with_mark m (r ∷ [])) some
+
+  same_first : is_found seen m ≡ true → first_body (with_mark m (seen ++ r ∷ [])) ≡ first_body (with_mark m seen)
+  same_first some = ap first_body more ∙ front_body (with_mark m seen) (with_mark m (r ∷ [])) some
+
+  other_same : bytes_eq r.mark m ≡ false → with_mark m (seen ++ r ∷ []) ≡ with_mark m seen
+  other_same miss = more ∙ ap (λ b. with_mark m seen ++ cond b (r ∷ []) []) miss ∙ append-nil (with_mark m seen)
+
+  with_it : bytes_eq r.mark m ≡ true → with_mark m (seen ++ r ∷ []) ≡ with_mark m seen ++ r ∷ []
+  with_it hit = more ∙ ap (λ b. with_mark m seen ++ cond b (r ∷ []) []) hit
+
+  now_found : bytes_eq r.mark m ≡ true → is_found (seen ++ r ∷ []) m ≡ true
+  now_found hit = ap (λ l. nat_lt 0 (length l)) (with_it hit) ∙ lt-ltb 0 (length (with_mark m seen ++ r ∷ [])) (omega (arith, length-append (with_mark m seen) (r ∷ [])))
+
+  first_now : is_found seen m ≡ false → bytes_eq r.mark m ≡ true → first_body (with_mark m (seen ++ r ∷ [])) ≡ r.body
+  first_now miss hit = ap first_body (with_it hit) ∙ ap (λ l. first_body (l ++ r ∷ [])) (none_found (with_mark m seen) miss)
+
+module _ (entries : List RecipeEntry) (seen : List Stored) (r : Stored) where
+  mark_is : (k : ℕ) → bytes_eq r.mark (mark_at entries k) ≡ true → mark_at entries k ≡ r.mark
+  mark_is k hit = sym ((bytes_eq-Decides r.mark (mark_at entries k)).0 hit)
+
+  module _ (unwanted : is_wanted entries seen r.mark ≡ false) where
+    found_then : (k : ℕ) → k < length entries → bytes_eq r.mark (mark_at entries k) ≡ true → is_found seen (mark_at entries k) ≡ true
+    found_then k lt hit = ap (is_found seen) (mark_is k hit) ∙ not_false (has_entry entries r.mark) (is_found seen r.mark) (has_true entries r.mark k lt (mark_is k hit)) unwanted
+
+    same_found : (k : ℕ) → k < length entries → is_found seen (mark_at entries k) ≡ is_found (seen ++ r ∷ []) (mark_at entries k)
+    same_found k lt =
+        let which = bool_cases (bytes_eq r.mark (mark_at entries k)) in
+        elim which [
+          | inl hit ↦ found_then k lt hit ∙ sym (now_found seen r (mark_at entries k) hit)
+          | inr miss ↦ ap (λ l. nat_lt 0 (length l)) (sym (other_same seen r (mark_at entries k) miss))
+        ]
+
+    pub flags_unwanted : (filled : List Bool) → AreFlags entries seen filled → AreFlags entries (seen ++ r ∷ []) filled
+    flags_unwanted filled flags = record { count = flags.count; each = λ k lt. flags.each k lt ∙ same_found k lt }
+
+    pub given_unwanted : (file : List ℕ) → AreGiven entries seen file → AreGiven entries (seen ++ r ∷ []) file
+    given_unwanted file given = record {
+      each = λ k lt found.
+          let some : is_found seen (mark_at entries k) ≡ true = same_found k lt ∙ found in
+          given.each k lt some ∙ sym (same_first seen r (mark_at entries k) some);
+    }
+
+  module _ (wanted : is_wanted entries seen r.mark ≡ true) where
+    mark_differs : (k : ℕ) → bytes_eq r.mark (mark_at entries k) ≡ false → mark_at entries k ≢ r.mark
+    mark_differs k miss same = clash (bytes_eq r.mark (mark_at entries k)) ((bytes_eq-Decides r.mark (mark_at entries k)).1 (sym same)) miss
+
+    pub flags_wanted : (filled now : List Bool) → Fills entries r.mark 0 filled now → AreFlags entries seen filled → AreFlags entries (seen ++ r ∷ []) now
+    flags_wanted filled now fills flags = record {
+      count = fills.count ∙ flags.count;
+      each = λ k lt.
+          let which = bool_cases (bytes_eq r.mark (mark_at entries k)) in
+          elim which [
+            | inl hit ↦ fills.here k (omega arith) lt (mark_is k hit) ∙ sym (now_found seen r (mark_at entries k) hit)
+            | inr miss ↦ fills.others k lt (mark_differs k miss) ∙ flags.each k lt ∙ ap (λ l. nat_lt 0 (length l)) (sym (other_same seen r (mark_at entries k) miss))
+          ];
+    }
+
+    pub given_wanted : (file now : List ℕ) → Puts entries r.mark r.body 0 file now → AreGiven entries seen file → AreGiven entries (seen ++ r ∷ []) now
+    given_wanted file now puts given = record {
+      each = λ k lt found.
+          let which = bool_cases (bytes_eq r.mark (mark_at entries k)) in
+          let unseen : is_found seen r.mark ≡ false = both_true (has_entry entries r.mark) (is_found seen r.mark) wanted in
+          elim which [
+            | inl hit ↦ puts.here k (omega arith) lt (mark_is k hit) ∙ sym (first_now seen r (mark_at entries k) (ap (is_found seen) (mark_is k hit) ∙ unseen) hit)
+            | inr miss ↦
+                let same = other_same seen r (mark_at entries k) miss in
+                puts.others k lt (mark_differs k miss) ∙ given.each k lt (ap (λ l. nat_lt 0 (length l)) (sym same) ∙ found) ∙ ap first_body (sym same)
+          ];
+    }
+
+-- ---- the walk over one record
+
+abbrev pub spot_at : List ℕ → ℕ → Stored → Spot
+spot_at extents at r = record { extents = extents; at = at; stored = r }
+
+module _ (s : Sizes) (entries : List RecipeEntry) (extents : List ℕ) (at : ℕ) (r : Stored) (filled : List Bool) where
+  abbrev header : List ℕ
+  header = places_at s extents at 36
+
+  abbrev body : List ℕ
+  body = places_at s extents (at + 36) r.length
+
+  pub walks_unwanted : ((seen : List Stored) → AreFlags entries seen filled → false ≡ is_wanted entries seen r.mark) → {a b : History} → ReadsOnly header a b → Walks s entries (spot_at extents at r ∷ []) filled filled a b
+  walks_unwanted unwanted {a} {b} reads = record {
+    flags = λ seen flags. flags_unwanted entries seen r (sym (unwanted seen flags)) filled flags;
+    reads = λ seen flags. subst (λ l. ReadsOnly l a b) (sym (append-nil header) ∙ sym (append-nil (header ++ [])) ∙ ap (λ w. (header ++ cond w body []) ++ []) (unwanted seen flags)) reads;
+  }
+
+  pub gives_unwanted : ((seen : List Stored) → AreFlags entries seen filled → false ≡ is_wanted entries seen r.mark) → (file : List ℕ) → Gives entries (spot_at extents at r ∷ []) filled file file
+  gives_unwanted unwanted file = record { each = λ seen flags given. given_unwanted entries seen r (sym (unwanted seen flags)) file given }
+
+  pub walks_wanted : (now : List Bool) → ((seen : List Stored) → AreFlags entries seen filled → true ≡ is_wanted entries seen r.mark) → Fills entries r.mark 0 filled now →
+      {a b : History} → ReadsOnly (header ++ body) a b → Walks s entries (spot_at extents at r ∷ []) filled now a b
+  walks_wanted now wanted fills {a} {b} reads = record {
+    flags = λ seen flags. flags_wanted entries seen r (sym (wanted seen flags)) filled now fills flags;
+    reads = λ seen flags. subst (λ l. ReadsOnly l a b) (sym (append-nil (header ++ body)) ∙ ap (λ w. (header ++ cond w body []) ++ []) (wanted seen flags)) reads;
+  }
+
+  pub gives_wanted : ((seen : List Stored) → AreFlags entries seen filled → true ≡ is_wanted entries seen r.mark) → (file now : List ℕ) → Puts entries r.mark r.body 0 file now → Gives entries (spot_at extents at r ∷ []) filled file now
+  gives_wanted wanted file now puts = record { each = λ seen flags given. given_wanted entries seen r (sym (wanted seen flags)) file now puts given }

@@ -1,0 +1,11 @@
+use Rattle.std.proofs.Common.{arith}
+use Rattle.bd_restore.proofs.Putting.{place_within}
+use Rattle.bd_restore.specs.Target.{held}
+use Rattle.bd_restore.proofs.put.put_at.Goals as goal
+
+pub put-requires : goal.put-requires
+put-requires g c = record {
+  there = λ told.
+      let target = c.requires.there told in
+      (held (g.F.Files.files c.args.files.now) c.args.name.now, record { there = target.there }, omega (arith, place_within c.args.tables.now c.args.index c.requires.within, target.long));
+}

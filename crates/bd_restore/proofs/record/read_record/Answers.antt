@@ -1,0 +1,116 @@
+use Rattle.std.proofs.Common.{◌≡◌, ◌+◌, ◌-◌, false, [], take, drop, sym, ◌∙◌, ap, subst, arith}
+use Rattle.std.specs.Prelude.{nat_lt, if◌then◌else◌}
+use Rattle.std.proofs.lemmas.Bool.{le-ltb}
+use Rattle.bd_disk.specs.History.{contents}
+use Rattle.bd_disk.specs.Trace.{ReadsOnly}
+use Rattle.bd_disk.proofs.Frames.{made_both, unchanged}
+use Rattle.bd_disk.proofs.Traces.{reads_both}
+use Rattle.bd_model.specs.Sizes.{sizes_of}
+use Rattle.bd_model.specs.Extents.{owner_bytes, places_at}
+use Rattle.bd_model.specs.Records.{stored_at}
+use Rattle.bd_extio.proofs.Places.{range_small}
+use Rattle.bd_category.specs.Records.{body_at}
+use Rattle.bd_restore.specs.Target.{held, Fills, Puts}
+use Rattle.bd_restore.specs.Walk.{is_wanted}
+use Rattle.bd_restore.proofs.Answering.{disk_stays}
+use Rattle.bd_restore.proofs.Reading.{IsStored, is_stored}
+use Rattle.bd_restore.proofs.Walking.{walks_unwanted, gives_unwanted, walks_wanted, gives_wanted}
+use Rattle.bd_restore.proofs.record.read_record.Goals as goal
+
+pub overflow_add-next : goal.overflow_add-next
+overflow_add-next g c = omega (arith, range_small (sizes_of c.args.shape.now) c.args.piece.now.extents.now c.requires.numbers (omega arith) (omega arith), c.requires.to, c.requires.from)
+
+pub overflow_add-next-2 : goal.overflow_add-next-2
+overflow_add-next-2 g c = omega (arith, range_small (sizes_of c.args.shape.now) c.args.piece.now.extents.now c.requires.numbers (omega arith) (omega arith), c.requires.to, c.in_ok-header.ensures.within)
+
+pub returns-then-not-wants-clause-next : goal.returns-then-not-wants-clause-next
+returns-then-not-wants-clause-next g c = λ told.
+    let owner = owner_bytes (sizes_of c.args.shape.now) c.args.piece.now.extents.now (contents (g.D.Disk.history c.args.disk.now)) in
+    let st = is_stored (sizes_of c.args.shape.now) c.args.piece.now.who c.args.at c.args.piece.now.to owner c.in_ok-header.header c.requires.from c.in_ok-header.ensures.within (c.in_ok-header.ensures.header told) in
+    ap (λ n. c.args.at + 36 + n) (c.from.ensures ∙ st.size)
+
+pub returns-then-not-wants-clause-walk : goal.returns-then-not-wants-clause-walk
+returns-then-not-wants-clause-walk g c = λ told.
+    let s = sizes_of c.args.shape.now in
+    let extents = c.args.piece.now.extents.now in
+    let at = c.args.at in
+    let to = c.args.piece.now.to in
+    let owner = owner_bytes s extents (contents (g.D.Disk.history c.args.disk.now)) in
+    let r = stored_at (drop at (take to owner)) in
+    let st : IsStored at to owner c.in_ok-header.header r = is_stored s c.args.piece.now.who at to owner c.in_ok-header.header c.requires.from c.in_ok-header.ensures.within (c.in_ok-header.ensures.header told) in
+    let some : nat_lt (to - at) 36 ≡ false = le-ltb (to - at) 36 (omega (arith, c.in_ok-header.ensures.within)) in
+    walks_unwanted s c.args.tables.now extents at r c.args.filled.now (λ seen flags. sym c.if-not-wants.true ∙ c.wants.ensures seen flags ∙ ap (is_wanted c.args.tables.now seen) st.mark)
+    (subst (λ b. ReadsOnly (if b then [] else places_at s extents at 36) (g.D.Disk.history c.args.disk.now) (g.D.Disk.history c.read_header.new.disk)) some (c.in_ok-header.ensures.places told))
+
+pub returns-then-not-wants-clause-gives : goal.returns-then-not-wants-clause-gives
+returns-then-not-wants-clause-gives g c = λ told tells.
+    let s = sizes_of c.args.shape.now in
+    let extents = c.args.piece.now.extents.now in
+    let at = c.args.at in
+    let to = c.args.piece.now.to in
+    let owner = owner_bytes s extents (contents (g.D.Disk.history c.args.disk.now)) in
+    let r = stored_at (drop at (take to owner)) in
+    let st : IsStored at to owner c.in_ok-header.header r = is_stored s c.args.piece.now.who at to owner c.in_ok-header.header c.requires.from c.in_ok-header.ensures.within (c.in_ok-header.ensures.header told) in
+    gives_unwanted s c.args.tables.now extents at r c.args.filled.now (λ seen flags. sym c.if-not-wants.true ∙ c.wants.ensures seen flags ∙ ap (is_wanted c.args.tables.now seen) st.mark) (held (g.F.Files.files c.args.files.now) c.args.name.now)
+
+pub read_body-requires-clause-within : goal.read_body-requires-clause-within
+read_body-requires-clause-within g c = omega (arith, c.in_ok-header.ensures.place, c.in_ok-header.ensures.within, c.requires.to)
+
+pub returns-in_err-read_body-clause-writes : goal.returns-in_err-read_body-clause-writes
+returns-in_err-read_body-clause-writes g c = λ told. made_both (c.read_header.ensures.writes told) (c.read_body.ensures.writes told)
+
+pub returns-in_err-put_everywhere-clause-cause : goal.returns-in_err-put_everywhere-clause-cause
+returns-in_err-put_everywhere-clause-cause g c = disk_stays (Unit {0}) _ _ c.in_err-put_everywhere.field-0.0 c.from_residual-in_err-put_everywhere.result c.from_residual-in_err-put_everywhere.ensures.1 c.in_err-put_everywhere.ensures.only (c.in_ok-read_body.ensures.cause.cause ∙ c.in_ok-header.ensures.cause.cause)
+
+pub returns-in_err-put_everywhere-clause-writes : goal.returns-in_err-put_everywhere-clause-writes
+returns-in_err-put_everywhere-clause-writes g c = λ told. made_both (c.read_header.ensures.writes told) (c.read_body.ensures.writes told)
+
+pub returns-clause-writes : goal.returns-clause-writes
+returns-clause-writes g c = λ told. made_both (c.read_header.ensures.writes told) (c.read_body.ensures.writes told)
+
+pub returns-clause-next : goal.returns-clause-next
+returns-clause-next g c = λ told.
+    let owner = owner_bytes (sizes_of c.args.shape.now) c.args.piece.now.extents.now (contents (g.D.Disk.history c.args.disk.now)) in
+    let st = is_stored (sizes_of c.args.shape.now) c.args.piece.now.who c.args.at c.args.piece.now.to owner c.in_ok-header.header c.requires.from c.in_ok-header.ensures.within (c.in_ok-header.ensures.header told) in
+    ap (λ n. c.args.at + 36 + n) (c.from.ensures ∙ st.size)
+
+pub returns-clause-walk : goal.returns-clause-walk
+returns-clause-walk g c = λ told.
+    let s = sizes_of c.args.shape.now in
+    let entries = c.args.tables.now in
+    let extents = c.args.piece.now.extents.now in
+    let at = c.args.at in
+    let to = c.args.piece.now.to in
+    let owner = owner_bytes s extents (contents (g.D.Disk.history c.args.disk.now)) in
+    let r = stored_at (drop at (take to owner)) in
+    let h = c.in_ok-header.header in
+    let st : IsStored at to owner h r = is_stored s c.args.piece.now.who at to owner h c.requires.from c.in_ok-header.ensures.within (c.in_ok-header.ensures.header told) in
+    let some : nat_lt (to - at) 36 ≡ false = le-ltb (to - at) 36 (omega (arith, c.in_ok-header.ensures.within)) in
+    let header : ReadsOnly (places_at s extents at 36) (g.D.Disk.history c.args.disk.now) (g.D.Disk.history c.read_header.new.disk) =
+    subst (λ b. ReadsOnly (if b then [] else places_at s extents at 36) (g.D.Disk.history c.args.disk.now) (g.D.Disk.history c.read_header.new.disk)) some (c.in_ok-header.ensures.places told) in
+    let body : ReadsOnly (places_at s extents (at + 36) r.length) (g.D.Disk.history c.read_header.new.disk) (g.D.Disk.history c.read_body.new.disk) =
+    subst (λ n. ReadsOnly (places_at s extents (at + 36) n) (g.D.Disk.history c.read_header.new.disk) (g.D.Disk.history c.read_body.new.disk)) st.size
+    (subst (λ p. ReadsOnly (places_at s extents (p + 36) h.length) (g.D.Disk.history c.read_header.new.disk) (g.D.Disk.history c.read_body.new.disk)) st.place (c.in_ok-read_body.ensures.places told)) in
+    walks_wanted s entries extents at r c.args.filled.now c.put_everywhere.new.filled (λ seen flags. sym c.if-not-wants.false ∙ c.wants.ensures seen flags ∙ ap (is_wanted entries seen) st.mark)
+    (subst (λ m. Fills entries m 0 c.args.filled.now c.put_everywhere.new.filled) st.mark c.in_ok-put_everywhere.ensures.filled)
+    (reads_both header body)
+
+pub returns-clause-gives : goal.returns-clause-gives
+returns-clause-gives g c = λ told tells.
+    let s = sizes_of c.args.shape.now in
+    let entries = c.args.tables.now in
+    let extents = c.args.piece.now.extents.now in
+    let at = c.args.at in
+    let to = c.args.piece.now.to in
+    let name = c.args.name.now in
+    let image = contents (g.D.Disk.history c.args.disk.now) in
+    let owner = owner_bytes s extents image in
+    let r = stored_at (drop at (take to owner)) in
+    let h = c.in_ok-header.header in
+    let st : IsStored at to owner h r = is_stored s c.args.piece.now.who at to owner h c.requires.from c.in_ok-header.ensures.within (c.in_ok-header.ensures.header told) in
+    let same : contents (g.D.Disk.history c.read_header.new.disk) ≡ image = unchanged (c.read_header.ensures.writes told) in
+    let read = c.in_ok-read_body.ensures.body told in
+    let given : c.read_body.new.into ≡ r.body = read.0 ∙ ap (λ i. body_at h (owner_bytes s extents i)) same ∙ st.body in
+    gives_wanted s entries extents at r c.args.filled.now (λ seen flags. sym c.if-not-wants.false ∙ c.wants.ensures seen flags ∙ ap (is_wanted entries seen) st.mark) (held (g.F.Files.files c.args.files.now) name) (held (g.F.Files.files c.put_everywhere.new.files) name)
+    (subst (λ b. Puts entries r.mark b 0 (held (g.F.Files.files c.args.files.now) name) (held (g.F.Files.files c.put_everywhere.new.files) name)) given
+    (subst (λ m. Puts entries m c.read_body.new.into 0 (held (g.F.Files.files c.args.files.now) name) (held (g.F.Files.files c.put_everywhere.new.files) name)) st.mark (c.in_ok-put_everywhere.ensures.put tells)))

@@ -1,0 +1,45 @@
+-- Why a version wasn't given back, and by which count.
+use Rattle.std.specs.Prelude.{◌≡◌, ℕ, ◌≤◌, Result, Ok, Err}
+use Rattle.bd_disk.specs.Calls.{Rose}
+use Rattle.bd_model.specs.declared.damage.Damage.{Damage}
+use Rattle.bd_category.specs.declared.fault.CategoryFault.{CategoryFault}
+use Rattle.bd_category.specs.declared.fault.CategoryFault.TheVariants.{DiskFault as RecordFault, Damaged as BadRecord}
+use Rattle.bd_restore.specs.declared.fault.RestoreFault.{RestoreFault}
+use Rattle.bd_restore.specs.declared.fault.RestoreFault.TheVariants.{TargetFault, DiskFault, Damaged, OutOfMemory}
+
+abbrev pub fault_of : CategoryFault → RestoreFault
+fault_of RecordFault = DiskFault
+fault_of (BadRecord damage) = Damaged damage
+
+-- of the damage that is answered
+abbrev pub IfDamaged : {T : Type 0} → Result T RestoreFault → (Damage → Type 0) → Type 0
+IfDamaged (Ok value) P = Unit {0}
+IfDamaged (Err TargetFault) P = Unit {0}
+IfDamaged (Err DiskFault) P = Unit {0}
+IfDamaged (Err (Damaged damage)) P = P damage
+IfDamaged (Err OutOfMemory) P = Unit {0}
+
+-- a fault of the disk or of the target comes only where its count rose; each count stays at every other answer
+abbrev pub DiskByCount : {T : Type 0} → ℕ → ℕ → Result T RestoreFault → Type 0
+DiskByCount before now (Err DiskFault) = Rose before now
+DiskByCount before now _ = now ≡ before
+
+abbrev pub TargetByCount : {T : Type 0} → ℕ → ℕ → Result T RestoreFault → Type 0
+TargetByCount before now (Err TargetFault) = Rose before now
+TargetByCount before now _ = now ≡ before
+
+pub record FailsByDisk {T : Type 0} (before now : ℕ) (result : Result T RestoreFault) : Type 0 where
+  pub later : before ≤ now
+  pub cause : DiskByCount before now result
+
+pub record FailsByTarget {T : Type 0} (before now : ℕ) (result : Result T RestoreFault) : Type 0 where
+  pub later : before ≤ now
+  pub cause : TargetByCount before now result
+
+-- no fault of the disk, and no want of memory
+abbrev pub OfTarget : {T : Type 0} → Result T RestoreFault → Type 0
+OfTarget (Ok value) = Unit {0}
+OfTarget (Err TargetFault) = Unit {0}
+OfTarget (Err DiskFault) = ⊥
+OfTarget (Err (Damaged damage)) = Unit {0}
+OfTarget (Err OutOfMemory) = ⊥

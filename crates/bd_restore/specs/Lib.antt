@@ -1,0 +1,5 @@
+pub mod Faults
+pub mod Plan
+pub mod Tables
+pub mod Target
+pub mod Walk

@@ -1,0 +1,25 @@
+-- What a plan holds.
+use Rattle.std.specs.Prelude.{◌≡◌, ℕ, Bool, false, List, length, replicate, Result, Ok, Err}
+use Rattle.bd_model.specs.declared.layout.RecipeEntry.{RecipeEntry}
+use Rattle.bd_model.specs.declared.damage.Damage.{Damage}
+use Rattle.bd_recipe.specs.Reading.{total}
+use Rattle.bd_recipe.specs.declared.fault.ReadFault.{ReadFault}
+use Rattle.bd_recipe.specs.declared.fault.ReadFault.TheVariants.{DiskFault, Damaged, OutOfMemory}
+
+-- the version, its recipe, and how many bytes of a body fit
+pub record Planned : Type 0 where
+  pub version : ℕ
+  pub entries : List RecipeEntry
+  pub room : ℕ
+
+-- no entry is filled yet
+pub record IsFresh (entries : List RecipeEntry) (bytes : ℕ) (filled : List Bool) : Type 0 where
+  pub sum : bytes ≡ total entries
+  pub flags : filled ≡ replicate (length entries) false
+
+-- the plan is that of the expected recipe, but for a fault of the disk and want of memory
+abbrev pub AnswersPlan : Result (List RecipeEntry) Damage → Result Planned ReadFault → Type 0
+AnswersPlan expected (Ok plan) = expected ≡ Ok plan.entries
+AnswersPlan expected (Err (Damaged damage)) = expected ≡ Err damage
+AnswersPlan expected (Err DiskFault) = Unit {0}
+AnswersPlan expected (Err OutOfMemory) = Unit {0}

@@ -1,0 +1,86 @@
+ghost use Rattle.std.specs.Prelude.{◌≡◌, ◌≢◌, ℕ, ◌<◌, ◌≤◌, length, true, OnOk, slice_set};
+ghost use Rattle.std.specs.FinMap as map;
+ghost use Rattle.bd_disk.specs.Images.{overwritten};
+ghost use Rattle.bd_files.specs.Files.{ChangesOnly};
+ghost use Rattle.bd_restore.specs.Faults.{FailsByTarget, IfDamaged, OfTarget};
+ghost use Rattle.bd_restore.specs.Tables.{length_at, mark_at, place_at};
+ghost use Rattle.bd_restore.specs.Target.{held, IsTarget, Fills, Puts};
+
+use crate::fault::RestoreFault;
+use crate::tables::Tables;
+use bd_files::Files;
+use bd_model::{Damage, Mark, Name};
+
+// Puts the body at the place of the entry of this index.
+fn put_at<F: Files>(
+    tables: &Tables,
+    version: u32,
+    filled: &mut [bool],
+    files: &mut F,
+    name: &Name,
+    index: usize,
+    body: &[u8],
+) -> Result<(), RestoreFault>
+    requires within { index < length tables.now }
+    requires flags { length filled.old ≡ length tables.now }
+    requires short { length body.now ≤ 65536 }
+    requires there { F.tells → IsTarget tables.now name.now (F.files files.old) }
+    ensures cause { FailsByTarget (F.target_faults files.old) (F.target_faults files.new) result }
+    ensures only { OfTarget result }
+    ensures sources { F.source_faults files.new ≡ F.source_faults files.old }
+    ensures strays { F.tells → F.strays files.new ≡ F.strays files.old }
+    ensures others { F.tells → ChangesOnly name.now (F.files files.old) (F.files files.new) }
+    ensures sized { OnOk result (length body.now ≡ length_at tables.now index) }
+    ensures filled { OnOk result (filled.new ≡ slice_set filled.old index true) }
+    ensures put { OnOk result (F.tells → F.files files.new ≡ map.insert (F.files files.old) name.now (overwritten (held (F.files files.old) name.now) (place_at tables.now index) body.now)) }
+    ensures damage { IfDamaged result (λ damage. (e : ℕ) × (m : Mark) × (damage ≡ Damage.Length version m e (length body.now)) × (m.0 ≡ mark_at tables.now index) × (length body.now ≢ e)) }
+{
+    let entry = tables.entry(index);
+    let found = body.len() as u32;
+    if entry.length != found {
+        let damage = Damage::Length {
+            version,
+            mark: entry.mark,
+            recorded: entry.length,
+            found,
+        };
+        return Err(RestoreFault::Damaged { damage });
+    }
+    if files.put(name, tables.place(index), body).is_err() {
+        return Err(RestoreFault::TargetFault);
+    }
+    filled[index] = true;
+    Ok(())
+}
+
+/// Puts the body at the place of each entry with this mark.
+pub(crate) fn put_everywhere<F: Files>(
+    tables: &Tables,
+    version: u32,
+    filled: &mut [bool],
+    files: &mut F,
+    name: &Name,
+    mark: &Mark,
+    body: &[u8],
+) -> Result<(), RestoreFault>
+    requires flags { length filled.old ≡ length tables.now }
+    requires short { length body.now ≤ 65536 }
+    requires there { F.tells → IsTarget tables.now name.now (F.files files.old) }
+    ensures cause { FailsByTarget (F.target_faults files.old) (F.target_faults files.new) result }
+    ensures only { OfTarget result }
+    ensures sources { F.source_faults files.new ≡ F.source_faults files.old }
+    ensures strays { F.tells → F.strays files.new ≡ F.strays files.old }
+    ensures others { F.tells → ChangesOnly name.now (F.files files.old) (F.files files.new) }
+    ensures there { OnOk result (F.tells → IsTarget tables.now name.now (F.files files.new)) }
+    ensures filled { OnOk result (Fills tables.now mark.now.0 0 filled.old filled.new) }
+    ensures put { OnOk result (F.tells → Puts tables.now mark.now.0 body.now 0 (held (F.files files.old) name.now) (held (F.files files.new) name.now)) }
+    ensures damage { IfDamaged result (λ damage. (e : ℕ) × (m : Mark) × (damage ≡ Damage.Length version m e (length body.now)) × (m.0 ≡ mark.now.0) × (length body.now ≢ e)) }
+{
+    let mut last = tables.last(mark);
+    while last > 0 {
+        let index = last - 1;
+        put_at(tables, version, filled, files, name, index, body)?;
+        last = tables.earlier(index);
+    }
+    Ok(())
+}
