@@ -110,7 +110,7 @@ fn a_backup_ends_with_the_calls_of_its_commit(rt: HostRuntime) -> Result<(), Fai
     // The frame behind the gate of the second half, and then the gate.
     let write = |at, length| Touch::Write { at, length };
     let commit = [
-        write(66_468, 107),
+        write(66_468, 95),
         Touch::Sync,
         write(66_467, 1),
         Touch::Sync,
