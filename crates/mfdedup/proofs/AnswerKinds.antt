@@ -1,5 +1,5 @@
 -- Which answers a built command gives.
-use Rattle.std.proofs.Common.{◌≡◌, ℕ, Bool, true, false, cond, List, Option, Some, None, refl, ◌∙◌, sym, ap, subst}
+use Rattle.std.proofs.Common.{◌≡◌, ℕ, Bool, true, false, cond, List, Option, Some, None, refl, ◌∙◌, sym, ap}
 use Rattle.std.specs.Prelude.{option_map, ◌==◌, ◌+◌, length, nat_lt}
 use Rattle.std.specs.FinMap as map
 use Rattle.bd_disk.specs.History.{History}

@@ -1,11 +1,11 @@
 -- Where marks tell all chunks that are given apart, they do so for a command.
-use Rattle.std.proofs.Common.{◌≡◌, ℕ, zero, suc, ◌+◌, Bool, true, false, List, [], ◌∷◌, ◌++◌, map, flat_map, take, Option, Some, None, refl, ◌∙◌, sym, ap, subst, append-nil, append_assoc, add-one, if◌then◌else◌}
+use Rattle.std.proofs.Common.{◌≡◌, ℕ, zero, suc, Bool, true, false, List, [], ◌∷◌, ◌++◌, map, flat_map, take, Option, Some, None, refl, ◌∙◌, sym, ap, subst, append-nil, append_assoc, add-one, if◌then◌else◌}
 use Rattle.std.specs.Prelude.{option_map, option_to_list, unwrap_or, length}
 use Rattle.std.specs.FinMap as files_at
 use Rattle.bd_model.specs.Chunks.{chunks}
 use Rattle.bd_model.specs.FileMap.{FileMap}
 use Rattle.bd_model.specs.Folds.{chunks_read, given, unheld}
-use Rattle.bd_model.specs.Marks.{Distinct, Near}
+use Rattle.bd_model.specs.Marks.{Distinct}
 use Rattle.bd_model.specs.State.{Version, VersionState, history, streams, cut_of}
 use Rattle.bd_model.specs.Step.{Outcome, step}
 use Rattle.bd_model.specs.declared.shape.Shape.{Shape}

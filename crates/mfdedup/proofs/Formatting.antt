@@ -1,5 +1,5 @@
 -- What a format leaves.
-use Rattle.std.proofs.Common.{◌≡◌, ◌⊎◌, ◌∙◌, ℕ, zero, suc, ◌<◌, ◌≤◌, true, false, List, [], ◌∷◌, length, inl, inr, refl, sym, subst, ap, arith, get_or, Some, None, Option, Ok, Err, Result}
+use Rattle.std.proofs.Common.{◌≡◌, ◌∙◌, ℕ, zero, suc, ◌<◌, false, List, [], ◌∷◌, length, inl, inr, sym, subst, ap, arith, get_or, None, Option, Err}
 use Rattle.bd_disk.specs.History.{History, clock, contents, Since}
 use Rattle.bd_disk.specs.Made.{IsSettled, LeavesSince, WritesOnly}
 use Rattle.bd_disk.proofs.Frames.{since_now}

@@ -14,7 +14,7 @@ use Rattle.bd_model.specs.State.{VersionState}
 use Rattle.bd_model.specs.Step.{Outcome}
 use Rattle.bd_model.specs.Folds.{Point, after, outcomes, unheld}
 use Rattle.bd_catalog.specs.Standing.{Stands}
-use Rattle.bd_store.specs.Steps.{Task, task, LeadsTo, Answered, Kept, MakesStep, StandsOnEitherSide}
+use Rattle.bd_store.specs.Steps.{Task, task, LeadsTo, Answered, MakesStep, StandsOnEitherSide}
 use Rattle.bd_store.specs.Stops.{StopsOnEitherSide}
 use Rattle.bd_store.specs.declared.fault.StoreFault.{StoreFault}
 use Rattle.bd_store.specs.declared.fault.StoreFault.TheVariants.{SourceFault as StoreSource, TargetFault as StoreTarget, DiskFault as StoreDisk, Damaged as StoreDamaged, OutOfMemory as StoreMemory, Unbuilt as StoreUnbuilt}
@@ -26,7 +26,7 @@ use Rattle.mfdedup.specs.Moments.{last_state}
 use Rattle.mfdedup.specs.Reads.{ReadsFor}
 use Rattle.mfdedup.specs.Whole.{MeetsTheHeadline}
 use Rattle.mfdedup.specs.declared.report.End.{End}
-use Rattle.mfdedup.specs.declared.report.End.TheVariants.{Done, DiskFault, OutputFault, OutOfMemory}
+use Rattle.mfdedup.specs.declared.report.End.TheVariants.{Done, DiskFault, OutputFault}
 use Rattle.mfdedup.proofs.AnswerKinds.{is_read, is_read-room, unread, built_unread}
 
 module _ (shape : Shape) (st : VersionState) (command : Command) (files files' : FileMap) (old new : History) where

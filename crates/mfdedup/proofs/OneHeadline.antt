@@ -1,6 +1,5 @@
 -- The headline of one command, from its session and the opening before it.
-use Rattle.std.proofs.Common.{◌≡◌, ◌⊎◌, ◌∙◌, ℕ, ◌<◌, ◌≤◌, Bool, true, false, List, [], ◌∷◌, inl, inr, refl, sym, subst, ap, arith, Some, None, Option, Ok, Err, Result, cond}
-use Rattle.std.specs.Prelude.{length, slice_get}
+use Rattle.std.proofs.Common.{◌≡◌, ◌⊎◌, ◌∙◌, ℕ, ◌<◌, ◌≤◌, Bool, true, false, List, [], ◌∷◌, inl, inr, refl, sym, subst, ap, arith, Some, None, Ok, Err, Result, cond}
 use Rattle.bd_disk.specs.Calls.{Rose}
 use Rattle.bd_disk.specs.History.{History, clock, contents}
 use Rattle.bd_disk.specs.Looks.{LooksOnlyAt}
@@ -11,13 +10,11 @@ use Rattle.bd_model.specs.Sizes.{extent_place}
 use Rattle.bd_model.specs.State.{VersionState}
 use Rattle.bd_model.specs.declared.shape.Shape.{Shape}
 use Rattle.bd_model.specs.declared.place.Place.{Place}
-use Rattle.bd_model.specs.declared.answer.Answer.{Answer}
 use Rattle.bd_model.specs.declared.command.Command.{Command}
 use Rattle.bd_catalog.specs.Agreement.{Agrees}
 use Rattle.bd_catalog.specs.Opening.{Found, opened}
 use Rattle.bd_store.specs.Causes.{counts, FailsOnlyByCount}
 use Rattle.bd_store.specs.Openings.{AnswersOpening}
-use Rattle.bd_store.specs.Shown.{Shown}
 use Rattle.bd_store.specs.Steps.{IsOneStep}
 use Rattle.bd_store.specs.Stops.{IsSafeAtStops}
 use Rattle.bd_store.specs.declared.fault.StoreFault.{StoreFault}
@@ -31,10 +28,10 @@ use Rattle.mfdedup.specs.Ends.{EndsWell}
 use Rattle.mfdedup.specs.Failing.{end_of, end_of_opening}
 use Rattle.mfdedup.specs.Headline.{IsTheHeadline, Ran, DidNotRun, IsEarlyFault, commands_asked, course_of}
 use Rattle.mfdedup.specs.Whole.{MeetsTheHeadline}
-use Rattle.mfdedup.specs.Words.{Reading, ToFormat, ToRun, ToScript, ToBlank, ToSoak, Refused}
+use Rattle.mfdedup.specs.Words.{Reading, ToRun, Refused}
 use Rattle.mfdedup.specs.declared.progress.Progress.{Progress}
 use Rattle.mfdedup.specs.declared.report.End.{End}
-use Rattle.mfdedup.specs.declared.report.End.TheVariants.{DiskFault, OutOfMemory}
+use Rattle.mfdedup.specs.declared.report.End.TheVariants.{OutOfMemory}
 use Rattle.mfdedup.proofs.OneRun.{failed_meets, failed_met, ends_well, early_complete}
 use Rattle.mfdedup.proofs.Opened.{still_honest, still_promised, opens_first, after_opening}
 

@@ -1,5 +1,5 @@
 -- What a call on the store and the put of its text make of one command.
-use Rattle.std.proofs.Common.{◌≡◌, ◌⊎◌, ◌∙◌, ℕ, ◌+◌, ◌-◌, ◌^◌, ◌<◌, ◌≤◌, Bool, true, false, List, [], ◌∷◌, inl, inr, refl, sym, subst, ap, arith, Some, None, Option, Ok, Err, Result}
+use Rattle.std.proofs.Common.{◌≡◌, ◌⊎◌, ◌∙◌, ℕ, ◌-◌, ◌^◌, ◌<◌, ◌≤◌, true, false, List, [], ◌∷◌, inl, inr, refl, sym, subst, ap, arith, Some, Option, Ok, Err}
 use Rattle.std.specs.Prelude.{length, slice_get, not, nat_lt, ◌&&◌, ◌||◌, ◌==◌}
 use Rattle.std.proofs.lemmas.Bool.Decides.{nat_tests}
 use Rattle.bd_model.specs.Sizes.{Sizes}
@@ -8,8 +8,7 @@ use Rattle.bd_disk.specs.History.{History, clock, contents}
 use Rattle.bd_disk.specs.Made.{WritesOnly}
 use Rattle.bd_disk.proofs.Frames.{leaves_same}
 use Rattle.bd_model.specs.FileMap.{FileMap}
-use Rattle.bd_model.specs.History.{newest, retained}
-use Rattle.bd_model.specs.State.{VersionState, history, last_number}
+use Rattle.bd_model.specs.State.{VersionState, last_number}
 use Rattle.bd_model.specs.declared.shape.Shape.{Shape}
 use Rattle.bd_model.specs.declared.layout.Phase.{Phase}
 use Rattle.bd_model.specs.declared.answer.Answer.{Answer}
@@ -28,7 +27,7 @@ use Rattle.bd_store.specs.Touches.{is_unbuilt}
 use Rattle.bd_store.specs.declared.fault.StoreFault.{StoreFault}
 use Rattle.bd_store.specs.declared.fault.StoreFault.TheVariants.{SourceFault as StoreSource, TargetFault as StoreTarget, DiskFault as StoreDisk, Damaged as StoreDamaged, OutOfMemory as StoreMemory, Unbuilt as StoreUnbuilt}
 use Rattle.mfdedup.specs.Built.{is_built, FaultFits, TouchesAsIts}
-use Rattle.mfdedup.specs.Counts.{AllCounts, all_counts, EndsByCount, NoFault}
+use Rattle.mfdedup.specs.Counts.{AllCounts, EndsByCount, NoFault}
 use Rattle.mfdedup.specs.Course.{Course, IsPromised, tried}
 use Rattle.mfdedup.specs.Ends.{EndsWell, IsMetBy, IsToCome, StraysOnlyFor}
 use Rattle.mfdedup.specs.Failing.{end_of}
@@ -38,7 +37,7 @@ use Rattle.mfdedup.specs.declared.report.End.{End}
 use Rattle.mfdedup.specs.declared.report.End.TheVariants.{Done, BadWords, BadNumber, BadName, BadShape, LongScript, BadLine, AlreadyAStore, TooSmall, NotAStore, DiskFault, Damaged, SourceFault, TargetFault, OutputFault, OutOfMemory, Unbuilt}
 use Rattle.mfdedup.proofs.AnswerKinds.{backup_short, is_long-room}
 use Rattle.mfdedup.proofs.Apart.{near_one, tried_one}
-use Rattle.mfdedup.proofs.OneCommand.{one, one_done, one_unsaid, one_failed, one_kept}
+use Rattle.mfdedup.proofs.OneCommand.{one_done, one_unsaid, one_failed, one_kept}
 
 -- the premise at the one command
 near : (shape : Shape) (st : VersionState) (command : Command) (files : FileMap) (old : History) (answers : List Answer) → is_built command ≡ true → IsPromised shape st old files (tried (command ∷ []) answers) → IsNear (task shape 0 st files command)

@@ -4,11 +4,11 @@ use Rattle.std.specs.Prelude.{All, Ok}
 use Rattle.std.specs.List.{AllByRecursion}
 use Rattle.bd_disk.specs.History.{History, clock, contents, Since}
 use Rattle.bd_disk.specs.Looks.{LooksOnlyAt}
-use Rattle.bd_disk.specs.Made.{LeavesNow, LeavesSince, WritesNothing, WritesOnly}
+use Rattle.bd_disk.specs.Made.{WritesNothing, WritesOnly}
 use Rattle.bd_disk.specs.Trace.{reads as reads_in, reads_between, ReadsOnly}
 use Rattle.std.proofs.lemmas.List.Elements.{All-nil, All-cons}
 use Rattle.std.specs.FinMap as files_at
-use Rattle.bd_disk.proofs.Frames.{goes_on, later, leaves_quiet, made_both, nothing_within, since_either, since_wider, still_now, unchanged}
+use Rattle.bd_disk.proofs.Frames.{goes_on, later, leaves_quiet, made_both, nothing_within, since_either, still_now, unchanged}
 use Rattle.bd_disk.proofs.Looking.{reads_within}
 use Rattle.bd_disk.proofs.Traces.{part, reads_on, reads_of_run, reads_still}
 use Rattle.bd_model.specs.FileMap.{FileMap}
@@ -19,11 +19,10 @@ use Rattle.bd_model.specs.declared.command.Command.{Command}
 use Rattle.bd_catalog.specs.Opening.{Found, opened}
 use Rattle.bd_catalog.specs.Standing.{Stands}
 use Rattle.bd_catalog.proofs.Standing.{stands-shows}
-use Rattle.mfdedup.specs.Answers.{GivesAnswers}
 use Rattle.mfdedup.specs.Course.{Course, IsHonest, IsPromised, StandsAt, answered}
-use Rattle.mfdedup.specs.Exit.{LeavesAtExit, IsHalfWritten, carried_out}
+use Rattle.mfdedup.specs.Exit.{IsHalfWritten, carried_out}
 use Rattle.mfdedup.specs.Headline.{OpensFirst}
-use Rattle.mfdedup.specs.Moments.{KeepsAcknowledged, last_state}
+use Rattle.mfdedup.specs.Moments.{last_state}
 use Rattle.mfdedup.specs.Whole.{MeetsTheHeadline}
 use Rattle.mfdedup.specs.declared.report.End.TheVariants.{DiskFault}
 

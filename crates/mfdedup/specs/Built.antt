@@ -1,5 +1,5 @@
 -- Which commands are built.
-use Rattle.std.specs.Prelude.{◌≡◌, ℕ, List, Bool, true, false, Result, Ok, Err}
+use Rattle.std.specs.Prelude.{◌≡◌, ℕ, List, Bool, true, false, Result, Err}
 use Rattle.bd_disk.specs.History.{History}
 use Rattle.bd_disk.specs.Made.{TouchesNothing}
 use Rattle.bd_model.specs.declared.answer.Answer.{Answer}
@@ -8,7 +8,7 @@ use Rattle.bd_model.specs.declared.command.Command.TheVariants.{Backup, List as 
 use Rattle.bd_catalog.specs.Opening.{Found}
 use Rattle.bd_store.specs.Touches.{is_unbuilt}
 use Rattle.bd_store.specs.declared.fault.StoreFault.{StoreFault}
-use Rattle.bd_store.specs.declared.fault.StoreFault.TheVariants.{SourceFault, TargetFault, DiskFault, Damaged, OutOfMemory, Unbuilt}
+use Rattle.bd_store.specs.declared.fault.StoreFault.TheVariants.{SourceFault, TargetFault, Unbuilt}
 
 -- whether a command is built; the others are still to come
 abbrev pub is_built : Command → Bool

@@ -6,12 +6,11 @@ use Rattle.bd_model.specs.State.{VersionState, history, last_number}
 use Rattle.bd_model.specs.declared.shape.Shape.{Shape}
 use Rattle.bd_model.specs.declared.command.Command.{Command}
 use Rattle.bd_model.specs.declared.command.Command.TheVariants.{Backup, Restore}
-use Rattle.bd_model.specs.declared.damage.Damage.{Damage}
 use Rattle.bd_files.specs.Files.{Lacks}
 use Rattle.mfdedup.specs.Counts.{AllCounts, NoFault}
 use Rattle.mfdedup.specs.Course.{Course, next_command}
 use Rattle.mfdedup.specs.declared.report.End.{End}
-use Rattle.mfdedup.specs.declared.report.End.TheVariants.{Done, SourceFault, TargetFault, DiskFault, Damaged, OutputFault, OutOfMemory, Unbuilt}
+use Rattle.mfdedup.specs.declared.report.End.TheVariants.{Done, SourceFault, TargetFault, DiskFault, OutputFault, OutOfMemory, Unbuilt}
 
 -- a backup into a store that retains a version and could retain one more
 pub record IsToCome (shape : Shape) (st : VersionState) (next : Option Command) : Type 0 where

@@ -1,5 +1,5 @@
 -- The headline of a call that runs commands.
-use Rattle.std.specs.Prelude.{◌≡◌, ◌⊎◌, ℕ, ◌<◌, ◌≤◌, List, [], ◌∷◌, All, if◌then◌else◌, Result, Ok, Err, Option, Some, None}
+use Rattle.std.specs.Prelude.{◌≡◌, ◌⊎◌, ℕ, ◌<◌, ◌≤◌, List, [], ◌∷◌, All, if◌then◌else◌, Option, Some, None}
 use Rattle.bd_disk.specs.History.{History, contents, clock}
 use Rattle.bd_disk.specs.Made.{LeavesSince, WritesNothing}
 use Rattle.bd_disk.specs.Trace.{reads_between}

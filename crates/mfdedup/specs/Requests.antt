@@ -1,13 +1,12 @@
 -- What comes of each request.
-use Rattle.std.specs.Prelude.{◌≡◌, ◌⊎◌, ℕ, ◌<◌, ◌≤◌, List, [], ◌∷◌, length, get_or, replicate, false, true, Bool, Option, Some, None, Result, if◌then◌else◌}
+use Rattle.std.specs.Prelude.{◌≡◌, ◌⊎◌, ℕ, ◌<◌, ◌≤◌, List, [], ◌∷◌, length, get_or, replicate, false, Option, Some, None}
 use Rattle.std.specs.FinMap as map
 use Rattle.bd_disk.specs.History.{History, contents, Since}
 use Rattle.bd_disk.specs.Made.{IsSettled, LeavesSince, WritesNothing, WritesOnly}
 use Rattle.bd_files.specs.Files.{ChangesOnly}
 use Rattle.bd_model.specs.FileMap.{FileMap}
-use Rattle.bd_model.specs.Sizes.{Sizes, sizes_of, extent_place}
+use Rattle.bd_model.specs.Sizes.{sizes_of, extent_place}
 use Rattle.bd_model.specs.State.{empty}
-use Rattle.bd_model.specs.declared.command.Command.{Command}
 use Rattle.bd_model.specs.declared.layout.Phase.TheVariants.{Settled}
 use Rattle.bd_model.specs.declared.shape.Shape.{Shape}
 use Rattle.bd_gate.specs.Superblock.{is_marked}
@@ -17,7 +16,7 @@ use Rattle.bd_recover.specs.declared.fault.FormatFault.{FormatFault}
 use Rattle.bd_recover.specs.declared.fault.FormatFault.TheVariants.{AlreadyAStore as FormatMarked, TooSmall as FormatSmall}
 use Rattle.bd_store.specs.Openings.{IsNoneOrEmpty}
 use Rattle.mfdedup.specs.Ends.{StraysOnlyFor}
-use Rattle.mfdedup.specs.Words.{Reading, ToFormat, ToRun, ToScript, ToBlank, ToSoak, Refused}
+use Rattle.mfdedup.specs.Words.{Reading, ToFormat, ToRun, ToBlank}
 use Rattle.mfdedup.specs.declared.report.End.{End}
 use Rattle.mfdedup.specs.declared.report.End.TheVariants.{Done, OutputFault, AlreadyAStore, TooSmall, DiskFault, OutOfMemory, TargetFault}
 
@@ -51,8 +50,17 @@ pub record Formats (shape : Shape) (bytes : ℕ) (ending : End) (clocks : List �
   pub stops : is_marked (contents old) ≡ false → IsSettled old → LeavesSince (IsNoneOrEmpty shape) old new
   pub acknowledged : (k : ℕ) → k < length clocks → (image : List ℕ) → Since new (get_or clocks k 0) image → StandsFor shape empty Settled 0 image
 
+-- how a blank file can end
+abbrev pub EndsBlank : End → Type 0
+EndsBlank Done = Unit {0}
+EndsBlank TargetFault = Unit {0}
+EndsBlank OutputFault = Unit {0}
+EndsBlank OutOfMemory = Unit {0}
+EndsBlank ending = ⊥
+
 -- the target is so many zero bytes, and every other name has what it had
 pub record Blanks (name : List ℕ) (count : ℕ) (ending : End) (old new : FileMap) : Type 0 where
+  pub ends : EndsBlank ending
   pub made : IsCarriedOut ending → new ≡ map.insert old name (replicate count 0)
   pub others : ChangesOnly name old new
 

@@ -1,5 +1,5 @@
 -- How the text of an answer is put.
-use Rattle.std.specs.Prelude.{◌≡◌, ℕ, ◌≤◌, List, [], ◌∷◌, ◌++◌, true, Result, Ok, Err}
+use Rattle.std.specs.Prelude.{◌≡◌, ℕ, List, [], ◌∷◌, true, Result, Ok, Err}
 use Rattle.bd_disk.specs.Calls.{Rose}
 use Rattle.bd_model.specs.declared.answer.Answer.{Answer}
 use Rattle.bd_script.specs.Long.{is_long}

@@ -1,4 +1,4 @@
-use Rattle.std.proofs.Common.{◌≡◌, subst, ap, Some}
+use Rattle.std.proofs.Common.{subst, Some}
 use Rattle.mfdedup.specs.Words.{AsksFor}
 use Rattle.mfdedup.proofs.ByWords.{format_on_disk}
 use Rattle.mfdedup.proofs.run.act.Goals as goal

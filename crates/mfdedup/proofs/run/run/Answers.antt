@@ -1,6 +1,5 @@
-use Rattle.std.proofs.Common.{◌≡◌, ◌∙◌, ◌⊎◌, inl, inr, ap, subst, sym}
+use Rattle.std.proofs.Common.{◌≡◌, ◌∙◌, inl, ap}
 use Rattle.mfdedup.specs.declared.progress.Progress.{Progress}
-use Rattle.mfdedup.specs.declared.report.End.{End}
 use Rattle.mfdedup.proofs.OneHeadline.{refused_headline, headline_later}
 use Rattle.mfdedup.proofs.ByWords.{untouched_disk, words_cause, noted_none, refused_at}
 use Rattle.mfdedup.proofs.run.run.Goals as goal

@@ -1,8 +1,7 @@
-use Rattle.std.proofs.Common.{◌∙◌, inr, refl, sym, ap, subst, Ok, Err}
+use Rattle.std.proofs.Common.{◌∙◌, inr, sym, ap, subst, Err}
 use Rattle.bd_disk.proofs.Frames.{made_both, made_none, nothing_within}
 use Rattle.mfdedup.specs.Counts.{all_counts, EndsByCount}
 use Rattle.mfdedup.specs.Words.{ToRun}
-use Rattle.mfdedup.specs.declared.report.End.TheVariants.{OutOfMemory}
 use Rattle.mfdedup.proofs.OneHeadline.{opened_headline, early_headline, opening_early, opening_cause, not_a_store}
 use Rattle.mfdedup.proofs.run.run_command.Goals as goal
 

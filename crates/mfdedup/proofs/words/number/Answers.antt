@@ -1,4 +1,4 @@
-use Rattle.std.proofs.Common.{◌≡◌, arith, sym, true, ◌^◌, ◌<◌}
+use Rattle.std.proofs.Common.{◌≡◌, arith, true, ◌^◌, ◌<◌}
 use Rattle.mfdedup.specs.Words.{is_digits}
 use Rattle.mfdedup.proofs.Numbers.{digits_parse, number_fits, number_above, number_wide}
 use Rattle.mfdedup.proofs.words.number.Goals as goal
