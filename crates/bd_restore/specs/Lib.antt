@@ -1,5 +1,5 @@
 pub mod Faults
+pub mod Met
 pub mod Plan
-pub mod Tables
 pub mod Target
 pub mod Walk

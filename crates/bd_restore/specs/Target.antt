@@ -1,11 +1,24 @@
--- What is put into the target of a restore.
-use Rattle.std.specs.Prelude.{◌≡◌, ◌≢◌, ℕ, ◌<◌, ◌≤◌, Bool, true, List, [], length, slice_index_or, unwrap_or, Some, false}
+-- Where the chunks of a recipe stand in the target of a restore, and what is put there.
+use Rattle.std.specs.Prelude.{◌≡◌, ◌≢◌, ℕ, ◌<◌, ◌≤◌, Bool, true, List, [], length, map, take, sum_by, slice_index, slice_index_or, unwrap_or, Some, false}
 use Rattle.std.specs.FinMap as map
 use Rattle.bd_disk.specs.Images.{bytes_at}
 use Rattle.bd_model.specs.FileMap.{FileMap}
 use Rattle.bd_model.specs.declared.layout.RecipeEntry.{RecipeEntry}
 use Rattle.bd_recipe.specs.Reading.{total}
-use Rattle.bd_restore.specs.Tables.{mark_at, length_at, place_at}
+
+-- the mark and the length of the entry of this index, and the place of its chunk in the stream
+abbrev pub mark_at : List RecipeEntry → ℕ → List ℕ
+mark_at entries k = slice_index_or (map (λ e. e.mark.0) entries) k []
+
+abbrev pub length_at : List RecipeEntry → ℕ → ℕ
+length_at entries k = slice_index_or (map (λ e. e.length) entries) k 0
+
+abbrev pub place_at : List RecipeEntry → ℕ → ℕ
+place_at entries k = sum_by (λ e. e.length) (take k entries)
+
+pub record ArePlaces (entries : List RecipeEntry) (places : List ℕ) : Type 0 where
+  pub count : length places ≡ length entries
+  pub each : (k : ℕ) → k < length entries → slice_index places k ≡ place_at entries k
 
 -- the bytes under a name; none where nothing is there
 abbrev pub held : FileMap → List ℕ → List ℕ
@@ -23,13 +36,13 @@ chunk_at entries k file = bytes_at (place_at entries k) (length_at entries k) fi
 abbrev pub flag_at : List Bool → ℕ → Bool
 flag_at filled k = slice_index_or filled k false
 
--- of the entries from one on, each with this mark is filled now; the others are as they were
-pub record Fills (entries : List RecipeEntry) (m : List ℕ) (from : ℕ) (old new : List Bool) : Type 0 where
+-- of the first entries, up to this index, each with this mark is filled now; those with another mark are as they were
+pub record Fills (entries : List RecipeEntry) (m : List ℕ) (limit : ℕ) (old new : List Bool) : Type 0 where
   pub count : length new ≡ length old
-  pub here : (k : ℕ) → from ≤ k → k < length entries → mark_at entries k ≡ m → flag_at new k ≡ true
+  pub here : (k : ℕ) → k < limit → k < length entries → mark_at entries k ≡ m → flag_at new k ≡ true
   pub others : (k : ℕ) → k < length entries → mark_at entries k ≢ m → flag_at new k ≡ flag_at old k
 
 -- the body stands at the place of each of them; the others' chunks are as they were
-pub record Puts (entries : List RecipeEntry) (m body : List ℕ) (from : ℕ) (old new : List ℕ) : Type 0 where
-  pub here : (k : ℕ) → from ≤ k → k < length entries → mark_at entries k ≡ m → chunk_at entries k new ≡ body
+pub record Puts (entries : List RecipeEntry) (m body : List ℕ) (limit : ℕ) (old new : List ℕ) : Type 0 where
+  pub here : (k : ℕ) → k < limit → k < length entries → mark_at entries k ≡ m → chunk_at entries k new ≡ body
   pub others : (k : ℕ) → k < length entries → mark_at entries k ≢ m → chunk_at entries k new ≡ chunk_at entries k old

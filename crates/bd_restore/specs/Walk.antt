@@ -1,17 +1,66 @@
 -- The records that a restore finds on its walk, what it reads of them, and what it has given back by then.
-use Rattle.std.specs.Prelude.{◌≡◌, ℕ, zero, suc, ◌+◌, ◌<◌, Bool, ◌&&◌, not, List, [], ◌∷◌, ◌++◌, length, map, take, drop, filter, flat_map, nat_le, nat_lt, ◌*◌, ◌≤◌, bytes_eq, IsTrue, if◌then◌else◌}
-use Rattle.std.specs.List.{list_any}
+use Rattle.std.specs.Prelude.{◌≡◌, ℕ, zero, suc, ◌+◌, ◌-◌, ◌<◌, Bool, ◌&&◌, not, List, [], ◌∷◌, ◌++◌, length, map, take, drop, filter, flat_map, nat_le, nat_lt, ◌*◌, ◌≤◌, slice_index_or, IsTrue, if◌then◌else◌}
 use Rattle.bd_disk.specs.History.{History}
 use Rattle.bd_disk.specs.Trace.{ReadsOnly}
 use Rattle.bd_model.specs.Sizes.{Sizes}
+use Rattle.bd_model.specs.Chunks.{numbers}
 use Rattle.bd_model.specs.Extents.{owner_bytes, places_at}
+use Rattle.bd_model.specs.Recipe.{has_mark}
 use Rattle.bd_model.specs.Records.{Stored, stored_at}
+use Rattle.bd_model.specs.declared.damage.Owner.{Owner}
+use Rattle.bd_model.specs.declared.damage.Owner.TheVariants.{Volume, Active}
+use Rattle.bd_model.specs.declared.layout.CategoryRow.{CategoryRow}
 use Rattle.bd_model.specs.declared.layout.RecipeEntry.{RecipeEntry}
 use Rattle.bd_extio.specs.Ranges.{AreExtents}
-use Rattle.bd_catalog.specs.Catalogue.{OpenEntry}
+use Rattle.bd_catalog.specs.Catalogue.{Catalogue, OpenEntry, oldest_in, volume_extents}
 use Rattle.bd_catalog.specs.Sound.{with_mark, first_body}
-use Rattle.bd_restore.specs.Tables.{mark_at}
-use Rattle.bd_restore.specs.Target.{chunk_at, flag_at}
+use Rattle.bd_restore.specs.Target.{mark_at, chunk_at, flag_at}
+
+-- ---- the rows of a walk
+
+-- a row of a closed volume, or an open category: whose it is, the extents of that owner's bytes, and where it begins
+-- among them
+pub record RowPlace : Type 0 where
+  pub who : Owner
+  pub extents : List ℕ
+  pub from : ℕ
+  pub row : CategoryRow
+
+abbrev pub row_place : Owner → List ℕ → ℕ → CategoryRow → RowPlace
+row_place who extents from row = record { who = who; extents = extents; from = from; row = row }
+
+abbrev pub row_end : RowPlace → ℕ
+row_end p = p.from + p.row.bytes
+
+-- the rows of an owner follow each other
+abbrev pub rows_from : Owner → List ℕ → ℕ → List CategoryRow → List RowPlace
+rows_from who extents from [] = []
+rows_from who extents from (row ∷ rows) = row_place who extents from row ∷ rows_from who extents (from + row.bytes) rows
+
+abbrev pub rows_in : Catalogue → ℕ → List CategoryRow
+rows_in c j = slice_index_or (map (λ e. e.rows) c.volumes) (j - oldest_in c) []
+
+abbrev pub volume_rows : Catalogue → ℕ → List RowPlace
+volume_rows c j = rows_from (Volume j) (volume_extents c j) 0 (rows_in c j)
+
+abbrev pub open_row : OpenEntry → RowPlace
+open_row e = row_place (Active e.row.start) e.extents 0 e.row
+
+-- those that begin at v or before
+abbrev pub begun_by : ℕ → List RowPlace → List RowPlace
+begun_by v places = filter (λ p. nat_le p.row.start v) places
+
+-- the rows that a restore of v goes through: those that begin at v or before, of v's own and of later volumes, and then the
+-- open categories that do
+abbrev pub walk : Catalogue → ℕ → List RowPlace
+walk c v = begun_by v (flat_map (volume_rows c) (numbers v (c.newest - 1)) ++ map open_row c.actives)
+
+-- the extents of the owner are there, none twice, and have room for the row
+pub record IsInRoom (s : Sizes) (p : RowPlace) : Type 0 where
+  pub numbers : AreExtents s p.extents
+  pub room : row_end p ≤ length p.extents * s.extent
+
+-- ---- the records of a walk
 
 -- a record, and where its header lies among the bytes of an owner of these extents
 pub record Spot : Type 0 where
@@ -34,16 +83,29 @@ abbrev pub past : ℕ → List Spot → ℕ
 past at [] = at
 past at (x ∷ xs) = past (at + 36 + x.stored.length) xs
 
--- whether an entry has the mark, and whether a record that was seen has it
-abbrev pub has_entry : List RecipeEntry → List ℕ → Bool
-has_entry entries m = list_any (λ e. bytes_eq e.mark.0 m) entries
+-- the bytes of the owner up to the end of the row
+abbrev pub row_bytes : Sizes → List ℕ → RowPlace → List ℕ
+row_bytes s image p = take (row_end p) (owner_bytes s p.extents image)
 
+-- the first records of a row, and all of them
+abbrev pub first_spots : Sizes → List ℕ → RowPlace → ℕ → List Spot
+first_spots s image p n = spots_from p.extents (row_bytes s image p) n p.from
+
+abbrev pub row_spots : Sizes → List ℕ → RowPlace → List Spot
+row_spots s image p = first_spots s image p p.row.chunks
+
+abbrev pub spots_in : Sizes → List ℕ → List RowPlace → List Spot
+spots_in s image places = flat_map (row_spots s image) places
+
+-- ---- what is read, and what is given back
+
+-- whether a record that was seen has the mark
 abbrev pub is_found : List Stored → List ℕ → Bool
 is_found seen m = nat_lt 0 (length (with_mark m seen))
 
 -- whether a body with this mark is needed, where these records were seen
 abbrev pub is_wanted : List RecipeEntry → List Stored → List ℕ → Bool
-is_wanted entries seen m = has_entry entries m && not (is_found seen m)
+is_wanted entries seen m = has_mark entries m && not (is_found seen m)
 
 -- the places that are read of these records, where others were seen before: of each its header, and its body where it's wanted
 abbrev pub walk_reads : Sizes → List RecipeEntry → List Stored → List Spot → List ℕ
@@ -70,18 +132,6 @@ pub record Walks (s : Sizes) (entries : List RecipeEntry) (spots : List Spot) (o
 -- and what is wanted of them was given
 pub record Gives (entries : List RecipeEntry) (spots : List Spot) (filled : List Bool) (old new : List ℕ) : Type 0 where
   pub each : (seen : List Stored) → AreFlags entries seen filled → AreGiven entries seen old → AreGiven entries (seen ++ records_at spots) new
-
--- the records of an open category, and of those of them that begin at v or before
-abbrev pub open_spots : Sizes → List ℕ → OpenEntry → List Spot
-open_spots s image e = spots_from e.extents (take e.row.bytes (owner_bytes s e.extents image)) e.row.chunks 0
-
-abbrev pub open_walk : Sizes → List ℕ → ℕ → List OpenEntry → List Spot
-open_walk s image v actives = flat_map (open_spots s image) (filter (λ e. nat_le e.row.start v) actives)
-
--- the extents of an open category are there, none twice, and have room for its records
-pub record IsOpen (s : Sizes) (e : OpenEntry) : Type 0 where
-  pub numbers : AreExtents s e.extents
-  pub room : e.row.bytes ≤ length e.extents * s.extent
 
 -- of each entry the body of the first record with its mark, one after the other
 abbrev pub joined : List RecipeEntry → List Stored → List ℕ

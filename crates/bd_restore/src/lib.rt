@@ -2,7 +2,6 @@
 #![tactic(auto)]
 
 mod actives;
-mod bucket;
 mod fault;
 mod missing;
 mod piece;

@@ -60,7 +60,7 @@ impl Plan {
     }
 }
 
-/// Reads the recipe of a retained version, as `read_recipe` does, and plans its restore. It takes about 65 bytes of memory
+/// Reads the recipe of a retained version, as `read_recipe` does, and plans its restore. It takes about 110 bytes of memory
 /// for each chunk.
 pub fn plan_for<D: Disk>(
     alloc: Global,

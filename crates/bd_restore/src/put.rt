@@ -3,8 +3,8 @@ ghost use Rattle.std.specs.FinMap as map;
 ghost use Rattle.bd_disk.specs.Images.{overwritten};
 ghost use Rattle.bd_files.specs.Files.{ChangesOnly};
 ghost use Rattle.bd_restore.specs.Faults.{FailsByTarget, IfDamaged, OfTarget};
-ghost use Rattle.bd_restore.specs.Tables.{length_at, mark_at, place_at};
-ghost use Rattle.bd_restore.specs.Target.{held, IsTarget, Fills, Puts};
+ghost use Rattle.bd_restore.specs.Met.{HasEntry};
+ghost use Rattle.bd_restore.specs.Target.{held, length_at, mark_at, place_at, IsTarget, Fills, Puts};
 
 use crate::fault::RestoreFault;
 use crate::tables::Tables;
@@ -72,15 +72,14 @@ pub(crate) fn put_everywhere<F: Files>(
     ensures strays { F.tells → F.strays files.new ≡ F.strays files.old }
     ensures others { F.tells → ChangesOnly name.now (F.files files.old) (F.files files.new) }
     ensures there { OnOk result (F.tells → IsTarget tables.now name.now (F.files files.new)) }
-    ensures filled { OnOk result (Fills tables.now mark.now.0 0 filled.old filled.new) }
-    ensures put { OnOk result (F.tells → Puts tables.now mark.now.0 body.now 0 (held (F.files files.old) name.now) (held (F.files files.new) name.now)) }
-    ensures damage { IfDamaged result (λ damage. (e : ℕ) × (m : Mark) × (damage ≡ Damage.Length version m e (length body.now)) × (m.0 ≡ mark.now.0) × (length body.now ≢ e)) }
+    ensures filled { OnOk result (Fills tables.now mark.now.0 (length tables.now) filled.old filled.new) }
+    ensures put { OnOk result (F.tells → Puts tables.now mark.now.0 body.now (length tables.now) (held (F.files files.old) name.now) (held (F.files files.new) name.now)) }
+    ensures damage { IfDamaged result (λ damage. (e : ℕ) × (m : Mark) × (damage ≡ Damage.Length version m e (length body.now)) × (m.0 ≡ mark.now.0) × (length body.now ≢ e) × HasEntry tables.now mark.now.0 e) }
 {
-    let mut last = tables.last(mark);
-    while last > 0 {
-        let index = last - 1;
+    let mut next = tables.first(mark);
+    while let Some(index) = next {
         put_at(tables, version, filled, files, name, index, body)?;
-        last = tables.earlier(index);
+        next = tables.next(index);
     }
     Ok(())
 }

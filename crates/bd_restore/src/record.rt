@@ -1,4 +1,4 @@
-ghost use Rattle.std.specs.Prelude.{◌≡◌, ◌+◌, ◌*◌, ◌≤◌, [], ◌∷◌, List, drop, take, length, OnOk, IfOk};
+ghost use Rattle.std.specs.Prelude.{◌≡◌, ◌+◌, ◌*◌, ◌≤◌, [], ◌∷◌, List, drop, length, OnOk, IfOk};
 ghost use Rattle.bd_disk.specs.History.{contents};
 ghost use Rattle.bd_disk.specs.Made.{WritesNothing};
 ghost use Rattle.bd_files.specs.Files.{ChangesOnly};
@@ -6,9 +6,10 @@ ghost use Rattle.bd_model.specs.Sizes.{sizes_of, disk_bytes};
 ghost use Rattle.bd_model.specs.Extents.{owner_bytes};
 ghost use Rattle.bd_model.specs.Records.{Stored, stored_at};
 ghost use Rattle.bd_extio.specs.Ranges.{AreExtents};
-ghost use Rattle.bd_restore.specs.Faults.{FailsByDisk, FailsByTarget};
+ghost use Rattle.bd_restore.specs.Faults.{FailsByDisk, FailsByTarget, IfDamaged};
+ghost use Rattle.bd_restore.specs.Met.{MetAt};
 ghost use Rattle.bd_restore.specs.Target.{held, IsTarget};
-ghost use Rattle.bd_restore.specs.Walk.{is_wanted, AreFlags, Gives, Walks};
+ghost use Rattle.bd_restore.specs.Walk.{is_wanted, row_bytes, row_place, AreFlags, Gives, Walks};
 
 use crate::fault::RestoreFault;
 use crate::put::put_everywhere;
@@ -16,16 +17,15 @@ use crate::tables::Tables;
 use bd_category::{read_body, read_header};
 use bd_disk::Disk;
 use bd_files::Files;
-use bd_model::{Mark, Name, Owner, Shape};
+use bd_model::{CategoryRow, Mark, Name, Owner, Shape};
 
-/// Records end to end among the bytes of an owner, from one place to another.
+/// A row of a closed volume, or an open category: whose it is, that owner's extents, and where it begins among their bytes.
 #[derive(Clone, Copy)]
 pub(crate) struct Piece<'a> {
     pub(crate) who: Owner,
     pub(crate) extents: &'a [u32],
     pub(crate) from: u64,
-    pub(crate) to: u64,
-    pub(crate) chunks: u64,
+    pub(crate) row: CategoryRow,
 }
 
 // Whether an entry has the mark and isn't filled yet.
@@ -33,8 +33,10 @@ fn wants(tables: &Tables, filled: &[bool], mark: &Mark) -> bool
     requires flags { length filled.now ≡ length tables.now }
     ensures { (seen : List Stored) → AreFlags tables.now seen filled.now → result ≡ is_wanted tables.now seen mark.now.0 }
 {
-    let last = tables.last(mark);
-    last > 0 && !filled[last - 1]
+    match tables.first(mark) {
+        Some(index) => !filled[index],
+        None => false,
+    }
 }
 
 /// Reads the record at place `at`: its header, and where its body is wanted that too, which is put at each of its places.
@@ -53,8 +55,8 @@ pub(crate) fn read_record<D: Disk, F: Files>(
 ) -> Result<u64, RestoreFault>
     requires room { disk_bytes (sizes_of shape.now) ≤ D.bytes disk.old }
     requires numbers { AreExtents (sizes_of shape.now) piece.now.extents.now }
-    requires from { at ≤ piece.now.to }
-    requires to { piece.now.to ≤ length piece.now.extents.now * shape.now.extent }
+    requires from { at ≤ piece.now.from + piece.now.row.bytes }
+    requires to { piece.now.from + piece.now.row.bytes ≤ length piece.now.extents.now * shape.now.extent }
     requires flags { length filled.old ≡ length tables.now }
     requires buffer { length buffer.old ≡ shape.now.max }
     requires there { F.tells → IsTarget tables.now name.now (F.files files.old) }
@@ -65,13 +67,15 @@ pub(crate) fn read_record<D: Disk, F: Files>(
     ensures strays { F.tells → F.strays files.new ≡ F.strays files.old }
     ensures others { F.tells → ChangesOnly name.now (F.files files.old) (F.files files.new) }
     ensures writes { D.tells → WritesNothing (D.history disk.old) (D.history disk.new) }
-    ensures within { IfOk result (λ next. next ≤ piece.now.to) }
-    ensures next { IfOk result (λ next. D.tells → next ≡ at + 36 + (stored_at (drop at (take piece.now.to (owner_bytes (sizes_of shape.now) piece.now.extents.now (contents (D.history disk.old)))))).length) }
+    ensures within { IfOk result (λ next. next ≤ piece.now.from + piece.now.row.bytes) }
+    ensures next { IfOk result (λ next. D.tells → next ≡ at + 36 + (stored_at (drop at (row_bytes (sizes_of shape.now) (contents (D.history disk.old)) (row_place piece.now.who piece.now.extents.now piece.now.from piece.now.row)))).length) }
     ensures there { OnOk result (F.tells → IsTarget tables.now name.now (F.files files.new)) }
-    ensures walk { OnOk result (D.tells → Walks (sizes_of shape.now) tables.now (record { extents = piece.now.extents.now; at = at; stored = stored_at (drop at (take piece.now.to (owner_bytes (sizes_of shape.now) piece.now.extents.now (contents (D.history disk.old))))) } ∷ []) filled.old filled.new (D.history disk.old) (D.history disk.new)) }
-    ensures gives { OnOk result (D.tells → F.tells → Gives tables.now (record { extents = piece.now.extents.now; at = at; stored = stored_at (drop at (take piece.now.to (owner_bytes (sizes_of shape.now) piece.now.extents.now (contents (D.history disk.old))))) } ∷ []) filled.old (held (F.files files.old) name.now) (held (F.files files.new) name.now)) }
+    ensures damage { IfDamaged result (λ damage. D.tells → MetAt (sizes_of shape.now) version tables.now filled.old (row_place piece.now.who piece.now.extents.now piece.now.from piece.now.row) at (owner_bytes (sizes_of shape.now) piece.now.extents.now (contents (D.history disk.old))) damage (D.history disk.old) (D.history disk.new)) }
+    ensures walk { OnOk result (D.tells → Walks (sizes_of shape.now) tables.now (record { extents = piece.now.extents.now; at = at; stored = stored_at (drop at (row_bytes (sizes_of shape.now) (contents (D.history disk.old)) (row_place piece.now.who piece.now.extents.now piece.now.from piece.now.row))) } ∷ []) filled.old filled.new (D.history disk.old) (D.history disk.new)) }
+    ensures gives { OnOk result (D.tells → F.tells → Gives tables.now (record { extents = piece.now.extents.now; at = at; stored = stored_at (drop at (row_bytes (sizes_of shape.now) (contents (D.history disk.old)) (row_place piece.now.who piece.now.extents.now piece.now.from piece.now.row))) } ∷ []) filled.old (held (F.files files.old) name.now) (held (F.files files.new) name.now)) }
 {
-    let header = read_header(disk, shape, piece.extents, piece.who, at, piece.to)?;
+    let end = piece.from + piece.row.bytes;
+    let header = read_header(disk, shape, piece.extents, piece.who, at, end)?;
     let next = at + 36 + u64::from(header.length);
     if !wants(tables, filled, &header.mark) {
         return Ok(next);
