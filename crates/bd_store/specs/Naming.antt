@@ -1,17 +1,45 @@
--- What a refused intake is answered with, and what holds but where the disk failed.
-use Rattle.std.specs.Prelude.{Result, Ok, Err}
+-- What the faults of the crates below are answered with, what is said of a named damage, and what holds but where the disk
+-- failed.
+use Rattle.std.specs.Prelude.{ℕ, Result, Ok, Err}
+use Rattle.bd_disk.specs.History.{History, contents}
+use Rattle.bd_catalog.specs.Damages.{IsOfRestore, IsSeen}
+use Rattle.bd_catalog.specs.Opening.{Found}
+use Rattle.bd_catalog.specs.Sound.{recipe_of}
+use Rattle.bd_recipe.specs.declared.fault.ReadFault.{ReadFault}
+use Rattle.bd_recipe.specs.declared.fault.ReadFault.TheVariants.{DiskFault as ReadDisk, Damaged as ReadDamaged, OutOfMemory as ReadMemory}
+use Rattle.bd_restore.specs.Met.{IsNeeded}
+use Rattle.bd_restore.specs.declared.fault.RestoreFault.{RestoreFault}
+use Rattle.bd_restore.specs.declared.fault.RestoreFault.TheVariants.{TargetFault as RestoreTarget, DiskFault as RestoreDisk, Damaged as RestoreDamaged, OutOfMemory as RestoreMemory}
 use Rattle.bd_model.specs.declared.answer.Answer.{Answer}
 use Rattle.bd_model.specs.declared.answer.Answer.TheVariants.{FullExtents}
 use Rattle.bd_intake.specs.declared.fault.IntakeFault.{IntakeFault}
 use Rattle.bd_intake.specs.declared.fault.IntakeFault.TheVariants.{Full, SourceFault, DiskFault, OutOfMemory}
 use Rattle.bd_store.specs.declared.fault.StoreFault.{StoreFault}
-use Rattle.bd_store.specs.declared.fault.StoreFault.TheVariants.{SourceFault as SourceFailed, DiskFault as DiskFailed, OutOfMemory as MemoryFailed}
+use Rattle.bd_store.specs.declared.fault.StoreFault.TheVariants.{SourceFault as SourceFailed, TargetFault as TargetFailed, DiskFault as DiskFailed, Damaged as DamageFound, OutOfMemory as MemoryFailed}
 
 abbrev pub refusal_of : IntakeFault → Result Answer StoreFault
 refusal_of (Full counted free held) = Ok (FullExtents counted free held)
 refusal_of SourceFault = Err SourceFailed
 refusal_of DiskFault = Err DiskFailed
 refusal_of OutOfMemory = Err MemoryFailed
+
+-- why a recipe couldn't be read, and why a planned version wasn't given back
+abbrev pub fault_of_reading : ReadFault → StoreFault
+fault_of_reading ReadDisk = DiskFailed
+fault_of_reading (ReadDamaged damage) = DamageFound damage
+fault_of_reading ReadMemory = MemoryFailed
+
+abbrev pub fault_of_restore : RestoreFault → StoreFault
+fault_of_restore RestoreTarget = TargetFailed
+fault_of_restore RestoreDisk = DiskFailed
+fault_of_restore (RestoreDamaged damage) = DamageFound damage
+fault_of_restore RestoreMemory = MemoryFailed
+
+-- a damage that is answered is of this restore, was read in this call, and breaks its rule
+abbrev pub NamesDamage : Found → ℕ → History → History → Result Answer StoreFault → Type 0
+NamesDamage found v old new (Err (DamageFound damage)) =
+    IsOfRestore v damage × IsNeeded (recipe_of found.sizes found.catalogue (contents old) v) damage × IsSeen found.sizes found.catalogue (contents old) damage old new
+NamesDamage found v old new result = Unit {0}
 
 -- this holds unless the disk failed
 abbrev pub UnlessDiskFailed : Result Answer StoreFault → Type 0 → Type 0

@@ -64,6 +64,11 @@ pub record Kept (t : Task) (image : List ℕ) (files : FileMap) : Type 0 where
   pub stands : Stands t.shape t.held t.state image
   pub beside : KeepsFiles t.command t.files files
 
+-- the same, and no file changed
+pub record KeptWhole (t : Task) (image : List ℕ) (files : FileMap) : Type 0 where
+  pub stands : Stands t.shape t.held t.state image
+  pub beside : files ≡ t.files
+
 -- the same, and the store is arranged
 pub record KeptArranged (t : Task) (image : List ℕ) (files : FileMap) : Type 0 where
   pub stands : StandsFor t.shape t.state Settled t.held image
@@ -85,7 +90,7 @@ MakesStep t phase image files (Ok answer) = Answered t phase answer image files
 MakesStep t phase image files (Err SourceFault) = KeptArranged t image files
 MakesStep t phase image files (Err TargetFault) = Kept t image files
 MakesStep t phase image files (Err OutOfMemory) = Kept t image files
-MakesStep t phase image files (Err Unbuilt) = Kept t image files
+MakesStep t phase image files (Err Unbuilt) = KeptWhole t image files
 MakesStep t phase image files (Err DiskFault) = KeptOrMade t image files
 MakesStep t phase image files (Err (Damaged damage)) = ⊥
 

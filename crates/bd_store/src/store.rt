@@ -1,4 +1,5 @@
 ghost use Rattle.std.specs.Prelude.{◌≡◌, ◌↔◌, ◌≤◌, ◌<◌, true, false, IfOk, OnOk, IfErr, Ok, Err};
+ghost use Rattle.std.specs.FinMap as map;
 ghost use Rattle.bd_disk.specs.Calls.{Rose};
 ghost use Rattle.bd_disk.specs.History.{contents};
 ghost use Rattle.bd_disk.specs.Looks.{LooksOnlyAt};
@@ -7,20 +8,23 @@ ghost use Rattle.bd_model.specs.Sizes.{sizes_of, disk_bytes, extent_place};
 ghost use Rattle.bd_model.specs.State.{empty, last_number};
 ghost use Rattle.bd_model.specs.Step.{without_room};
 ghost use Rattle.bd_model.specs.declared.layout.Phase.TheVariants.{Settled};
-ghost use Rattle.bd_model.specs.declared.command.Command.TheVariants.{Backup};
+ghost use Rattle.bd_model.specs.declared.command.Command.TheVariants.{Backup, Restore};
 ghost use Rattle.bd_model.specs.declared.answer.Answer.TheVariants.{Listed};
 ghost use Rattle.bd_gate.specs.Superblock.{is_marked};
 ghost use Rattle.bd_catalog.specs.Agreement.{Agrees};
 ghost use Rattle.bd_catalog.specs.Catalogue.{oldest_in, retained_in};
 ghost use Rattle.bd_catalog.specs.Opening.{opened};
+ghost use Rattle.bd_catalog.specs.Sound.{content};
 ghost use Rattle.bd_catalog.specs.Standing.{StandsFor, lines_from};
+ghost use Rattle.bd_files.specs.Files.{ChangesOnly};
 ghost use Rattle.bd_recover.specs.Answers.{AnswersFormat, MeasuresFormat, RefusesUntouched, format_refusal};
 ghost use Rattle.bd_store.specs.Causes.{counts, FailsOnlyByCount, StraysOnlyBy};
+ghost use Rattle.bd_store.specs.Naming.{NamesDamage};
 ghost use Rattle.bd_store.specs.Openings.{IsNoneOrEmpty, AnswersOpening};
 ghost use Rattle.bd_store.specs.Shown.{SameVersions};
 ghost use Rattle.bd_store.specs.Steps.{IsOneStep};
 ghost use Rattle.bd_store.specs.Stops.{IsSafeAtStops};
-ghost use Rattle.bd_store.specs.Touches.{AnswersByNumbers, AnswersFirst, BackupReads};
+ghost use Rattle.bd_store.specs.Touches.{AnswersByNumbers, AnswersByVersion, AnswersFirst, BackupReads, IfRestored, IsByVersion, WalksTo};
 
 use crate::fault::{StoreFault, is_disk_fault};
 use crate::first::take_first;
@@ -190,6 +194,40 @@ impl Store {
         );
         self.worn = is_disk_fault(&result);
         result
+    }
+
+    /// Gives a retained version back: the named target has its stream afterwards. It changes nothing on the disk.
+    pub fn restore<D: Disk, F: Files>(
+        &mut self,
+        disk: &mut D,
+        files: &mut F,
+        version: u32,
+        name: &Name,
+    ) -> Result<Answer, StoreFault>
+        requires room { disk_bytes self.old.found.sizes ≤ D.bytes disk.old }
+        requires agrees { D.tells → Agrees self.old.found (D.history disk.old) }
+        requires sound { self.old.worn ≡ false }
+        ensures bytes { D.bytes disk.new ≡ D.bytes disk.old }
+        ensures cause { FailsOnlyByCount (counts (D.faults disk.old) (F.source_faults files.old) (F.target_faults files.old)) (counts (D.faults disk.new) (F.source_faults files.new) (F.target_faults files.new)) result }
+        ensures strays { F.tells → F.strays files.new ≡ F.strays files.old }
+        ensures numbers { AnswersByVersion self.old.found version result }
+        ensures untouched { IsByVersion result → (disk.new ≡ disk.old) × (files.new ≡ files.old) }
+        ensures worn { (self.new.worn ≡ true) ↔ (result ≡ Err StoreFault.DiskFault) }
+        ensures same { (self.new.found ≡ self.old.found) × (self.new.held ≡ self.old.held) }
+        ensures agrees { self.new.worn ≡ false → D.tells → Agrees self.new.found (D.history disk.new) }
+        ensures others { F.tells → ChangesOnly name.now (F.files files.old) (F.files files.new) }
+        ensures writes { D.tells → WritesNothing (D.history disk.old) (D.history disk.new) }
+        // A damage is one of this restore, its bytes were read, and they break its rule.
+        ensures damage { D.tells → NamesDamage self.old.found version (D.history disk.old) (D.history disk.new) result }
+        // Whatever image it is: the target has what the recipe's entries find there.
+        ensures file { IfRestored result (D.tells → F.tells → F.files files.new ≡ map.insert (F.files files.old) name.now (content self.old.found (contents (D.history disk.old)) version)) }
+        ensures places { IfRestored result (D.tells → WalksTo self.old.held self.old.found version (D.history disk.old) (D.history disk.new)) }
+        // It is one step of the version machine.
+        ensures step { D.tells → F.tells → IsOneStep (Restore version name.now) self.old.held (D.history disk.old) (D.history disk.new) (F.files files.old) (F.files files.new) result }
+        // A stop at any moment leaves the state as it is.
+        ensures stops { D.tells → F.tells → IsSafeAtStops (Restore version name.now) self.old.held (D.history disk.old) (D.history disk.new) (F.files files.old) result }
+    {
+        Err(StoreFault::OutOfMemory)
     }
 
     /// The retained versions, ascending.
