@@ -1,8 +1,8 @@
 -- How often lists have a chunk.
-use Rattle.std.proofs.Common.{◌≡◌, ℕ, zero, suc, ◌+◌, ◌<◌, ◌≤◌, Bool, true, false, cond, not, ◌&&◌, ◌||◌, List, [], ◌∷◌, ◌++◌, length, refl, sym, ◌∙◌, ap, subst, arith, filter, sum_by, replicate, nat_lt, lt-ltb, le-ltb}
+use Rattle.std.proofs.Common.{◌≡◌, ℕ, ◌+◌, true, false, cond, ◌||◌, List, [], ◌∷◌, ◌++◌, length, refl, sym, ◌∙◌, ap, subst, arith, filter, sum_by, nat_lt, lt-ltb}
 use Rattle.std.specs.Prelude.{IsPermutation}
 use Rattle.std.specs.Str.{bytes_eq}
-use Rattle.std.proofs.lemmas.Bool.{false≢true, or_cases, or_left, or_right}
+use Rattle.std.proofs.lemmas.Bool.{false≢true}
 use Rattle.std.proofs.lemmas.List.Sums.{sum_by-cons, sum_by-append}
 use Rattle.std.proofs.lemmas.List.Sorted.{IsPermutation-refl, IsPermutation-sym, IsPermutation-cons, IsPermutation-middle, IsPermutation-trans}
 use Rattle.sha2.proofs.Facts256.{length-sha256}
@@ -10,7 +10,7 @@ use Rattle.bd_model.specs.History.{contains, distinct}
 use Rattle.bd_model.specs.Marks.{mark}
 use Rattle.bd_model.proofs.ListLemmas.{sum_by-filter}
 use Rattle.bd_model.proofs.NeedLemmas.{list_any-from_sum}
-use Rattle.bd_model.proofs.ChunkListLemmas.{bytes_eq-refl, bytes_eq-same, bytes_eq-other, filter-equal}
+use Rattle.bd_model.proofs.ChunkListLemmas.{bytes_eq-refl, bytes_eq-same, filter-equal}
 
 pub length-mark : (c : List ℕ) → length (mark c) ≡ 32
 unfolding mark
@@ -30,7 +30,7 @@ times-cons d cs c = sum_by-cons (λ e. cond (bytes_eq c e) 1 0) d cs
 pub times-append : (cs ds : List (List ℕ)) (c : List ℕ) → times (cs ++ ds) c ≡ times cs c + times ds c
 times-append cs ds c = sum_by-append (λ e. cond (bytes_eq c e) 1 0) cs ds
 
-pub times-filter : (cs : List (List ℕ)) (c : List ℕ) → sum_by (λ _. 1) (filter (bytes_eq c) cs) ≡ times cs c
+times-filter : (cs : List (List ℕ)) (c : List ℕ) → sum_by (λ _. 1) (filter (bytes_eq c) cs) ≡ times cs c
 times-filter cs c = sum_by-filter (λ _. 1) (bytes_eq c) cs
 
 pub contains-times : (cs : List (List ℕ)) (c : List ℕ) → contains cs c ≡ nat_lt 0 (times cs c)
@@ -58,7 +58,7 @@ splits (d ∷ cs) c has =
     ] refl has
 
 -- where the split has the chunk once more than the two parts
-pub times-middle : (cs ds : List (List ℕ)) (d c : List ℕ) → times (cs ++ (d ∷ ds)) c ≡ cond (bytes_eq c d) 1 0 + times (cs ++ ds) c
+times-middle : (cs ds : List (List ℕ)) (d c : List ℕ) → times (cs ++ (d ∷ ds)) c ≡ cond (bytes_eq c d) 1 0 + times (cs ++ ds) c
 times-middle cs ds d c = omega (arith, times-append cs (d ∷ ds) c, times-cons d ds c, times-append cs ds c)
 
 no_chunks : (cs : List (List ℕ)) → ((c : List ℕ) → times cs c ≡ 0) → [] ≡ cs

@@ -1,5 +1,5 @@
 -- The records of a version's chunks, each of them once, give its entries what they need.
-use Rattle.std.proofs.Common.{◌≡◌, ℕ, zero, suc, ◌+◌, ◌<◌, ◌≤◌, Bool, true, false, cond, not, ◌&&◌, List, [], ◌∷◌, ◌++◌, length, map, refl, sym, ◌∙◌, ap, subst, arith, replicate, nat_lt, lt-ltb, eq-eqb, append_assoc}
+use Rattle.std.proofs.Common.{◌≡◌, ℕ, ◌+◌, ◌≤◌, true, false, cond, not, ◌&&◌, List, [], ◌∷◌, ◌++◌, length, map, refl, sym, ◌∙◌, ap, subst, arith, replicate, nat_lt, lt-ltb, eq-eqb, append_assoc}
 use Rattle.std.specs.Prelude.{◌==◌}
 use Rattle.std.specs.Str.{bytes_eq}
 use Rattle.std.specs.List.{list_all, flat_map}
@@ -31,7 +31,7 @@ module _ (h : History) (v : ℕ) (ws : List (List ℕ)) (once : EachOnce (versio
   apart_in c has xs inside = λ d there same. apart c has d (sym (same_chunks d) ∙ inside d there) same
 
   -- the records with the mark of a chunk are its own one
-  pub own_record : (c : List ℕ) → contains cs c ≡ true → with_mark (mark c) (map stored_of ws) ≡ stored_of c ∷ []
+  own_record : (c : List ℕ) → contains cs c ≡ true → with_mark (mark c) (map stored_of ws) ≡ stored_of c ∷ []
   own_record c has = with_mark-stored ws c (apart_in c has ws (λ d there. there)) ∙ ap (λ n. replicate n (stored_of c)) (once c ∙ ap (λ t. cond t 1 0) has)
 
   entry_stored : (c : List ℕ) → contains cs c ≡ true → is_stored (map stored_of ws) (entry_of h v c) ≡ true

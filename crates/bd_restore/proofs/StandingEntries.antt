@@ -1,9 +1,8 @@
 -- The recipe of a retained version, as it is read back.
-use Rattle.std.proofs.Common.{◌≡◌, ℕ, zero, suc, ◌+◌, ◌-◌, ◌*◌, ◌^◌, ◌<◌, ◌≤◌, Bool, true, false, cond, ◌&&◌, List, [], ◌∷◌, ◌++◌, length, take, drop, map, get_or, refl, sym, ◌∙◌, ap, subst, arith, sum_by, fold, nat_le, nat_lt, le-leb, lt-ltb, eq-eqb, append_assoc, length-append, Some, None}
-use Rattle.std.specs.Prelude.{IsTrue, ◌==◌, Ok, Err}
-use Rattle.std.specs.Int.{w32, from_be_bytes}
-use Rattle.std.specs.List.{list_all, range_with_len, concat, flat_map}
-use Rattle.std.proofs.lemmas.List.{take_at, drop_at, length-map}
+use Rattle.std.proofs.Common.{◌≡◌, ℕ, zero, suc, ◌+◌, ◌-◌, ◌*◌, ◌^◌, ◌<◌, ◌≤◌, true, cond, ◌&&◌, List, [], ◌∷◌, ◌++◌, length, take, drop, map, get_or, refl, sym, ◌∙◌, ap, arith, nat_le, nat_lt, le-leb, lt-ltb, eq-eqb, append_assoc, length-append, None}
+use Rattle.std.specs.Prelude.{◌==◌, Ok, Err}
+use Rattle.std.specs.List.{list_all, range_with_len, flat_map}
+use Rattle.std.proofs.lemmas.List.{take_at, drop_at}
 use Rattle.std.proofs.lemmas.List.Concat.{concat_is, length-flat_map}
 use Rattle.std.proofs.lemmas.List.Folds.{fold-map}
 use Rattle.bd_model.specs.declared.shape.Shape.{Shape}
@@ -14,17 +13,16 @@ use Rattle.bd_model.specs.Chunks.{Cut, chunks, chunks_from, numbers}
 use Rattle.bd_model.specs.Extents.{owner_bytes}
 use Rattle.bd_model.specs.History.{History, version, newest, oldest, contains}
 use Rattle.bd_model.specs.Laws.{IsCut}
-use Rattle.bd_model.specs.Marks.{mark}
 use Rattle.bd_model.specs.Recipe.{recipe, entry_of, start_of}
 use Rattle.bd_model.specs.Records.{four, spelled_entry, spelled_recipe, entry_at, entries_in}
-use Rattle.bd_model.specs.Sizes.{Sizes, sizes_of}
+use Rattle.bd_model.specs.Sizes.{sizes_of}
 use Rattle.bd_model.specs.State.{VersionState, cut_of, history, streams, stream_of}
 use Rattle.bd_model.specs.Step.{version_line, version_lines}
 use Rattle.bd_model.proofs.ChunkLemmas.{chunks_are_within_bounds, concat-chunks}
 use Rattle.bd_model.proofs.RecipeLemmas.{start_of-le, start_of-low}
 use Rattle.bd_catalog.specs.Catalogue.{Catalogue, VersionEntry, oldest_in, recipe_extents}
 use Rattle.bd_catalog.specs.Sound.{recipe_of, entry_holds}
-use Rattle.bd_catalog.specs.Standing.{BeginWith, HasNumbers, HasVersions, lines_from}
+use Rattle.bd_catalog.specs.Standing.{HasNumbers, HasVersions, lines_from}
 use Rattle.bd_recipe.specs.Entries.{first_bad}
 use Rattle.bd_recipe.specs.Reading.{chunks_in, length_in, recipe_found, total, with_sum}
 use Rattle.bd_recipe.proofs.Entries.{entry_at-fields, entries_in-take, first_bad-none}
@@ -46,17 +44,17 @@ module _ (e : RecipeEntry) (rest : List ℕ) (fits : FitEntry e) where
   bytes-are : bytes ≡ e.mark.0 ++ (four e.length ++ (four e.start ++ rest))
   bytes-are = append_assoc (e.mark.0 ++ four e.length) (four e.start) rest ∙ append_assoc e.mark.0 (four e.length) (four e.start ++ rest)
 
-  pub entry-read : entry_at bytes ≡ e
+  entry-read : entry_at bytes ≡ e
   entry-read =
       sym (entry_at-fields bytes e.mark.0 (four e.start ++ rest) rest e.length e.start fits.bytes fits.start
       (sym (ap (take 32) bytes-are ∙ take_at e.mark.0 (four e.length ++ (four e.start ++ rest)) 32 fits.mark))
       (ap (drop 32) bytes-are ∙ drop_at e.mark.0 (four e.length ++ (four e.start ++ rest)) 32 fits.mark)
       refl)
 
-  pub length-spelled : length (spelled_entry e) ≡ 40
+  length-spelled : length (spelled_entry e) ≡ 40
   length-spelled = omega (arith, length-append (e.mark.0 ++ four e.length) (four e.start), length-append e.mark.0 (four e.length), fits.mark)
 
-  pub behind_entry : drop 40 bytes ≡ rest
+  behind_entry : drop 40 bytes ≡ rest
   behind_entry = drop_at (spelled_entry e) rest 40 length-spelled
 
 -- entries of chunks end to end
@@ -67,7 +65,7 @@ module _ (e : List ℕ → RecipeEntry) where
   fit_later : (c : List ℕ) (cs : List (List ℕ)) → Fit (c ∷ cs) → Fit cs
   fit_later c cs fits = λ d has. fits d (contains_later c d cs has)
 
-  pub entries-read : (cs : List (List ℕ)) → Fit cs → entries_in (length cs) (spelled_recipe (map e cs)) ≡ map e cs
+  entries-read : (cs : List (List ℕ)) → Fit cs → entries_in (length cs) (spelled_recipe (map e cs)) ≡ map e cs
   entries-read [] fits = refl
   entries-read (c ∷ cs) fits =
       let fit = fits c (contains_first c cs) in
@@ -75,7 +73,7 @@ module _ (e : List ℕ → RecipeEntry) where
       (λ i. entry-read (e c) rest fit i ∷ entries_in (length cs) (behind_entry (e c) rest fit i))
       ∙ ap (λ es. e c ∷ es) (entries-read cs (fit_later c cs fits))
 
-  pub length-spelled_entries : (cs : List (List ℕ)) → Fit cs → length (spelled_recipe (map e cs)) ≡ 40 * length cs
+  length-spelled_entries : (cs : List (List ℕ)) → Fit cs → length (spelled_recipe (map e cs)) ≡ 40 * length cs
   length-spelled_entries [] fits = refl
   length-spelled_entries (c ∷ cs) fits =
       omega (
@@ -86,7 +84,7 @@ module _ (e : List ℕ → RecipeEntry) where
       )
 
   -- bytes that begin with entries
-  pub entries-begin : (cs : List (List ℕ)) (owner : List ℕ) → Fit cs → take (length (spelled_recipe (map e cs))) owner ≡ spelled_recipe (map e cs) → entries_in (length cs) owner ≡ map e cs
+  entries-begin : (cs : List (List ℕ)) (owner : List ℕ) → Fit cs → take (length (spelled_recipe (map e cs))) owner ≡ spelled_recipe (map e cs) → entries_in (length cs) owner ≡ map e cs
   entries-begin cs owner fits begins =
       sym (entries_in-take (length cs) (40 * length cs) owner (omega arith))
       ∙ ap (λ n. entries_in (length cs) (take n owner)) (sym (length-spelled_entries cs fits))
@@ -119,7 +117,7 @@ map-map g f (x ∷ xs) = ap (λ ys. g (f x) ∷ ys) (map-map g f xs)
 
 -- ---- the chunks of a version
 
-pub cut_is : (shape : Shape) → IsCut (cut_of shape)
+cut_is : (shape : Shape) → IsCut (cut_of shape)
 cut_is shape = (shape.in_range.min_low, shape.in_range.max_low)
 
 no_stream : (cut : Cut) → chunks cut [] ≡ []

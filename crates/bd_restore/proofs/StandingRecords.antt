@@ -1,13 +1,12 @@
 -- The records of chunks, as they are read back.
-use Rattle.std.proofs.Common.{◌≡◌, ℕ, zero, suc, ◌+◌, ◌^◌, ◌<◌, ◌≤◌, Bool, true, false, cond, ◌&&◌, List, [], ◌∷◌, ◌++◌, length, take, drop, map, refl, sym, ◌∙◌, ap, subst, arith, filter, sum_by, replicate, fold, nat_le, le-leb, eq-eqb, append_assoc, drop-drop, length-append}
-use Rattle.std.specs.Prelude.{IsTrue, ◌==◌}
+use Rattle.std.proofs.Common.{◌≡◌, ℕ, suc, ◌+◌, ◌^◌, ◌<◌, ◌≤◌, true, false, cond, ◌&&◌, List, [], ◌∷◌, ◌++◌, length, take, drop, map, refl, sym, ◌∙◌, ap, arith, sum_by, replicate, nat_le, le-leb, eq-eqb, append_assoc, drop-drop}
+use Rattle.std.specs.Prelude.{◌==◌}
 use Rattle.std.specs.Str.{bytes_eq}
 use Rattle.std.specs.Int.{w32, from_be_bytes}
 use Rattle.std.specs.List.{list_all}
 use Rattle.std.proofs.lemmas.Bool.{or_left, or_right}
-use Rattle.std.proofs.lemmas.List.{take_at, drop_at, length-map}
+use Rattle.std.proofs.lemmas.List.{take_at, drop_at}
 use Rattle.std.proofs.lemmas.List.Folds.{fold-map}
-use Rattle.std.proofs.lemmas.List.Sums.{sum_by-cons}
 use Rattle.std.proofs.lemmas.Nat.{from_be_bytes-to_be_bytes_4}
 use Rattle.bd_model.specs.History.{contains}
 use Rattle.bd_model.specs.Layout.{record_bytes, row_of}
@@ -43,7 +42,7 @@ module _ (c rest : List ℕ) (small : length c < 2 ^ 32) where
   bytes-are : bytes ≡ four (length c) ++ (mark c ++ (c ++ rest))
   bytes-are = append_assoc (four (length c) ++ mark c) c rest ∙ append_assoc (four (length c)) (mark c) (c ++ rest)
 
-  pub length-read : from_be_bytes w32 (take 4 bytes) ≡ length c
+  length-read : from_be_bytes w32 (take 4 bytes) ≡ length c
   length-read = ap (λ l. from_be_bytes w32 (take 4 l)) bytes-are ∙ from_be_bytes-to_be_bytes_4 (length c) small
 
   behind_length : drop 4 bytes ≡ mark c ++ (c ++ rest)
