@@ -1,0 +1,90 @@
+-- The records of a version's chunks, each of them once, give its entries what they need.
+use Rattle.std.proofs.Common.{◌≡◌, ℕ, ◌+◌, ◌≤◌, true, false, cond, not, ◌&&◌, List, [], ◌∷◌, ◌++◌, length, map, refl, sym, ◌∙◌, ap, subst, arith, replicate, nat_lt, lt-ltb, eq-eqb, append_assoc}
+use Rattle.std.specs.Prelude.{◌==◌}
+use Rattle.std.specs.Str.{bytes_eq}
+use Rattle.std.specs.List.{list_all, flat_map}
+use Rattle.std.proofs.lemmas.Bool.{or_left}
+use Rattle.std.proofs.lemmas.List.{map-append}
+use Rattle.bd_model.specs.History.{History, version, contains}
+use Rattle.bd_model.specs.Marks.{mark}
+use Rattle.bd_model.specs.Recipe.{recipe, entry_of, has_mark}
+use Rattle.bd_model.specs.Records.{Stored}
+use Rattle.bd_model.proofs.ChunkListLemmas.{bytes_eq-refl, contains-append}
+use Rattle.bd_model.proofs.NeedLemmas.{TellsApart, has_mark-map}
+use Rattle.bd_catalog.specs.Sound.{is_stored, first_body, with_mark}
+use Rattle.bd_restore.specs.Walk.{joined, is_found, is_wanted}
+use Rattle.bd_restore.proofs.StandingChunks.{EachOnce, times, times-append, times-cons, contains-times}
+use Rattle.bd_restore.proofs.StandingReads.{AreWanted}
+use Rattle.bd_restore.proofs.StandingRecords.{stored_of, with_mark-stored, contains_first, contains_later}
+
+-- chunks each of which is there once
+module _ (h : History) (v : ℕ) (ws : List (List ℕ)) (once : EachOnce (version h v) ws) (apart : (c : List ℕ) → contains (version h v) c ≡ true → TellsApart c (version h v)) where
+  abbrev cs : List (List ℕ)
+  cs = version h v
+
+  pub same_chunks : (c : List ℕ) → contains ws c ≡ contains cs c
+  same_chunks c =
+      contains-times ws c ∙ ap (nat_lt 0) (once c)
+      ∙ elim (contains cs c) as (λ t. nat_lt 0 (cond t 1 0) ≡ t) [ true ↦ refl | false ↦ refl ]
+
+  apart_in : (c : List ℕ) → contains cs c ≡ true → (xs : List (List ℕ)) → ((d : List ℕ) → contains xs d ≡ true → contains ws d ≡ true) → TellsApart c xs
+  apart_in c has xs inside = λ d there same. apart c has d (sym (same_chunks d) ∙ inside d there) same
+
+  -- the records with the mark of a chunk are its own one
+  own_record : (c : List ℕ) → contains cs c ≡ true → with_mark (mark c) (map stored_of ws) ≡ stored_of c ∷ []
+  own_record c has = with_mark-stored ws c (apart_in c has ws (λ d there. there)) ∙ ap (λ n. replicate n (stored_of c)) (once c ∙ ap (λ t. cond t 1 0) has)
+
+  entry_stored : (c : List ℕ) → contains cs c ≡ true → is_stored (map stored_of ws) (entry_of h v c) ≡ true
+  entry_stored c has =
+      ap (λ (rs : List Stored). nat_lt 0 (length rs) && list_all (λ r. r.length == length c) rs) (own_record c has)
+      ∙ ap (λ t. t && true) (eq-eqb (length c) (length c) refl)
+
+  entries_stored : (xs : List (List ℕ)) → ((c : List ℕ) → contains xs c ≡ true → contains cs c ≡ true) → list_all (is_stored (map stored_of ws)) (map (entry_of h v) xs) ≡ true
+  entries_stored [] inside = refl
+  entries_stored (c ∷ xs) inside =
+      λ i. entry_stored c (inside c (contains_first c xs)) i && entries_stored xs (λ d has. inside d (contains_later c d xs has)) i
+
+  -- each entry is stored
+  pub recipe_stored : list_all (is_stored (map stored_of ws)) (recipe h v) ≡ true
+  recipe_stored = entries_stored cs (λ c has. has)
+
+  entries_joined : (xs : List (List ℕ)) → ((c : List ℕ) → contains xs c ≡ true → contains cs c ≡ true) → joined (map (entry_of h v) xs) (map stored_of ws) ≡ flat_map (λ c. c) xs
+  entries_joined [] inside = refl
+  entries_joined (c ∷ xs) inside =
+      λ i. first_body (own_record c (inside c (contains_first c xs)) i) ++ entries_joined xs (λ d has. inside d (contains_later c d xs has)) i
+
+  -- and their bodies are the chunks
+  pub recipe_joined : joined (recipe h v) (map stored_of ws) ≡ flat_map (λ c. c) cs
+  recipe_joined = entries_joined cs (λ c has. has)
+
+  -- ---- one record after the other
+
+  some_there : (front behind : List (List ℕ)) (c : List ℕ) → front ++ (c ∷ behind) ≡ ws → (1 ≤ times ws c) × (times front c + 1 ≤ times ws c)
+  some_there front behind c so =
+      let one : ◌≡◌ {A = ℕ} (cond (bytes_eq c c) 1 0) 1 = ap (λ t. cond t 1 0) (bytes_eq-refl c) in
+      let all : times front c + (1 + times behind c) ≡ times ws c = omega (arith, one, times-append front (c ∷ behind) c, times-cons c behind c, ap (λ xs. times xs c) so) in
+      (omega arith, omega arith)
+
+  wanted_here : (front behind : List (List ℕ)) (c : List ℕ) → front ++ (c ∷ behind) ≡ ws → is_wanted (recipe h v) (map stored_of front) (mark c) ≡ true
+  wanted_here front behind c so =
+      let there = some_there front behind c so in
+      let has : contains cs c ≡ true = sym (same_chunks c) ∙ contains-times ws c ∙ lt-ltb 0 (times ws c) (omega (arith, there.0)) in
+      let exactly : times ws c ≡ 1 = once c ∙ ap (λ t. cond t 1 0) has in
+      let none : times front c ≡ 0 = omega (arith, there.1) in
+      let known : has_mark (recipe h v) (mark c) ≡ true = has_mark-map (entry_of h v) (λ _. refl) cs c (apart c has) ∙ has in
+      let unseen : is_found (map stored_of front) (mark c) ≡ false =
+      ap (λ (rs : List Stored). nat_lt 0 (length rs))
+      (with_mark-stored front c (apart_in c has front (λ d at_front. ap (λ xs. contains xs d) (sym so) ∙ contains-append front (c ∷ behind) d ∙ or_left (contains front d) (contains (c ∷ behind) d) at_front))
+      ∙ ap (λ n. replicate n (stored_of c)) none) in
+      λ i. known i && not (unseen i)
+
+  wanted_from : (front behind : List (List ℕ)) → front ++ behind ≡ ws → AreWanted (recipe h v) (map stored_of front) (map stored_of behind)
+  wanted_from front [] so = tt
+  wanted_from front (c ∷ behind) so = (
+    wanted_here front behind c so,
+    subst (λ seen. AreWanted (recipe h v) seen (map stored_of behind)) (map-append stored_of front (c ∷ [])) (wanted_from (front ++ (c ∷ [])) behind (append_assoc front (c ∷ []) behind ∙ so)),
+  )
+
+  -- each record is wanted
+  pub all_wanted : AreWanted (recipe h v) [] (map stored_of ws)
+  all_wanted = wanted_from [] ws refl

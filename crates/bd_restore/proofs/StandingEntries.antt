@@ -1,0 +1,207 @@
+-- The recipe of a retained version, as it is read back.
+use Rattle.std.proofs.Common.{◌≡◌, ℕ, zero, suc, ◌+◌, ◌-◌, ◌*◌, ◌^◌, ◌<◌, ◌≤◌, true, cond, ◌&&◌, List, [], ◌∷◌, ◌++◌, length, take, drop, map, get_or, refl, sym, ◌∙◌, ap, arith, nat_le, nat_lt, le-leb, lt-ltb, eq-eqb, append_assoc, length-append, None}
+use Rattle.std.specs.Prelude.{◌==◌, Ok, Err}
+use Rattle.std.specs.List.{list_all, range_with_len, flat_map}
+use Rattle.std.proofs.lemmas.List.{take_at, drop_at}
+use Rattle.std.proofs.lemmas.List.Concat.{concat_is, length-flat_map}
+use Rattle.std.proofs.lemmas.List.Folds.{fold-map}
+use Rattle.bd_model.specs.declared.shape.Shape.{Shape}
+use Rattle.bd_model.specs.declared.answer.VersionLine.{VersionLine}
+use Rattle.bd_model.specs.declared.damage.Damage.TheVariants.{Sum}
+use Rattle.bd_model.specs.declared.layout.RecipeEntry.{RecipeEntry}
+use Rattle.bd_model.specs.Chunks.{Cut, chunks, chunks_from, numbers}
+use Rattle.bd_model.specs.Extents.{owner_bytes}
+use Rattle.bd_model.specs.History.{History, version, newest, oldest, contains}
+use Rattle.bd_model.specs.Laws.{IsCut}
+use Rattle.bd_model.specs.Recipe.{recipe, entry_of, start_of}
+use Rattle.bd_model.specs.Records.{four, spelled_entry, spelled_recipe, entry_at, entries_in}
+use Rattle.bd_model.specs.Sizes.{sizes_of}
+use Rattle.bd_model.specs.State.{VersionState, cut_of, history, streams, stream_of}
+use Rattle.bd_model.specs.Step.{version_line, version_lines}
+use Rattle.bd_model.proofs.ChunkLemmas.{chunks_are_within_bounds, concat-chunks}
+use Rattle.bd_model.proofs.RecipeLemmas.{start_of-le, start_of-low}
+use Rattle.bd_catalog.specs.Catalogue.{Catalogue, VersionEntry, oldest_in, recipe_extents}
+use Rattle.bd_catalog.specs.Sound.{recipe_of, entry_holds}
+use Rattle.bd_catalog.specs.Standing.{HasNumbers, HasVersions, lines_from}
+use Rattle.bd_recipe.specs.Entries.{first_bad}
+use Rattle.bd_recipe.specs.Reading.{chunks_in, length_in, recipe_found, total, with_sum}
+use Rattle.bd_recipe.proofs.Entries.{entry_at-fields, entries_in-take, first_bad-none}
+use Rattle.bd_restore.proofs.StandingChunks.{length-mark}
+use Rattle.bd_restore.proofs.StandingRecords.{Bounded, contains_first, contains_later}
+
+-- ---- entries
+
+-- numbers that have room in an entry
+pub record FitEntry (e : RecipeEntry) : Type 0 where
+  pub mark : length e.mark.0 ≡ 32
+  pub bytes : e.length < 2 ^ 32
+  pub start : e.start < 2 ^ 32
+
+module _ (e : RecipeEntry) (rest : List ℕ) (fits : FitEntry e) where
+  abbrev bytes : List ℕ
+  bytes = spelled_entry e ++ rest
+
+  bytes-are : bytes ≡ e.mark.0 ++ (four e.length ++ (four e.start ++ rest))
+  bytes-are = append_assoc (e.mark.0 ++ four e.length) (four e.start) rest ∙ append_assoc e.mark.0 (four e.length) (four e.start ++ rest)
+
+  entry-read : entry_at bytes ≡ e
+  entry-read =
+      sym (entry_at-fields bytes e.mark.0 (four e.start ++ rest) rest e.length e.start fits.bytes fits.start
+      (sym (ap (take 32) bytes-are ∙ take_at e.mark.0 (four e.length ++ (four e.start ++ rest)) 32 fits.mark))
+      (ap (drop 32) bytes-are ∙ drop_at e.mark.0 (four e.length ++ (four e.start ++ rest)) 32 fits.mark)
+      refl)
+
+  length-spelled : length (spelled_entry e) ≡ 40
+  length-spelled = omega (arith, length-append (e.mark.0 ++ four e.length) (four e.start), length-append e.mark.0 (four e.length), fits.mark)
+
+  behind_entry : drop 40 bytes ≡ rest
+  behind_entry = drop_at (spelled_entry e) rest 40 length-spelled
+
+-- entries of chunks end to end
+module _ (e : List ℕ → RecipeEntry) where
+  abbrev Fit : List (List ℕ) → Type 0
+  Fit cs = (c : List ℕ) → contains cs c ≡ true → FitEntry (e c)
+
+  fit_later : (c : List ℕ) (cs : List (List ℕ)) → Fit (c ∷ cs) → Fit cs
+  fit_later c cs fits = λ d has. fits d (contains_later c d cs has)
+
+  entries-read : (cs : List (List ℕ)) → Fit cs → entries_in (length cs) (spelled_recipe (map e cs)) ≡ map e cs
+  entries-read [] fits = refl
+  entries-read (c ∷ cs) fits =
+      let fit = fits c (contains_first c cs) in
+      let rest = spelled_recipe (map e cs) in
+      (λ i. entry-read (e c) rest fit i ∷ entries_in (length cs) (behind_entry (e c) rest fit i))
+      ∙ ap (λ es. e c ∷ es) (entries-read cs (fit_later c cs fits))
+
+  length-spelled_entries : (cs : List (List ℕ)) → Fit cs → length (spelled_recipe (map e cs)) ≡ 40 * length cs
+  length-spelled_entries [] fits = refl
+  length-spelled_entries (c ∷ cs) fits =
+      omega (
+        arith,
+        length-append (spelled_entry (e c)) (spelled_recipe (map e cs)),
+        length-spelled (e c) [] (fits c (contains_first c cs)),
+        length-spelled_entries cs (fit_later c cs fits),
+      )
+
+  -- bytes that begin with entries
+  entries-begin : (cs : List (List ℕ)) (owner : List ℕ) → Fit cs → take (length (spelled_recipe (map e cs))) owner ≡ spelled_recipe (map e cs) → entries_in (length cs) owner ≡ map e cs
+  entries-begin cs owner fits begins =
+      sym (entries_in-take (length cs) (40 * length cs) owner (omega arith))
+      ∙ ap (λ n. entries_in (length cs) (take n owner)) (sym (length-spelled_entries cs fits))
+      ∙ ap (entries_in (length cs)) begins
+      ∙ entries-read cs fits
+
+-- ---- a version's entry of the catalogue
+
+get_or-map_at : {X Y : Type 0} (f : X → Y) (xs : List X) (k : ℕ) (d : X) → get_or (map f xs) k (f d) ≡ f (get_or xs k d)
+get_or-map_at f [] k d = refl
+get_or-map_at f (x ∷ xs) zero d = refl
+get_or-map_at f (x ∷ xs) (suc k) d = get_or-map_at f xs k d
+
+get_or-map_range : {X : Type 0} (f : ℕ → X) (a n k : ℕ) (d : X) → k < n → get_or (map f (range_with_len a n)) k d ≡ f (a + k)
+get_or-map_range f a zero k d lt = absurd (omega arith)
+get_or-map_range f a (suc n) zero d lt = ap f (omega arith)
+get_or-map_range f a (suc n) (suc k) d lt = get_or-map_range f (a + 1) n k d (omega arith) ∙ ap f (omega arith)
+
+lines-chunks : (v : ℕ) (es : List VersionEntry) → map (λ (l : VersionLine). l.chunks) (lines_from v es) ≡ map (λ e. e.chunks) es
+lines-chunks v [] = refl
+lines-chunks v (e ∷ es) = ap (λ ns. e.chunks ∷ ns) (lines-chunks (v + 1) es)
+
+lines-bytes : (v : ℕ) (es : List VersionEntry) → map (λ (l : VersionLine). l.bytes) (lines_from v es) ≡ map (λ e. e.length) es
+lines-bytes v [] = refl
+lines-bytes v (e ∷ es) = ap (λ ns. e.length ∷ ns) (lines-bytes (v + 1) es)
+
+map-map : {X Y Z : Type 0} (g : Y → Z) (f : X → Y) (xs : List X) → map g (map f xs) ≡ map (λ x. g (f x)) xs
+map-map g f [] = refl
+map-map g f (x ∷ xs) = ap (λ ys. g (f x) ∷ ys) (map-map g f xs)
+
+-- ---- the chunks of a version
+
+cut_is : (shape : Shape) → IsCut (cut_of shape)
+cut_is shape = (shape.in_range.min_low, shape.in_range.max_low)
+
+no_stream : (cut : Cut) → chunks cut [] ≡ []
+unfolding chunks_from
+no_stream cut = refl
+
+module _ (shape : Shape) (st : VersionState) (v : ℕ) where
+  abbrev h : History
+  h = history shape st
+
+  -- they are those of its stream
+  pub version-chunks : version h v ≡ chunks (cut_of shape) (stream_of st v)
+  version-chunks =
+      let cut = cut_of shape in
+      ap (λ xs. get_or (xs ∷ map (chunks cut) (streams st)) (v - st.base) []) (sym (no_stream cut))
+      ∙ ap (get_or (map (chunks cut) ([] ∷ streams st)) (v - st.base)) (sym (no_stream cut))
+      ∙ get_or-map_at (chunks cut) ([] ∷ streams st) (v - st.base) []
+
+  pub version-joined : flat_map (λ c. c) (version h v) ≡ stream_of st v
+  version-joined = ap (flat_map (λ c. c)) version-chunks ∙ sym (concat_is (chunks (cut_of shape) (stream_of st v))) ∙ concat-chunks (cut_of shape) (stream_of st v) (cut_is shape)
+
+  pub version-bounded : Bounded (sizes_of shape) (version h v)
+  version-bounded c has = chunks_are_within_bounds.each (cut_of shape) (stream_of st v) c (cut_is shape) (ap (λ cs. contains cs c) (sym version-chunks) ∙ has)
+
+  pub total-recipe : total (recipe h v) ≡ length (stream_of st v)
+  total-recipe =
+      fold-map (λ n (e : RecipeEntry). n + e.length) (entry_of h v) 0 (version h v)
+      ∙ sym (length-flat_map (λ c. c) (version h v)) ∙ ap length version-joined
+
+  -- ---- where the version is retained, and the catalogue shows the state
+
+  module _ (c : Catalogue) (image : List ℕ) (low : oldest h ≤ v) (high : v ≤ newest h) (numbered : HasNumbers h c) (versions : HasVersions shape st c image) (some : h.expired < length h.versions) (small : c.newest < 2 ^ 32) where
+    index-is : v - oldest_in c ≡ v - oldest h
+    index-is = omega (arith, numbered.newest, numbered.retained)
+
+    at_lines : {X : Type 0} (f : VersionLine → X) (d : X) → get_or (map f (version_lines st h)) (v - oldest h) d ≡ f (version_line st h v)
+    at_lines f d =
+        let place : oldest h + (v - oldest h) ≡ v = omega arith in
+        ap (λ xs. get_or xs (v - oldest h) d) (map-map f (version_line st h) (numbers (oldest h) (newest h)))
+        ∙ get_or-map_range (λ u. f (version_line st h u)) (oldest h) (newest h + 1 - oldest h) (v - oldest h) d (omega arith)
+        ∙ ap (λ u. f (version_line st h u)) place
+
+    pub chunks-stand : chunks_in c v ≡ length (version h v)
+    chunks-stand =
+        ap (λ k. get_or (map (λ e. e.chunks) c.versions) k 0) index-is
+        ∙ ap (λ xs. get_or xs (v - oldest h) 0) (sym (lines-chunks (oldest_in c) c.versions) ∙ ap (map (λ (l : VersionLine). l.chunks)) versions.lines)
+        ∙ at_lines (λ l. l.chunks) 0
+
+    pub bytes-stand : length_in c v ≡ length (stream_of st v)
+    bytes-stand =
+        ap (λ k. get_or (map (λ e. e.length) c.versions) k 0) index-is
+        ∙ ap (λ xs. get_or xs (v - oldest h) 0) (sym (lines-bytes (oldest_in c) c.versions) ∙ ap (map (λ (l : VersionLine). l.bytes)) versions.lines)
+        ∙ at_lines (λ l. l.bytes) 0
+
+    entry_fits : (x : List ℕ) → contains (version h v) x ≡ true → FitEntry (entry_of h v x)
+    entry_fits x has = record {
+      mark = length-mark x;
+      bytes = omega (arith, (version-bounded x has).1, shape.in_range.max_high);
+      start = omega (arith, start_of-le h v x, numbered.newest);
+    }
+
+    pub recipe-read : recipe_of (sizes_of shape) c image v ≡ recipe h v
+    recipe-read =
+        let owner = owner_bytes (sizes_of shape) (recipe_extents c v) image in
+        ap (λ n. entries_in n owner) chunks-stand
+        ∙ entries-begin (entry_of h v) (version h v) owner entry_fits (versions.recipes v low high).front
+
+    entries_hold : (cs : List (List ℕ)) → ((x : List ℕ) → contains cs x ≡ true → contains (version h v) x ≡ true) → list_all (entry_holds (sizes_of shape) c v) (map (entry_of h v) cs) ≡ true
+    entries_hold [] inside = refl
+    entries_hold (x ∷ cs) inside =
+        let has : contains (version h v) x ≡ true = inside x (contains_first x cs) in
+        let bounds = version-bounded x has in
+        let one : nat_le 1 (length x) ≡ true = le-leb 1 (length x) bounds.0 in
+        let most : nat_le (length x) shape.max ≡ true = le-leb (length x) shape.max bounds.1 in
+        let above : nat_lt c.base (start_of h v x) ≡ true = lt-ltb c.base (start_of h v x) (omega (arith, start_of-low h v x has, numbered.base)) in
+        let within : nat_le (start_of h v x) v ≡ true = le-leb (start_of h v x) v (start_of-le h v x) in
+        λ i. ((((one i && most i) && above i) && within i) && entries_hold cs (λ y more. inside y (contains_later x y cs more)) i)
+
+    pub recipe-found : recipe_found (sizes_of shape) c image v ≡ Ok (recipe h v)
+    recipe-found =
+        let s = sizes_of shape in
+        let es = recipe h v in
+        let bad : first_bad (entry_holds s c v) v 0 es ≡ None = first_bad-none (entry_holds s c v) v 0 es (entries_hold (version h v) (λ x has. has)) in
+        let sum : (total es == length_in c v) ≡ true = eq-eqb (total es) (length_in c v) (total-recipe ∙ sym bytes-stand) in
+        ap (λ xs. with_sum v (length_in c v) xs (first_bad (entry_holds s c v) v 0 xs)) recipe-read
+        ∙ ap (with_sum v (length_in c v) es) bad
+        ∙ ap (λ t. cond t (Ok es) (Err (Sum v (length_in c v) (total es)))) sum
