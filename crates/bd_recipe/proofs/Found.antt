@@ -37,7 +37,7 @@ slice_get-front (y ∷ xs) ys zero x is = is
 slice_get-front (y ∷ xs) ys (suc i) x is = slice_get-front xs ys i x is
 
 -- the places of an entry are among those of the entries up to it
-places_of_entry : (s : Sizes) (extents : List ℕ) (index count : ℕ) → suc index ≤ count → All (λ place. Contains (places_at s extents 0 (40 * count)) place) (places_at s extents (40 * index) 40)
+pub places_of_entry : (s : Sizes) (extents : List ℕ) (index count : ℕ) → suc index ≤ count → All (λ place. Contains (places_at s extents 0 (40 * count)) place) (places_at s extents (40 * index) 40)
 places_of_entry s extents index count lt =
     let places = owner_places s extents in
     let rest = 40 * (count - suc index) in

@@ -1,11 +1,13 @@
 mod Answering
-mod Chains
-mod Contents
+mod Cuts
 mod Finishing
 mod Joining
 mod Marks
 mod Putting
 mod Reading
+mod Rows
+mod Seeing
+mod Splits
 pub mod Standing
 pub mod StandingChunks
 pub mod StandingContent
@@ -15,4 +17,5 @@ pub mod StandingReads
 pub mod StandingRecords
 pub mod StandingRows
 pub mod StandingWalk
+mod WalkRecords
 mod Walking
