@@ -7,17 +7,42 @@ use crate::Files;
 use bd_disk::Failed;
 use bd_model::Name;
 use std::alloc::AllocError;
-use std::fs::{File, Files as Folder};
-use std::io;
+use std::fs::{File, Files as Folder, Metadata};
 use std::io::ErrorKind;
 use std::marker::Model;
-use std::os::unix::fs::FileExt;
+use std::os::unix::fs::{FileExt, MetadataExt};
+use std::{fs, io};
 
 // A file that is kept open.
 #[derive(Drop)]
 struct Kept {
     name: String,
     file: File,
+}
+
+/// Which file or device of the system it is, whatever its name.
+#[derive(Clone, Copy, PartialEq, Eq, Debug)]
+pub struct FileIdentity {
+    device: u64,
+    // 0 for a device, which no file has
+    inode: u64,
+}
+
+impl FileIdentity {
+    /// The file or the device of this metadata.
+    pub fn of(metadata: &Metadata) -> FileIdentity {
+        if metadata.rdev() != 0 {
+            FileIdentity {
+                device: metadata.rdev(),
+                inode: 0,
+            }
+        } else {
+            FileIdentity {
+                device: metadata.dev(),
+                inode: metadata.ino(),
+            }
+        }
+    }
 }
 
 /// Files of the current folder. The last source and the last target are kept open. Contracts see them as how often a
@@ -27,6 +52,8 @@ pub struct RealFiles<R: Folder<File = File> + AllocGlobal + Drop> {
     rt: R,
     source: Option<Kept>,
     target: Option<Kept>,
+    // never a target
+    spared: Option<FileIdentity>,
     source_faults: u64,
     target_faults: u64,
 }
@@ -59,8 +86,23 @@ impl<R: Folder<File = File> + AllocGlobal + Drop> RealFiles<R> {
             rt,
             source: None,
             target: None,
+            spared: None,
             source_faults: 0,
             target_faults: 0,
+        }
+    }
+
+    /// From now on no target is begun over this file: that call fails, and the file stays as it is.
+    pub fn spare(&mut self, file: FileIdentity)
+        ensures { self.new ≡ self.old }
+    {
+        self.spared = Some(file);
+    }
+
+    fn is_spared(&self, name: &str) -> bool {
+        match (self.spared, fs::metadata(&self.rt, name)) {
+            (Some(spared), Ok(found)) => spared == FileIdentity::of(&found),
+            _ => false,
         }
     }
 
@@ -89,6 +131,9 @@ impl<R: Folder<File = File> + AllocGlobal + Drop> RealFiles<R> {
         ensures { self.new ≡ self.old }
     {
         self.target = None;
+        if self.is_spared(name) {
+            return Err(io::Error::from(ErrorKind::PermissionDenied));
+        }
         let file = File::create(&self.rt, name)?;
         file.set_len(length)?;
         self.target = Some(self.keep(name, file)?);

@@ -2,6 +2,7 @@ use super::*;
 use bd_disk::{Disk, Failed, MemDisk};
 use bd_model::Name;
 use std::fs;
+use std::os::unix::fs::symlink;
 use std::test::Fail;
 
 // Makes a file of four bytes under the name, and fetches from it.
@@ -95,6 +96,34 @@ fn files_of_the_folder_give_back_what_was_put(rt: HostRuntime) -> Result<(), Fai
     );
     fs::remove_file(&rt, "bd_files.first")?;
     fs::remove_file(&rt, "bd_files.second")?;
+    Ok(())
+}
+
+#[test]
+fn a_spared_file_is_no_target(rt: HostRuntime) -> Result<(), Fail> {
+    let alloc = rt.alloc();
+    fs::write(&rt, "bd_files.store", b"store".as_slice())?;
+    fs::write(&rt, "bd_files.other", b"other".as_slice())?;
+    let store = Name::new(alloc, "bd_files.store")?;
+    let other = Name::new(alloc, "bd_files.other")?;
+    let linked = Name::new(alloc, "bd_files.link")?;
+    symlink(&rt, "bd_files.store", "bd_files.link")?;
+    let mut files = RealFiles::new(rt);
+    files.spare(FileIdentity::of(&fs::metadata(&rt, "bd_files.store")?));
+    assert_eq!(rt; files.begin(&store, 2), Err(Failed));
+    assert_eq!(rt; files.begin(&linked, 2), Err(Failed));
+    assert_eq!(rt; files.begin(&other, 2), Ok(()));
+    assert_eq!(rt;
+        fs::read(&rt, "bd_files.store")?.as_slice(),
+        b"store".as_slice()
+    );
+    assert_eq!(rt;
+        fs::read(&rt, "bd_files.other")?.as_slice(),
+        [0, 0].as_slice()
+    );
+    for name in ["bd_files.store", "bd_files.other", "bd_files.link"] {
+        fs::remove_file(&rt, name)?;
+    }
     Ok(())
 }
 

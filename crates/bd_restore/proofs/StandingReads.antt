@@ -3,20 +3,12 @@ use Rattle.std.proofs.Common.{◌≡◌, ℕ, zero, suc, ◌+◌, ◌≤◌, Boo
 use Rattle.std.specs.List.{flat_map}
 use Rattle.bd_model.specs.History.{contains}
 use Rattle.bd_model.specs.Extents.{places_at}
-use Rattle.bd_model.specs.Records.{Stored, records_of, stored_at, stored_in}
+use Rattle.bd_model.specs.Records.{Stored, records_of, stored_at}
 use Rattle.bd_model.specs.Sizes.{Sizes}
 use Rattle.bd_model.specs.declared.layout.RecipeEntry.{RecipeEntry}
 use Rattle.bd_catalog.specs.Walks.{record_reads}
 use Rattle.bd_restore.specs.Walk.{Spot, records_at, spots_from, is_wanted, walk_reads}
 use Rattle.bd_restore.proofs.StandingRecords.{Bounded, stored_of, contains_first, contains_later, stored-read, rest-read, small_first, bounded_later}
-
--- the records that stand behind each other
-pub spots-stored : (extents bytes : List ℕ) (n at : ℕ) → records_at (spots_from extents bytes n at) ≡ stored_in n (drop at bytes)
-spots-stored extents bytes zero at = refl
-spots-stored extents bytes (suc n) at =
-    let r = stored_at (drop at bytes) in
-    let place : at + (36 + r.length) ≡ at + 36 + r.length = omega arith in
-    ap (λ l. r ∷ l) (spots-stored extents bytes n (at + 36 + r.length) ∙ ap (stored_in n) (ap (λ p. drop p bytes) (sym place) ∙ sym (drop-drop (36 + r.length) at bytes)))
 
 -- headers and bodies of all
 abbrev pub all_reads : Sizes → List Spot → List ℕ

@@ -20,9 +20,10 @@ use Rattle.bd_catalog.specs.Standing.{HasActives}
 use Rattle.bd_catalog.specs.Walks.{is_used, record_reads}
 use Rattle.bd_restore.specs.Walk.{Spot, records_at, row_spots, spots_in, spots_from, open_row, begun_by}
 use Rattle.bd_restore.proofs.StandingChunks.{length-mark}
-use Rattle.bd_restore.proofs.StandingReads.{all_reads, chunks-read, spots-stored}
+use Rattle.bd_restore.proofs.StandingReads.{all_reads, chunks-read}
 use Rattle.bd_restore.proofs.StandingRecords.{Bounded, stored_of, stored-records, part_stands}
 use Rattle.bd_restore.proofs.StandingRows.{IsOpen, each_open}
+use Rattle.bd_restore.proofs.WalkRecords.{spots_stored}
 
 length-record : (c : List ℕ) → length (record_of c) ≡ 36 + length c
 length-record c = omega (arith, length-append (four (length c) ++ mark c) c, length-append (four (length c)) (mark c), length-mark c)
@@ -76,7 +77,7 @@ module _ (s : Sizes) (short : s.max ≤ 65536) (h : History) (c : Catalogue) (im
         ∙ (λ k. spots_from e.extents (bytes-are k) (is.row k).chunks 0)
 
     spots_records : records_at (row_spots s image (open_row e)) ≡ map stored_of (lives i)
-    spots_records = ap records_at spots-are ∙ spots-stored e.extents (records_of (lives i)) (length (lives i)) 0 ∙ stored-records s short (lives i) (bounded_at i is.high)
+    spots_records = ap records_at spots-are ∙ spots_stored e.extents (records_of (lives i)) (length (lives i)) 0 ∙ stored-records s short (lives i) (bounded_at i is.high)
 
     spots_reads : all_reads s (row_spots s image (open_row e)) ≡ record_reads s (active_extents c i) (is_used h v) 0 (lives i)
     spots_reads =
