@@ -1,5 +1,5 @@
 -- A damage that a restore meets on its walk, and the walks that meet none.
-use Rattle.std.specs.Prelude.{◌≡◌, ◌≢◌, ℕ, ◌+◌, ◌<◌, List, [], ◌∷◌, ◌++◌, length, drop, Bool, All, Contains, IsTrue, IsFalse}
+use Rattle.std.specs.Prelude.{◌≡◌, ◌≢◌, ℕ, ◌+◌, ◌<◌, ◌≤◌, List, [], ◌∷◌, ◌++◌, length, drop, Bool, All, Contains, IsTrue, IsFalse}
 use Rattle.std.specs.List.{list_all}
 use Rattle.bd_disk.specs.History.{History}
 use Rattle.bd_disk.specs.Trace.{reads}
@@ -34,7 +34,7 @@ BreaksAt s v entries seen p at owner (Header who place said left) =
 BreaksAt s v entries seen p at owner (Body who place recorded found) =
     (who ≡ p.who) × (place ≡ at) × (recorded.0 ≡ (stored_at (drop at owner)).mark) × (found.0 ≡ mark (stored_at (drop at owner)).body) × (found ≢ recorded) × IsTrue (has_mark entries recorded.0)
 BreaksAt s v entries seen p at owner (Length u m recorded found) =
-    (u ≡ v) × (m.0 ≡ (stored_at (drop at owner)).mark) × (found ≡ (stored_at (drop at owner)).length) × (found ≢ recorded) × HasEntry entries m.0 recorded × IsFalse (is_found seen m.0)
+    (u ≡ v) × (m.0 ≡ (stored_at (drop at owner)).mark) × (found ≡ (stored_at (drop at owner)).length) × (found ≢ recorded) × HasEntry entries m.0 recorded × IsFalse (is_found seen m.0) × (at + 36 + found ≤ row_end p)
 BreaksAt s v entries seen p at owner (Entry u index said start) = ⊥
 BreaksAt s v entries seen p at owner (Sum u recorded found) = ⊥
 BreaksAt s v entries seen p at owner (Row who start recorded found) = ⊥
