@@ -1,9 +1,9 @@
 mod Answering
-mod Chains
 mod Contents
 mod Finishing
 mod Joining
 mod Marks
+mod Meeting
 mod Putting
 mod Reading
 mod Walking
