@@ -6,9 +6,9 @@ use Rattle.std.proofs.lemmas.Slice.Eq.{bytes_eq-Decides}
 use Rattle.bd_model.specs.declared.layout.RecipeEntry.{RecipeEntry}
 use Rattle.bd_recipe.specs.Marked.{first_from, next_after}
 use Rattle.bd_recipe.proofs.Occurring.{first-marked, none-before_first, next-marked, none-between}
-use Rattle.bd_restore.specs.Target.{mark_at, length_at}
+use Rattle.bd_restore.specs.Target.{mark_at}
 
-pub ne_true : false ≡ true → ⊥
+ne_true : false ≡ true → ⊥
 ne_true h = cc
 
 abbrev pub no_entry : RecipeEntry
@@ -16,9 +16,6 @@ no_entry = record { mark = record { 0 = [] }; length = 0; start = 0 }
 
 pub mark_here : (entries : List RecipeEntry) (i : ℕ) (d : RecipeEntry) → i < length entries → mark_at entries i ≡ (get_or entries i d).mark.0
 mark_here entries i d lt = get_or-map (λ e. e.mark.0) entries i d [] lt
-
-pub length_here : (entries : List RecipeEntry) (i : ℕ) (d : RecipeEntry) → i < length entries → length_at entries i ≡ (get_or entries i d).length
-length_here entries i d lt = get_or-map (λ e. e.length) entries i d 0 lt
 
 apart : (x y : List ℕ) → bytes_eq x y ≡ false → y ≢ x
 apart x y differ same = ne_true (sym differ ∙ (bytes_eq-Decides x y).1 (sym same))
