@@ -3,6 +3,7 @@ mod Cuts
 mod Finishing
 mod Joining
 mod Marks
+mod Meeting
 mod Putting
 mod Reading
 mod Rows

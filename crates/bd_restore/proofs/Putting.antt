@@ -3,7 +3,7 @@ use Rattle.std.proofs.Common.{◌≡◌, ◌≢◌, ℕ, zero, suc, ◌+◌, ◌
 use Rattle.std.specs.FinMap as map
 use Rattle.std.proofs.lemmas.List.{take_all, length-set, get_or-set_same, get_or-set_other}
 use Rattle.std.proofs.lemmas.List.Sums.{sum_by-cons}
-use Rattle.std.proofs.lemmas.Bool.{cases_eq, cases_order}
+use Rattle.std.proofs.lemmas.Bool.{cases_order}
 use Rattle.bd_disk.specs.Images.{InRange, bytes_at, overwritten}
 use Rattle.bd_disk.proofs.Agreeing.{bytes_at-overwritten, length-overwritten, overwrite_agrees, same_bytes_at}
 use Rattle.bd_model.specs.FileMap.{FileMap}
@@ -11,8 +11,7 @@ use Rattle.bd_model.specs.declared.layout.RecipeEntry.{RecipeEntry}
 use Rattle.bd_files.specs.Files.{ChangesOnly}
 use Rattle.bd_files.proofs.FileLemmas.{holds_what_was_put}
 use Rattle.bd_recipe.specs.Reading.{total}
-use Rattle.bd_restore.specs.Tables.{mark_at, length_at, place_at, IsLast}
-use Rattle.bd_restore.specs.Target.{held, IsTarget, chunk_at, flag_at, Fills, Puts}
+use Rattle.bd_restore.specs.Target.{mark_at, length_at, place_at, held, IsTarget, chunk_at, flag_at, Fills, Puts}
 
 -- ---- places
 
@@ -99,23 +98,20 @@ module _ (entries : List RecipeEntry) (name body : List ℕ) (j : ℕ) (files ne
     long = ap length now_held ∙ length-overwritten (held files name) (place_at entries j) body ∙ target.long;
   }
 
-  -- one more of the entries with the mark
-  pub puts_more : (m first : List ℕ) (last before : ℕ) → j < length entries → length body ≡ length_at entries j → mark_at entries j ≡ m → last ≡ j + 1 → IsLast (mark_at entries) m j before →
-      Puts entries m body last first (held files name) → Puts entries m body before first (held new name)
-  puts_more m first last before lt sized here is gap was =
+  -- one more of the entries with the mark, where none lies between it and the limit
+  pub puts_more : (m first : List ℕ) (limit : ℕ) → j < length entries → length body ≡ length_at entries j → mark_at entries j ≡ m → ((k : ℕ) → j < k → k < limit → k < length entries → mark_at entries k ≢ m) →
+      Puts entries m body j first (held files name) → Puts entries m body limit first (held new name)
+  puts_more m first limit lt sized here gap was =
       record {
         here = λ k low high same.
             ap (chunk_at entries k) now_held ∙
-            (let which = cases_eq k j in
-            elim which [
+            (let order = cases_order k j in
+            elim order [
               | inl eq ↦ subst (λ i. chunk_at entries i (overwritten (held files name) (place_at entries j) body) ≡ body) (sym eq) (put_here entries j body (held files name) lt sized target.long)
-              | inr other ↦
-                  put_other entries j body (held files name) lt sized target.long k high other
-                  ∙ (let order = cases_order k j in
-                  elim order [
-                    | inl eq ↦ absurd (other eq)
-                    | inr rest ↦ elim rest [ inl below ↦ absurd (gap.none k low below same) | inr above ↦ was.here k (omega (arith, is, above)) high same ]
-                  ])
+              | inr rest ↦ elim rest [
+                | inl below ↦ put_other entries j body (held files name) lt sized target.long k high (λ (eq : k ≡ j). omega (arith, eq, below)) ∙ was.here k below high same
+                | inr above ↦ absurd (gap k above low high same)
+              ]
             ]);
         others = λ k lt_k differ.
             ap (chunk_at entries k) now_held
@@ -123,10 +119,17 @@ module _ (entries : List RecipeEntry) (name body : List ℕ) (j : ℕ) (files ne
             ∙ was.others k lt_k differ;
       }
 
+-- where no entry up to the limit has the mark, nothing need be put
+pub puts_none : (entries : List RecipeEntry) (m body file : List ℕ) (limit : ℕ) → ((k : ℕ) → k < limit → k < length entries → mark_at entries k ≢ m) → Puts entries m body limit file file
+puts_none entries m body file limit none = record { here = λ k low lt same. absurd (none k low lt same); others = λ k lt differ. refl }
+
+pub fills_none : (entries : List RecipeEntry) (m : List ℕ) (filled : List Bool) (limit : ℕ) → ((k : ℕ) → k < limit → k < length entries → mark_at entries k ≢ m) → Fills entries m limit filled filled
+fills_none entries m filled limit none = record { count = refl; here = λ k low lt same. absurd (none k low lt same); others = λ k lt differ. refl }
+
 -- one more flag
-pub fills_more : (entries : List RecipeEntry) (m : List ℕ) (j last before : ℕ) (first old new : List Bool) → j < length entries → length old ≡ length entries → mark_at entries j ≡ m → last ≡ j + 1 → IsLast (mark_at entries) m j before →
-    new ≡ set old j true → Fills entries m last first old → Fills entries m before first new
-fills_more entries m j last before first old new lt sized here is gap so was = record {
+pub fills_more : (entries : List RecipeEntry) (m : List ℕ) (j limit : ℕ) (first old new : List Bool) → j < length entries → length old ≡ length entries → mark_at entries j ≡ m →
+    ((k : ℕ) → j < k → k < limit → k < length entries → mark_at entries k ≢ m) → new ≡ set old j true → Fills entries m j first old → Fills entries m limit first new
+fills_more entries m j limit first old new lt sized here gap so was = record {
   count = ap length so ∙ length-set old j true ∙ was.count;
   here = λ k low high same.
       ap (λ l. flag_at l k) so ∙
@@ -134,8 +137,8 @@ fills_more entries m j last before first old new lt sized here is gap so was = r
       elim order [
         | inl eq ↦ ap (λ i. flag_at (set old j true) i) eq ∙ get_or-set_same old j true false (omega (arith, lt, sized))
         | inr rest ↦ elim rest [
-          | inl below ↦ absurd (gap.none k low below same)
-          | inr above ↦ get_or-set_other old j k true false (λ (eq : k ≡ j). omega (arith, eq, above)) ∙ was.here k (omega (arith, is, above)) high same
+          | inl below ↦ get_or-set_other old j k true false (λ (eq : k ≡ j). omega (arith, eq, below)) ∙ was.here k below high same
+          | inr above ↦ absurd (gap k above low high same)
         ]
       ]);
   others = λ k lt_k differ.

@@ -37,27 +37,39 @@ of_front at n from to owner low fits =
     ap (take n) (drop-drop (from - at) at (take to owner) ∙ (λ i. drop (place i) (take (size i) owner)) ∙ drop-take from (to - from) owner)
     ∙ take-take n (to - from) (drop from owner) (omega (arith, fits))
 
-pub is_stored : (s : Sizes) (who : Owner) (at to : ℕ) (owner : List ℕ) (h : Header) → at ≤ to → at + 36 + h.length ≤ to → header_at s who at to owner ≡ Ok h → IsStored at to owner h (stored_at (drop at (take to owner)))
-is_stored s who at to owner h low fits is =
+-- a part that begins with the same bytes
+stored_in : (s : Sizes) (who : Owner) (at to : ℕ) (owner part : List ℕ) (h : Header) → header_at s who at to owner ≡ Ok h → take 4 part ≡ take 4 (drop at owner) → take 32 (drop 4 part) ≡ take 32 (drop (at + 4) owner) →
+    take h.length (drop 36 part) ≡ take h.length (drop (at + 36) owner) → IsStored at to owner h (stored_at part)
+stored_in s who at to owner part h is front middle whole =
     let bytes = take 36 (drop at owner) in
     let n = from_be_bytes w32 (take 4 bytes) in
     let read = second (nat_lt (to - at) 36) (BadHeader who at 0 (to - at)) (header_in s.max who at (to - at - 36) bytes) h is in
     let same : record { length = n; mark = record { 0 = take 32 (drop 4 bytes) }; at = at } ≡ h =
     first (nat_le 1 n && nat_le n s.max && nat_le n (to - at - 36)) (record { length = n; mark = record { 0 = take 32 (drop 4 bytes) }; at = at }) h (BadHeader who at n (to - at - 36)) read.1 in
-    let part = drop at (take to owner) in
-    let zero_on : at - at ≡ 0 = omega arith in
-    let four_on : at + 4 - at ≡ 4 = omega arith in
-    let body_on : at + 36 - at ≡ 36 = omega arith in
-    let front : take 4 part ≡ take 4 (drop at owner) = (λ i. take 4 (drop (sym zero_on i) part)) ∙ of_front at 4 at to owner (omega arith) (omega (arith, fits)) in
-    let middle : take 32 (drop 4 part) ≡ take 32 (drop (at + 4) owner) = (λ i. take 32 (drop (sym four_on i) part)) ∙ of_front at 32 (at + 4) to owner (omega arith) (omega (arith, fits)) in
     let size : h.length ≡ from_be_bytes w32 (take 4 part) =
     ap (λ (x : Header). x.length) (sym same) ∙ ap (from_be_bytes w32) (take-take 4 36 (drop at owner) (omega arith) ∙ sym front) in
     let place : h.at ≡ at = ap (λ (x : Header). x.at) (sym same) in
     let behind : take 32 (drop 4 bytes) ≡ take 32 (drop (at + 4) owner) = ap (take 32) (drop-take 4 32 (drop at owner) ∙ ap (take 32) (drop-drop 4 at owner)) ∙ take-take 32 32 (drop (at + 4) owner) (omega arith) in
-    let whole : take h.length (drop 36 part) ≡ take h.length (drop (at + 36) owner) = (λ i. take h.length (drop (sym body_on i) part)) ∙ of_front at h.length (at + 36) to owner (omega arith) (omega (arith, fits)) in
     record {
       place = place;
       size = size;
       mark = ap (λ (x : Header). x.mark.0) (sym same) ∙ behind ∙ sym middle;
       body = (λ i. take h.length (drop (place i + 36) owner)) ∙ sym whole ∙ (λ i. take (size i) (drop 36 part));
     }
+
+-- the record among the bytes up to the end of the row
+pub is_stored : (s : Sizes) (who : Owner) (at to : ℕ) (owner : List ℕ) (h : Header) → at ≤ to → at + 36 + h.length ≤ to → header_at s who at to owner ≡ Ok h → IsStored at to owner h (stored_at (drop at (take to owner)))
+is_stored s who at to owner h low fits is =
+    let part = drop at (take to owner) in
+    let zero_on : at - at ≡ 0 = omega arith in
+    let four_on : at + 4 - at ≡ 4 = omega arith in
+    let body_on : at + 36 - at ≡ 36 = omega arith in
+    let front : take 4 part ≡ take 4 (drop at owner) = (λ i. take 4 (drop (sym zero_on i) part)) ∙ of_front at 4 at to owner (omega arith) (omega (arith, fits)) in
+    let middle : take 32 (drop 4 part) ≡ take 32 (drop (at + 4) owner) = (λ i. take 32 (drop (sym four_on i) part)) ∙ of_front at 32 (at + 4) to owner (omega arith) (omega (arith, fits)) in
+    let whole : take h.length (drop 36 part) ≡ take h.length (drop (at + 36) owner) = (λ i. take h.length (drop (sym body_on i) part)) ∙ of_front at h.length (at + 36) to owner (omega arith) (omega (arith, fits)) in
+    stored_in s who at to owner part h is front middle whole
+
+-- the same among all bytes of the owner
+pub is_stored_there : (s : Sizes) (who : Owner) (at to : ℕ) (owner : List ℕ) (h : Header) → header_at s who at to owner ≡ Ok h → IsStored at to owner h (stored_at (drop at owner))
+is_stored_there s who at to owner h is =
+    stored_in s who at to owner (drop at owner) h is refl (ap (take 32) (drop-drop 4 at owner)) (ap (take h.length) (drop-drop 36 at owner))

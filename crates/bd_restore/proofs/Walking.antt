@@ -1,22 +1,24 @@
 -- One record more on a walk, and walks that follow each other.
-use Rattle.std.proofs.Common.{◌≡◌, ◌≢◌, ℕ, ◌+◌, ◌-◌, ◌<◌, Bool, true, false, cond, ◌&&◌, not, List, [], ◌∷◌, ◌++◌, length, get_or, refl, sym, ◌∙◌, ap, subst, arith, length-append, ◌⊎◌, inl, inr}
-use Rattle.std.specs.Prelude.{bytes_eq, nat_lt}
+use Rattle.std.proofs.Common.{◌≡◌, ◌≢◌, ℕ, ◌+◌, ◌<◌, Bool, true, false, cond, ◌&&◌, not, List, [], ◌∷◌, ◌++◌, length, get_or, refl, sym, ◌∙◌, ap, subst, arith, length-append, ◌⊎◌, inl, inr}
+use Rattle.std.specs.Prelude.{Some, None, is_some, bytes_eq, nat_lt}
 use Rattle.std.proofs.lemmas.List.{append-nil}
 use Rattle.std.proofs.lemmas.List.Elements.{filter-append}
-use Rattle.std.proofs.lemmas.List.Folds.{list_any_at, list_any_none}
+use Rattle.std.proofs.lemmas.List.Folds.{list_any_at}
 use Rattle.std.proofs.lemmas.Bool.{lt-ltb, ltb-true}
 use Rattle.std.proofs.lemmas.Slice.Eq.{bytes_eq-Decides}
 use Rattle.bd_disk.specs.History.{History}
 use Rattle.bd_disk.specs.Trace.{ReadsOnly}
 use Rattle.bd_model.specs.Sizes.{Sizes}
 use Rattle.bd_model.specs.Extents.{places_at}
+use Rattle.bd_model.specs.Recipe.{has_mark}
 use Rattle.bd_model.specs.Records.{Stored}
 use Rattle.bd_model.specs.declared.layout.RecipeEntry.{RecipeEntry}
 use Rattle.bd_catalog.specs.Sound.{with_mark, first_body}
-use Rattle.bd_restore.specs.Tables.{mark_at, IsLast}
-use Rattle.bd_restore.specs.Target.{flag_at, Fills, Puts}
-use Rattle.bd_restore.specs.Walk.{Spot, has_entry, is_found, is_wanted, AreFlags, AreGiven, Walks, Gives}
-use Rattle.bd_restore.proofs.Marks.{mark_here, no_entry}
+use Rattle.bd_recipe.specs.Marked.{first_from}
+use Rattle.bd_recipe.proofs.Marking.{first_from-some}
+use Rattle.bd_restore.specs.Target.{mark_at, flag_at, Fills, Puts}
+use Rattle.bd_restore.specs.Walk.{Spot, is_found, is_wanted, AreFlags, AreGiven, Walks, Gives}
+use Rattle.bd_restore.proofs.Marks.{mark_here, no_entry, first_is}
 
 -- ---- tests
 
@@ -40,7 +42,7 @@ not_false false false hit is = absurd (miss hit) where
   miss : false ≡ true → ⊥
   miss h = cc
 
-both_true : (a b : Bool) → (a && not b) ≡ true → b ≡ false
+pub both_true : (a b : Bool) → (a && not b) ≡ true → b ≡ false
 both_true a false is = refl
 both_true true true is = absurd (miss is) where
   miss : false ≡ true → ⊥
@@ -49,6 +51,10 @@ both_true false true is = absurd (miss is) where
   miss : false ≡ true → ⊥
   miss h = cc
 
+pub has_then : (a b : Bool) → (a && b) ≡ true → a ≡ true
+has_then true b is = refl
+has_then false b is = is
+
 clash : {A : Type 0} (b : Bool) → b ≡ true → b ≡ false → A
 clash {A} b hit miss = absurd (tf (sym hit ∙ miss)) where
   tf : true ≡ false → ⊥
@@ -56,29 +62,23 @@ clash {A} b hit miss = absurd (tf (sym hit ∙ miss)) where
 
 -- ---- entries with a mark
 
-pub has_true : (entries : List RecipeEntry) (m : List ℕ) (k : ℕ) → k < length entries → mark_at entries k ≡ m → has_entry entries m ≡ true
+pub has_true : (entries : List RecipeEntry) (m : List ℕ) (k : ℕ) → k < length entries → mark_at entries k ≡ m → has_mark entries m ≡ true
 has_true entries m k lt same =
-    list_any_at (λ e. bytes_eq e.mark.0 m) entries k no_entry lt ((bytes_eq-Decides (get_or entries k no_entry).mark.0 m).1 (sym (mark_here entries k no_entry lt) ∙ same))
+    list_any_at (λ e. bytes_eq m e.mark.0) entries k no_entry lt ((bytes_eq-Decides m (get_or entries k no_entry).mark.0).1 (sym same ∙ mark_here entries k no_entry lt))
 
-pub has_false : (entries : List RecipeEntry) (m : List ℕ) → ((k : ℕ) → k < length entries → mark_at entries k ≢ m) → has_entry entries m ≡ false
-has_false entries m none = list_any_none (λ e. bytes_eq e.mark.0 m) entries (λ k d lt. apart_eq (get_or entries k d).mark.0 m (λ same. none k lt (mark_here entries k d lt ∙ same)))
+-- ---- a body that is wanted, by the first entry with its mark
 
--- ---- a body that is wanted, by the last entry with its mark
-
-module _ (entries : List RecipeEntry) (m : List ℕ) (last : ℕ) (filled : List Bool) (is : IsLast (mark_at entries) m (length entries) last) where
-  pub wanted_by : 0 < last → (seen : List Stored) → AreFlags entries seen filled → not (flag_at filled (last - 1)) ≡ is_wanted entries seen m
-  wanted_by some seen flags =
-      let lt : last - 1 < length entries = omega (arith, some, is.within) in
-      let has : has_entry entries m ≡ true = has_true entries m (last - 1) lt (is.here some) in
-      let flag : flag_at filled (last - 1) ≡ is_found seen m = flags.each (last - 1) lt ∙ ap (is_found seen) (is.here some) in
+module _ (entries : List RecipeEntry) (m : List ℕ) (filled : List Bool) (seen : List Stored) (flags : AreFlags entries seen filled) where
+  pub wanted_by : (index : ℕ) → index < length entries → Some index ≡ first_from 0 entries m → not (flag_at filled index) ≡ is_wanted entries seen m
+  wanted_by index lt is =
+      let has : has_mark entries m ≡ true = sym (first_from-some 0 entries m) ∙ ap is_some (sym is) in
+      let flag : flag_at filled index ≡ is_found seen m = flags.each index lt ∙ ap (is_found seen) (first_is entries m index lt is) in
       ap not flag ∙ ap (λ b. b && not (is_found seen m)) (sym has)
 
-  pub unwanted_by : (0 < last → ⊥) → (seen : List Stored) → AreFlags entries seen filled → false ≡ is_wanted entries seen m
-  unwanted_by miss seen flags =
-      let has : has_entry entries m ≡ false = has_false entries m (λ k lt. is.none k (omega (arith, no_more miss)) lt) in
-      ap (λ b. b && not (is_found seen m)) (sym has) where
-        no_more : (0 < last → ⊥) → last ≡ 0
-        no_more miss = omega (arith, miss)
+  pub unwanted_by : None ≡ first_from 0 entries m → false ≡ is_wanted entries seen m
+  unwanted_by is =
+      let has : has_mark entries m ≡ false = sym (first_from-some 0 entries m) ∙ ap is_some (sym is) in
+      ap (λ b. b && not (is_found seen m)) (sym has)
 
 -- ---- one record more
 
@@ -123,7 +123,7 @@ module _ (entries : List RecipeEntry) (seen : List Stored) (r : Stored) where
 
   module _ (unwanted : is_wanted entries seen r.mark ≡ false) where
     found_then : (k : ℕ) → k < length entries → bytes_eq r.mark (mark_at entries k) ≡ true → is_found seen (mark_at entries k) ≡ true
-    found_then k lt hit = ap (is_found seen) (mark_is k hit) ∙ not_false (has_entry entries r.mark) (is_found seen r.mark) (has_true entries r.mark k lt (mark_is k hit)) unwanted
+    found_then k lt hit = ap (is_found seen) (mark_is k hit) ∙ not_false (has_mark entries r.mark) (is_found seen r.mark) (has_true entries r.mark k lt (mark_is k hit)) unwanted
 
     same_found : (k : ℕ) → k < length entries → is_found seen (mark_at entries k) ≡ is_found (seen ++ r ∷ []) (mark_at entries k)
     same_found k lt =
@@ -147,24 +147,24 @@ module _ (entries : List RecipeEntry) (seen : List Stored) (r : Stored) where
     mark_differs : (k : ℕ) → bytes_eq r.mark (mark_at entries k) ≡ false → mark_at entries k ≢ r.mark
     mark_differs k miss same = clash (bytes_eq r.mark (mark_at entries k)) ((bytes_eq-Decides r.mark (mark_at entries k)).1 (sym same)) miss
 
-    pub flags_wanted : (filled now : List Bool) → Fills entries r.mark 0 filled now → AreFlags entries seen filled → AreFlags entries (seen ++ r ∷ []) now
+    pub flags_wanted : (filled now : List Bool) → Fills entries r.mark (length entries) filled now → AreFlags entries seen filled → AreFlags entries (seen ++ r ∷ []) now
     flags_wanted filled now fills flags = record {
       count = fills.count ∙ flags.count;
       each = λ k lt.
           let which = bool_cases (bytes_eq r.mark (mark_at entries k)) in
           elim which [
-            | inl hit ↦ fills.here k (omega arith) lt (mark_is k hit) ∙ sym (now_found seen r (mark_at entries k) hit)
+            | inl hit ↦ fills.here k lt lt (mark_is k hit) ∙ sym (now_found seen r (mark_at entries k) hit)
             | inr miss ↦ fills.others k lt (mark_differs k miss) ∙ flags.each k lt ∙ ap (λ l. nat_lt 0 (length l)) (sym (other_same seen r (mark_at entries k) miss))
           ];
     }
 
-    pub given_wanted : (file now : List ℕ) → Puts entries r.mark r.body 0 file now → AreGiven entries seen file → AreGiven entries (seen ++ r ∷ []) now
+    pub given_wanted : (file now : List ℕ) → Puts entries r.mark r.body (length entries) file now → AreGiven entries seen file → AreGiven entries (seen ++ r ∷ []) now
     given_wanted file now puts given = record {
       each = λ k lt found.
           let which = bool_cases (bytes_eq r.mark (mark_at entries k)) in
-          let unseen : is_found seen r.mark ≡ false = both_true (has_entry entries r.mark) (is_found seen r.mark) wanted in
+          let unseen : is_found seen r.mark ≡ false = both_true (has_mark entries r.mark) (is_found seen r.mark) wanted in
           elim which [
-            | inl hit ↦ puts.here k (omega arith) lt (mark_is k hit) ∙ sym (first_now seen r (mark_at entries k) (ap (is_found seen) (mark_is k hit) ∙ unseen) hit)
+            | inl hit ↦ puts.here k lt lt (mark_is k hit) ∙ sym (first_now seen r (mark_at entries k) (ap (is_found seen) (mark_is k hit) ∙ unseen) hit)
             | inr miss ↦
                 let same = other_same seen r (mark_at entries k) miss in
                 puts.others k lt (mark_differs k miss) ∙ given.each k lt (ap (λ l. nat_lt 0 (length l)) (sym same) ∙ found) ∙ ap first_body (sym same)
@@ -192,12 +192,12 @@ module _ (s : Sizes) (entries : List RecipeEntry) (extents : List ℕ) (at : ℕ
   pub gives_unwanted : ((seen : List Stored) → AreFlags entries seen filled → false ≡ is_wanted entries seen r.mark) → (file : List ℕ) → Gives entries (spot_at extents at r ∷ []) filled file file
   gives_unwanted unwanted file = record { each = λ seen flags given. given_unwanted entries seen r (sym (unwanted seen flags)) file given }
 
-  pub walks_wanted : (now : List Bool) → ((seen : List Stored) → AreFlags entries seen filled → true ≡ is_wanted entries seen r.mark) → Fills entries r.mark 0 filled now →
+  pub walks_wanted : (now : List Bool) → ((seen : List Stored) → AreFlags entries seen filled → true ≡ is_wanted entries seen r.mark) → Fills entries r.mark (length entries) filled now →
       {a b : History} → ReadsOnly (header ++ body) a b → Walks s entries (spot_at extents at r ∷ []) filled now a b
   walks_wanted now wanted fills {a} {b} reads = record {
     flags = λ seen flags. flags_wanted entries seen r (sym (wanted seen flags)) filled now fills flags;
     reads = λ seen flags. subst (λ l. ReadsOnly l a b) (sym (append-nil (header ++ body)) ∙ ap (λ w. (header ++ cond w body []) ++ []) (wanted seen flags)) reads;
   }
 
-  pub gives_wanted : ((seen : List Stored) → AreFlags entries seen filled → true ≡ is_wanted entries seen r.mark) → (file now : List ℕ) → Puts entries r.mark r.body 0 file now → Gives entries (spot_at extents at r ∷ []) filled file now
+  pub gives_wanted : ((seen : List Stored) → AreFlags entries seen filled → true ≡ is_wanted entries seen r.mark) → (file now : List ℕ) → Puts entries r.mark r.body (length entries) file now → Gives entries (spot_at extents at r ∷ []) filled file now
   gives_wanted wanted file now puts = record { each = λ seen flags given. given_wanted entries seen r (sym (wanted seen flags)) file now puts given }

@@ -1,5 +1,5 @@
 -- Where the chunks of a recipe stand in the target of a restore, and what is put there.
-use Rattle.std.specs.Prelude.{◌≡◌, ◌≢◌, ℕ, ◌<◌, ◌≤◌, Bool, true, List, [], length, map, take, sum_by, slice_index, slice_index_or, unwrap_or, Some, false}
+use Rattle.std.specs.Prelude.{◌≡◌, ◌≢◌, ℕ, ◌<◌, Bool, true, List, [], length, map, take, sum_by, slice_index, slice_index_or, unwrap_or, Some, false}
 use Rattle.std.specs.FinMap as map
 use Rattle.bd_disk.specs.Images.{bytes_at}
 use Rattle.bd_model.specs.FileMap.{FileMap}

@@ -33,7 +33,7 @@ fn put_at<F: Files>(
     ensures sized { OnOk result (length body.now ≡ length_at tables.now index) }
     ensures filled { OnOk result (filled.new ≡ slice_set filled.old index true) }
     ensures put { OnOk result (F.tells → F.files files.new ≡ map.insert (F.files files.old) name.now (overwritten (held (F.files files.old) name.now) (place_at tables.now index) body.now)) }
-    ensures damage { IfDamaged result (λ damage. (e : ℕ) × (m : Mark) × (damage ≡ Damage.Length version m e (length body.now)) × (m.0 ≡ mark_at tables.now index) × (length body.now ≢ e)) }
+    ensures damage { IfDamaged result (λ damage. (m : Mark) × (damage ≡ Damage.Length version m (length_at tables.now index) (length body.now)) × (m.0 ≡ mark_at tables.now index) × (length body.now ≢ length_at tables.now index)) }
 {
     let entry = tables.entry(index);
     let found = body.len() as u32;

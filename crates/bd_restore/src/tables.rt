@@ -17,6 +17,7 @@ pub(crate) struct Tables {
 impl Model for Tables {
     ghost use Rattle.std.specs.Prelude.{List};
     ghost use Rattle.bd_model.specs.declared.layout.RecipeEntry.{RecipeEntry};
+    ghost use Rattle.bd_restore.specs.Target.{ArePlaces};
 
     ghost Value = { List RecipeEntry };
 

@@ -1,28 +1,58 @@
-use Rattle.std.proofs.Common.{◌≡◌, ◌<◌, ◌+◌, ◌-◌, length, ◌∙◌, subst, arith}
-use Rattle.bd_restore.specs.Tables.{mark_at, IsLast}
-use Rattle.bd_restore.specs.Target.{held}
-use Rattle.bd_restore.proofs.Putting.{target_after, puts_more, fills_more, changes_both}
+use Rattle.std.proofs.Common.{◌≡◌, ◌≢◌, ℕ, ◌<◌, ◌-◌, length, refl, ◌∙◌, ap, subst, arith}
+use Rattle.bd_restore.specs.Target.{held, mark_at, Fills, Puts}
+use Rattle.bd_restore.proofs.Marks.{limit_of, IsAt, first_at, none_first, next_at, none_next, next_later}
+use Rattle.bd_restore.proofs.Putting.{target_after, puts_none, puts_more, fills_none, fills_more, changes_none, changes_both}
 use Rattle.bd_restore.proofs.put.put_everywhere.Goals as goal
 
-pub loop-last-preserved : goal.loop-last-preserved
-loop-last-preserved g c =
+pub loop-next-init : goal.loop-next-init
+loop-next-init g c =
     let entries = c.args.tables.now in
     let m = c.args.mark.now.0 in
-    let inv = c.loop-last.invariant in
-    let last = c.loop-last.last in
-    let name = c.args.name.now in
-    let fits : last - 1 < length entries = omega (arith, c.loop-last-test.true, inv.within) in
-    let here : mark_at entries (last - 1) ≡ m = inv.mark c.loop-last-test.true in
-    let next : last ≡ last - 1 + 1 = omega (arith, c.loop-last-test.true) in
-    let gap : IsLast (mark_at entries) m (last - 1) c.earlier-last.result = subst (λ k. IsLast (mark_at entries) k (last - 1) c.earlier-last.result) here c.earlier-last.ensures in
+    let found = c.first-next.result in
+    let none : (k : ℕ) → k < limit_of entries found → k < length entries → mark_at entries k ≢ m = none_first entries m found c.first-next.ensures.index in
     record {
-      within = omega (arith, gap.within, fits);
-      mark = gap.here;
+      at = first_at entries m found c.first-next.ensures.within c.first-next.ensures.index;
+      faults = refl;
+      sources = refl;
+      strays = λ told. refl;
+      others = λ told. changes_none c.args.name.now (g.F.Files.files c.args.files.now);
+      there = c.requires.there;
+      filled = fills_none entries m c.args.filled.now (limit_of entries found) none;
+      put = λ told. puts_none entries m c.args.body.now (held (g.F.Files.files c.args.files.now) c.args.name.now) (limit_of entries found) none;
+    }
+
+pub loop-next-preserved : goal.loop-next-preserved
+loop-next-preserved g c =
+    let entries = c.args.tables.now in
+    let m = c.args.mark.now.0 in
+    let name = c.args.name.now in
+    let body = c.args.body.now in
+    let inv = c.loop-next.invariant in
+    let j = c.in-Some.index in
+    let found = c.next-next.result in
+    let first_file = held (g.F.Files.files c.args.files.now) name in
+    let at : (j < length entries) × (mark_at entries j ≡ m) = subst (IsAt entries m) c.in-Some.is inv.at in
+    let reached : limit_of entries c.loop-next.next ≡ j = ap (limit_of entries) c.in-Some.is in
+    let gap : (k : ℕ) → j < k → k < limit_of entries found → k < length entries → mark_at entries k ≢ m = none_next entries m j at.0 at.1 found c.next-next.ensures.index in
+    record {
+      at = next_at entries m j at.0 at.1 found c.next-next.ensures.later c.next-next.ensures.index;
       faults = c.in_ok-put_at.ensures.cause.cause ∙ inv.faults;
       sources = c.put_at.ensures.sources ∙ inv.sources;
       strays = λ told. c.put_at.ensures.strays told ∙ inv.strays told;
       others = λ told. changes_both name _ _ _ (inv.others told) (c.put_at.ensures.others told);
-      there = λ told. target_after entries name c.args.body.now (last - 1) (g.F.Files.files c.loop-last.files) _ (inv.there told) (c.in_ok-put_at.ensures.put told);
-      filled = fills_more entries m (last - 1) last c.earlier-last.result c.args.filled.now c.loop-last.filled _ fits (inv.filled.count ∙ c.requires.flags) here next gap c.in_ok-put_at.ensures.filled inv.filled;
-      put = λ told. puts_more entries name c.args.body.now (last - 1) (g.F.Files.files c.loop-last.files) _ (inv.there told) (c.in_ok-put_at.ensures.put told) m (held (g.F.Files.files c.args.files.now) name) last c.earlier-last.result fits c.in_ok-put_at.ensures.sized here next gap (inv.put told);
+      there = λ told. target_after entries name body j (g.F.Files.files c.loop-next.files) _ (inv.there told) (c.in_ok-put_at.ensures.put told);
+      filled = fills_more entries m j (limit_of entries found) c.args.filled.now c.loop-next.filled _ at.0 (inv.filled.count ∙ c.requires.flags) at.1 gap c.in_ok-put_at.ensures.filled
+          (subst (λ n. Fills entries m n c.args.filled.now c.loop-next.filled) reached inv.filled);
+      put = λ told. puts_more entries name body j (g.F.Files.files c.loop-next.files) _ (inv.there told) (c.in_ok-put_at.ensures.put told) m first_file (limit_of entries found) at.0 c.in_ok-put_at.ensures.sized at.1 gap
+          (subst (λ n. Puts entries m body n first_file (held (g.F.Files.files c.loop-next.files) name)) reached (inv.put told));
     }
+
+pub loop-next-smaller : goal.loop-next-smaller
+loop-next-smaller g c =
+    let entries = c.args.tables.now in
+    let j = c.in-Some.index in
+    let at : (j < length entries) × (mark_at entries j ≡ c.args.mark.now.0) = subst (IsAt entries c.args.mark.now.0) c.in-Some.is c.loop-next.invariant.at in
+    let reached : limit_of entries c.loop-next.next ≡ j = ap (limit_of entries) c.in-Some.is in
+    let later : j < limit_of entries c.next-next.result = next_later entries c.args.mark.now.0 j at.0 at.1 c.next-next.result c.next-next.ensures.later in
+    let less : length entries - limit_of entries c.next-next.result < length entries - limit_of entries c.loop-next.next = omega (arith, reached, later, at.0) in
+    less

@@ -1,21 +1,20 @@
-use Rattle.std.proofs.Common.{◌≡◌, ◌-◌, ◌<◌, ◌≤◌, length}
+use Rattle.std.proofs.Common.{◌≡◌, ◌-◌, length}
 use Rattle.bd_files.specs.Files.{ChangesOnly}
-use Rattle.bd_restore.specs.Tables.{mark_at}
 use Rattle.bd_restore.specs.Target.{held, IsTarget, Fills, Puts}
+use Rattle.bd_restore.proofs.Marks.{limit_of, IsAt}
 use Rattle.bd_restore.proofs.put.put_everywhere.Given as goal
 
-abbrev pub invariant-loop-last : goal.invariant-loop-last
-invariant-loop-last g l = record {
-  within : l.last ≤ length l.tables;
-  mark : 0 < l.last → mark_at l.tables (l.last - 1) ≡ l.mark.0;
+abbrev pub invariant-loop-next : goal.invariant-loop-next
+invariant-loop-next g l = record {
+  at : IsAt l.tables l.mark.0 l.next;
   faults : g.F.Files.target_faults l.files ≡ g.F.Files.target_faults l.fn.files;
   sources : g.F.Files.source_faults l.files ≡ g.F.Files.source_faults l.fn.files;
   strays : g.F.Files.tells → g.F.Files.strays l.files ≡ g.F.Files.strays l.fn.files;
   others : g.F.Files.tells → ChangesOnly l.name (g.F.Files.files l.fn.files) (g.F.Files.files l.files);
   there : g.F.Files.tells → IsTarget l.tables l.name (g.F.Files.files l.files);
-  filled : Fills l.tables l.mark.0 l.last l.fn.filled l.filled;
-  put : g.F.Files.tells → Puts l.tables l.mark.0 l.body l.last (held (g.F.Files.files l.fn.files) l.name) (held (g.F.Files.files l.files) l.name);
+  filled : Fills l.tables l.mark.0 (limit_of l.tables l.next) l.fn.filled l.filled;
+  put : g.F.Files.tells → Puts l.tables l.mark.0 l.body (limit_of l.tables l.next) (held (g.F.Files.files l.fn.files) l.name) (held (g.F.Files.files l.files) l.name);
 }
 
-abbrev pub decreases-loop-last : goal.decreases-loop-last
-decreases-loop-last g l = l.last
+abbrev pub decreases-loop-next : goal.decreases-loop-next
+decreases-loop-next g l = length l.tables - limit_of l.tables l.next

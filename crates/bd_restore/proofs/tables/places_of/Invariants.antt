@@ -1,5 +1,5 @@
 use Rattle.std.proofs.Common.{◌≡◌, ℕ, ◌*◌, ◌<◌, ◌≤◌, get_or, length}
-use Rattle.bd_restore.specs.Tables.{place_at}
+use Rattle.bd_restore.specs.Target.{place_at}
 use Rattle.bd_restore.proofs.tables.places_of.Given as goal
 
 abbrev pub invariant-loop-entry : goal.invariant-loop-entry
