@@ -4,12 +4,6 @@ use Rattle.std.proofs.lemmas.Bool.{cases_lt}
 use Rattle.std.proofs.lemmas.Nat.{div-mul-add, pow_pos, pow-add}
 use Rattle.bd_model.specs.Chunks.{gear}
 
--- the first eight of some bytes, one by one
-pub take_eight : (bytes : List ℕ) → 8 ≤ length bytes → take 8 bytes ≡
-    get_or bytes 0 0 ∷ get_or bytes 1 0 ∷ get_or bytes 2 0 ∷ get_or bytes 3 0 ∷ get_or bytes 4 0 ∷ get_or bytes 5 0 ∷ get_or bytes 6 0 ∷ get_or bytes 7 0 ∷ []
-take_eight (a ∷ b ∷ c ∷ d ∷ e ∷ f ∷ g ∷ h ∷ rest) le = refl
-take_eight _ le = absurd (omega arith)
-
 -- one more entry of the table
 pub gears_more : (table : List ℕ) (byte at value : ℕ) → at ≡ byte → byte < length table → value ≡ gear byte →
     ((k : ℕ) → k < byte → get_or table k 0 ≡ gear k) → (k : ℕ) → k < byte + 1 → get_or (set table at value) k 0 ≡ gear k

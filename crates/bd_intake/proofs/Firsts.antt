@@ -17,15 +17,12 @@ use Rattle.bd_model.specs.Marks.{mark, Distinct}
 use Rattle.bd_model.specs.Recipe.{first_entries, entry_records}
 use Rattle.bd_model.specs.Room.{up, fresh_entries, need_of, counted_of, running_of}
 use Rattle.bd_model.specs.declared.layout.RecipeEntry.{RecipeEntry}
-use Rattle.bd_model.proofs.ChunkListLemmas.{bytes_eq-refl, filter-within, contains-distinct}
+use Rattle.bd_model.proofs.ChunkListLemmas.{bytes_eq-refl, bytes_eq-sym, filter-within, contains-distinct}
 use Rattle.bd_model.proofs.NeedLemmas.{filter-map, bytes_eq-mark}
 use Rattle.bd_model.proofs.RoomLemmas.{up-le, up-zero}
 use Rattle.bd_model.proofs.FromRecipesLemmas.{counted_of-above}
 use Rattle.bd_gear.proofs.NextLemmas.{find-first}
 use Rattle.bd_intake.specs.Firsts.{first_by_mark, is_marked, with_new, extents_of}
-
-pub bytes_eq-sym : (x y : List ℕ) → bytes_eq x y ≡ bytes_eq y x
-bytes_eq-sym x y = same_from_decides (bytes_eq x y) (bytes_eq y x) (bytes_eq-Decides x y) (Decides-like (bytes_eq y x) sym sym (bytes_eq-Decides y x))
 
 -- ---- one chunk more
 

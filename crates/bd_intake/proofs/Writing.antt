@@ -5,7 +5,6 @@ use Rattle.std.proofs.lemmas.List.{append-nil, take-append-le, map-append}
 use Rattle.std.proofs.lemmas.Grind.{flat_map-append}
 use Rattle.std.proofs.lemmas.List.Sums.{sum_by-append}
 use Rattle.std.proofs.lemmas.List.Elements.{Contains-append_left, Contains-append_right}
-use Rattle.sha2.proofs.Facts256.{length-sha256}
 use Rattle.bd_disk.specs.History.{History, contents}
 use Rattle.bd_disk.specs.Images.{overwritten}
 use Rattle.bd_disk.specs.Made.{WritesOnly}
@@ -19,6 +18,7 @@ use Rattle.bd_model.specs.Records.{four, record_of, records_of, spelled_entry, s
 use Rattle.bd_model.specs.Sizes.{Sizes, extent_place, disk_bytes}
 use Rattle.bd_model.specs.declared.layout.RecipeEntry.{RecipeEntry}
 use Rattle.bd_model.specs.declared.mark.Mark.{Mark}
+use Rattle.bd_model.proofs.RecordLemmas.{length-mark, length-record, length-records}
 use Rattle.bd_category.specs.Records.{record_with}
 use Rattle.bd_extio.specs.Ranges.{AreExtents, InOwner}
 use Rattle.bd_extio.proofs.Places.{length-owner_bytes}
@@ -27,18 +27,7 @@ use Rattle.bd_catalog.proofs.Agreeing.{InExtents, in_extents, owners_apart, begi
 use Rattle.bd_intake.specs.Places.{InOneOf}
 use Rattle.bd_intake.proofs.Firsts.{entry}
 
-pub length-mark : (c : List ℕ) → length (mark c) ≡ 32
-unfolding mark
-length-mark c = length-sha256 c
-
 -- ---- the bytes of chunks
-
-length-record : (c : List ℕ) → length (record_of c) ≡ 36 + length c
-length-record c = omega (arith, length-append (four (length c) ++ mark c) c, length-append (four (length c)) (mark c), length-mark c)
-
-pub length-records : (cs : List (List ℕ)) → length (records_of cs) ≡ record_bytes cs
-length-records [] = refl
-length-records (c ∷ cs) = omega (arith, length-append (record_of c) (records_of cs), length-record c, length-records cs, sum_by-append (λ d. 36 + length d) (c ∷ []) cs)
 
 records-push : (cs : List (List ℕ)) (c : List ℕ) → records_of (cs ++ c ∷ []) ≡ records_of cs ++ record_of c
 records-push cs c = flat_map-append record_of cs (c ∷ []) ∙ ap (λ xs. records_of cs ++ xs) (append-nil (record_of c))

@@ -1,4 +1,4 @@
-mod PlainCutLemmas
+pub mod PlainCutLemmas
 mod PlainLemmas
 mod PlainRecipeLemmas
 mod PlainRoomLemmas

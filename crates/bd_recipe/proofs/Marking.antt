@@ -7,6 +7,7 @@ use Rattle.std.proofs.lemmas.List.{drop_more, get_or_default}
 use Rattle.std.specs.Prelude.{Option}
 use Rattle.std.specs.Str.{bytes_eq}
 use Rattle.bd_model.specs.Recipe.{has_mark}
+use Rattle.bd_model.proofs.ChunkListLemmas.{bytes_eq-sym}
 use Rattle.bd_model.specs.Laws.{start_in}
 use Rattle.bd_model.specs.declared.layout.RecipeEntry.{RecipeEntry}
 use Rattle.bd_recipe.specs.Marked.{first_from, first_with, next_from, next_after, IsIndexOf}
@@ -123,9 +124,6 @@ pub next_within : (es : List RecipeEntry) (i j : ℕ) → Some j ≡ next_after 
 next_within es i j is = subst (λ o. IfSome o (λ k. (i < k) × (k < length es))) (sym is) (next_after-within es i)
 
 -- ---- one entry more, in front of those that have been walked over
-
-bytes_eq-sym : (x y : List ℕ) → bytes_eq x y ≡ bytes_eq y x
-bytes_eq-sym x y = same_from_decides (bytes_eq x y) (bytes_eq y x) (bytes_eq-Decides x y) (Decides-like (bytes_eq y x) sym sym (bytes_eq-Decides y x))
 
 module _ (es : List RecipeEntry) (i n : ℕ) (is : n ≡ i + 1) (inside : i < length es) (d : RecipeEntry) where
   here : drop i es ≡ get_or es i d ∷ drop n es

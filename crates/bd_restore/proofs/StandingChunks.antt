@@ -5,16 +5,10 @@ use Rattle.std.specs.Str.{bytes_eq}
 use Rattle.std.proofs.lemmas.Bool.{false≢true}
 use Rattle.std.proofs.lemmas.List.Sums.{sum_by-cons, sum_by-append}
 use Rattle.std.proofs.lemmas.List.Sorted.{IsPermutation-refl, IsPermutation-sym, IsPermutation-cons, IsPermutation-middle, IsPermutation-trans}
-use Rattle.sha2.proofs.Facts256.{length-sha256}
 use Rattle.bd_model.specs.History.{contains, distinct}
-use Rattle.bd_model.specs.Marks.{mark}
 use Rattle.bd_model.proofs.ListLemmas.{sum_by-filter}
 use Rattle.bd_model.proofs.NeedLemmas.{list_any-from_sum}
 use Rattle.bd_model.proofs.ChunkListLemmas.{bytes_eq-refl, bytes_eq-same, filter-equal}
-
-pub length-mark : (c : List ℕ) → length (mark c) ≡ 32
-unfolding mark
-length-mark c = length-sha256 c
 
 -- how often the list has the chunk
 abbrev pub times : List (List ℕ) → List ℕ → ℕ

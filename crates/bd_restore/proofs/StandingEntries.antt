@@ -26,7 +26,7 @@ use Rattle.bd_catalog.specs.Standing.{HasNumbers, HasVersions, lines_from}
 use Rattle.bd_recipe.specs.Entries.{first_bad}
 use Rattle.bd_recipe.specs.Reading.{chunks_in, length_in, recipe_found, total, with_sum}
 use Rattle.bd_recipe.proofs.Entries.{entry_at-fields, entries_in-take, first_bad-none}
-use Rattle.bd_restore.proofs.StandingChunks.{length-mark}
+use Rattle.bd_model.proofs.RecordLemmas.{length-mark}
 use Rattle.bd_restore.proofs.StandingRecords.{Bounded, contains_first, contains_later}
 
 -- ---- entries

@@ -16,7 +16,8 @@ use Rattle.bd_model.specs.Sizes.{Sizes}
 use Rattle.bd_model.proofs.ChunkListLemmas.{bytes_eq-refl, bytes_eq-same, bytes_eq-other}
 use Rattle.bd_model.proofs.NeedLemmas.{TellsApart, bytes_eq-mark}
 use Rattle.bd_catalog.specs.Sound.{Part, part_holds, part_records, stored_holds, with_mark}
-use Rattle.bd_restore.proofs.StandingChunks.{length-mark, times, times-cons}
+use Rattle.bd_model.proofs.RecordLemmas.{length-mark}
+use Rattle.bd_restore.proofs.StandingChunks.{times, times-cons}
 
 -- a chunk as a record that is read
 abbrev pub stored_of : List ℕ → Stored

@@ -14,23 +14,16 @@ use Rattle.bd_model.specs.Marks.{mark}
 use Rattle.bd_model.specs.Records.{four, record_of, records_of}
 use Rattle.bd_model.specs.Sizes.{Sizes}
 use Rattle.bd_model.proofs.PlaceLemmas.{a_version_uses_a_front}
+use Rattle.bd_model.proofs.RecordLemmas.{length-records}
 use Rattle.bd_catalog.specs.Catalogue.{Catalogue, OpenEntry, active_extents}
 use Rattle.bd_catalog.specs.Sound.{Part, part_holds, part_records}
 use Rattle.bd_catalog.specs.Standing.{HasActives}
 use Rattle.bd_catalog.specs.Walks.{is_used, record_reads}
 use Rattle.bd_restore.specs.Walk.{Spot, records_at, row_spots, spots_in, spots_from, open_row, begun_by}
-use Rattle.bd_restore.proofs.StandingChunks.{length-mark}
 use Rattle.bd_restore.proofs.StandingReads.{all_reads, chunks-read}
 use Rattle.bd_restore.proofs.StandingRecords.{Bounded, stored_of, stored-records, part_stands}
 use Rattle.bd_restore.proofs.StandingRows.{IsOpen, each_open}
 use Rattle.bd_restore.proofs.WalkRecords.{spots_stored}
-
-length-record : (c : List ℕ) → length (record_of c) ≡ 36 + length c
-length-record c = omega (arith, length-append (four (length c) ++ mark c) c, length-append (four (length c)) (mark c), length-mark c)
-
-pub length-records : (cs : List (List ℕ)) → length (records_of cs) ≡ record_bytes cs
-length-records [] = refl
-length-records (c ∷ cs) = omega (arith, length-append (record_of c) (records_of cs), length-record c, length-records cs, sum_by-cons (λ d. 36 + length d) c cs)
 
 module _ (s : Sizes) (short : s.max ≤ 65536) (h : History) (c : Catalogue) (image : List ℕ) (actives : HasActives s h Settled c image) (bounded : Bounded s (version h (newest h))) where
   abbrev v : ℕ

@@ -14,7 +14,7 @@ use Rattle.bd_intake.specs.Answers.{RefusesRoom}
 use Rattle.bd_intake.specs.Firsts.{first_by_mark, knows, extents_of}
 use Rattle.bd_intake.proofs.Growing.{as_number, one_or_none, extents-after, longer, new_is, staging_is_small, took}
 use Rattle.bd_intake.proofs.Owning.{owns_apart}
-use Rattle.bd_intake.proofs.Writing.{length-records}
+use Rattle.bd_model.proofs.RecordLemmas.{length-records}
 use Rattle.bd_intake.proofs.staging.take_chunk.Goals as goal
 
 pub returns-in_err-make_room-clause-refused : goal.returns-in_err-make_room-clause-refused

@@ -1,7 +1,7 @@
 use Rattle.std.proofs.Common.{◌≡◌, ◌∙◌, Bool, true, false, cond, ◌||◌, refl, ap}
 use Rattle.std.specs.Str.{bytes_eq}
 use Rattle.bd_intake.specs.Firsts.{knows}
-use Rattle.bd_intake.proofs.Firsts.{bytes_eq-sym}
+use Rattle.bd_model.proofs.ChunkListLemmas.{bytes_eq-sym}
 use Rattle.bd_intake.proofs.seen.Seen.add.Goals as goal
 
 as_either : (b known : Bool) → cond b true known ≡ (known || b)
