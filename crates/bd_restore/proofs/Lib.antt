@@ -1,9 +1,8 @@
 mod Answering
-mod Chains
-mod Contents
 mod Finishing
 mod Joining
 mod Marks
 mod Putting
 mod Reading
+mod Seeing
 mod Walking
