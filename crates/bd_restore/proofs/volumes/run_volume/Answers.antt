@@ -1,4 +1,4 @@
-use Rattle.std.proofs.Common.{◌≡◌, ◌+◌, ◌<◌, List, [], ◌∷◌, ◌++◌, length, take, drop, get_or, sym, ◌∙◌, ap, arith}
+use Rattle.std.proofs.Common.{◌≡◌, ◌+◌, ◌<◌, ◌≤◌, List, [], ◌∷◌, ◌++◌, length, take, drop, get_or, sym, ◌∙◌, ap, subst, arith}
 use Rattle.bd_disk.specs.History.{contents}
 use Rattle.bd_disk.proofs.Frames.{made_both, unchanged}
 use Rattle.bd_model.specs.Sizes.{sizes_of}
@@ -7,7 +7,7 @@ use Rattle.bd_model.specs.declared.layout.CategoryRow.{CategoryRow}
 use Rattle.bd_catalog.specs.Catalogue.{bytes_of_rows}
 use Rattle.bd_restore.specs.Met.{MetOn}
 use Rattle.bd_restore.specs.Target.{held}
-use Rattle.bd_restore.specs.Walk.{RowPlace, begun_by, row_place, rows_from}
+use Rattle.bd_restore.specs.Walk.{RowPlace, begun_by, row_place, rows_from, IsInRoom}
 use Rattle.bd_restore.proofs.Joining.{damaged_by, gives_on, met_on, owner_next, owner_place, owner_rest, owner_within, walks_on}
 use Rattle.bd_restore.proofs.Putting.{changes_both}
 use Rattle.bd_restore.proofs.volumes.run_volume.Goals as goal
@@ -49,6 +49,19 @@ loop-row-preserved g c =
       gives = λ told tells. gives_on s v entries image xs (p ∷ []) (rows_from who extents 0 (take (i + 1) rows)) now c.args.filled.now c.loop-row.filled (held (g.F.Files.files c.args.files.now) name) (held (g.F.Files.files c.loop-row.files) name) (held (g.F.Files.files c.run_begun.new.files) name)
           next (unchanged (inv.writes told)) (inv.walk told) (inv.gives told tells) (c.in_ok-run_begun.ensures.gives told tells);
     }
+
+pub run_begun-requires-clause-inside : goal.run_begun-requires-clause-inside
+run_begun-requires-clause-inside g c =
+    let s = sizes_of c.args.shape.now in
+    let who = Volume c.args.number in
+    let extents = c.args.volume.now.extents.numbers in
+    let i = c.loop-row.row-index in
+    let rows = c.args.volume.now.rows.items in
+    let row = get_or c.as_slice-row-items.result.now i none in
+    let is : get_or rows i none ≡ row = ap (λ l. get_or l i none) (sym c.as_slice-row-items.ensures) in
+    let lt : i < length rows = omega (arith, c.loop-row-test.true, ap (λ (l : List CategoryRow). length l) c.as_slice-row-items.ensures) in
+    let within : c.loop-row.from + row.bytes ≤ bytes_of_rows rows = owner_within who extents c.numbers-extents.result.now rows i none row c.loop-row.from c.numbers-extents.ensures lt is c.loop-row.invariant.place in
+    subst (λ l. IsInRoom s (row_place who l c.loop-row.from row)) (sym c.numbers-extents.ensures) (record { numbers = c.requires.numbers; room = omega (arith, within, c.requires.inside) })
 
 pub overflow_add-from : goal.overflow_add-from
 overflow_add-from g c =
