@@ -1,20 +1,33 @@
--- Walks that follow each other, and the records of a piece.
-use Rattle.std.proofs.Common.{◌≡◌, ℕ, zero, suc, ◌+◌, ◌<◌, ◌≤◌, Bool, cond, List, [], ◌∷◌, ◌++◌, drop, refl, sym, ◌∙◌, ap, subst, append_assoc}
-use Rattle.std.specs.Prelude.{if◌then◌else◌, filter, nat_le}
-use Rattle.std.specs.List.{flat_map}
-use Rattle.std.proofs.lemmas.List.Elements.{filter-append}
+-- Walks that follow each other, what is met on them, and the records and rows that they go over.
+use Rattle.std.proofs.Common.{◌≡◌, ℕ, zero, suc, ◌+◌, ◌-◌, ◌<◌, ◌≤◌, Bool, cond, List, [], ◌∷◌, ◌++◌, length, take, drop, get_or, refl, sym, ◌∙◌, ap, subst, arith, append_assoc}
+use Rattle.std.specs.Prelude.{if◌then◌else◌, All, Contains, filter, nat_le, Result, Ok, Err, IsErrAnd}
+use Rattle.std.specs.List.{flat_map, range_with_len}
+use Rattle.std.proofs.lemmas.List.{append-nil, map-append, take-append-drop, take_more}
+use Rattle.std.proofs.lemmas.List.Elements.{filter-append, All-weaker, Contains-append_right}
+use Rattle.std.proofs.lemmas.List.Sums.{sum_by-append, sum_by-cons}
 use Rattle.std.proofs.lemmas.Grind.{flat_map-append}
 use Rattle.std.proofs.lemmas.Bool.{le-leb, lt-leb}
-use Rattle.bd_catalog.specs.Catalogue.{OpenEntry}
-use Rattle.std.proofs.lemmas.List.{append-nil, map-append}
-use Rattle.bd_disk.specs.History.{History}
-use Rattle.bd_disk.specs.Trace.{ReadsOnly}
-use Rattle.bd_disk.proofs.Traces.{reads_both, reads_none}
+use Rattle.bd_disk.specs.History.{Call, History}
+use Rattle.bd_disk.specs.Made.{Made}
+use Rattle.bd_disk.specs.Trace.{reads, ReadsOnly}
+use Rattle.bd_disk.proofs.Traces.{part, reads_both, reads_none, reads_on}
 use Rattle.bd_model.specs.Sizes.{Sizes}
-use Rattle.bd_model.specs.Extents.{places_at}
+use Rattle.bd_model.specs.Extents.{owner_bytes, places_at}
 use Rattle.bd_model.specs.Records.{Stored, stored_at}
+use Rattle.bd_model.specs.declared.damage.Damage.{Damage}
+use Rattle.bd_model.specs.declared.damage.Owner.{Owner}
+use Rattle.bd_model.specs.declared.layout.CategoryRow.{CategoryRow}
 use Rattle.bd_model.specs.declared.layout.RecipeEntry.{RecipeEntry}
-use Rattle.bd_restore.specs.Walk.{Spot, records_at, is_wanted, open_spots, open_walk, walk_reads, spots_from, past, AreFlags, AreGiven, Walks, Gives}
+use Rattle.bd_model.specs.Chunks.{numbers}
+use Rattle.bd_model.proofs.ListLemmas.{numbers-split, range_with_len-suc}
+use Rattle.bd_catalog.specs.Catalogue.{Catalogue, bytes_of_rows}
+use Rattle.bd_restore.specs.declared.fault.RestoreFault.{RestoreFault}
+use Rattle.bd_restore.specs.declared.fault.RestoreFault.TheVariants.{TargetFault, DiskFault, Damaged, OutOfMemory}
+use Rattle.bd_restore.specs.Faults.{IfDamaged}
+use Rattle.bd_restore.specs.Met.{places_met, BreaksAt, HasRead, MetAt, MetOn}
+use Rattle.bd_restore.specs.Walk.{RowPlace, Spot, begun_by, first_spots, records_at, is_wanted, row_place, row_spots, rows_from, spots_in, volume_rows, walk_reads, spots_from, past, AreFlags, AreGiven, Walks, Gives}
+
+-- ---- walks
 
 module _ (s : Sizes) (entries : List RecipeEntry) where
   reads-append : (seen : List Stored) (xs ys : List Spot) → walk_reads s entries seen (xs ++ ys) ≡ walk_reads s entries seen xs ++ walk_reads s entries (seen ++ records_at xs) ys
@@ -26,7 +39,7 @@ module _ (s : Sizes) (entries : List RecipeEntry) where
       ∙ sym (append_assoc here rest (walk_reads s entries ((seen ++ x.stored ∷ []) ++ records_at xs) ys))
       ∙ ap (λ l. (here ++ rest) ++ walk_reads s entries l ys) (append_assoc seen (x.stored ∷ []) (records_at xs))
 
-  seen_both : (seen : List Stored) (xs ys : List Spot) → (seen ++ records_at xs) ++ records_at ys ≡ seen ++ records_at (xs ++ ys)
+  pub seen_both : (seen : List Stored) (xs ys : List Spot) → (seen ++ records_at xs) ++ records_at ys ≡ seen ++ records_at (xs ++ ys)
   seen_both seen xs ys = append_assoc seen (records_at xs) (records_at ys) ∙ ap (λ l. seen ++ l) (sym (map-append (λ (x : Spot). x.stored) xs ys))
 
   pub walks_none : (filled : List Bool) (h : History) → Walks s entries [] filled filled h h
@@ -49,12 +62,96 @@ module _ (s : Sizes) (entries : List RecipeEntry) where
     each = λ seen flags given. subst (λ l. AreGiven entries l r) (seen_both seen xs ys) (other.each (seen ++ records_at xs) (walk.flags seen flags) (one.each seen flags given));
   }
 
--- ---- a piece
+-- ---- what is met on a walk
+
+-- what was read after other calls was read
+pub has_read_later : {Kind : Call → Type 0} (places : List ℕ) {a b c : History} → Made Kind a b → HasRead places b c → HasRead places a c
+has_read_later places {a} f read =
+    let first = part a f.calls in
+    record {
+      more = first ++ read.more;
+      so = read.so ∙ ap (λ l. l ++ read.more) (ap reads f.so ∙ reads_on a f.calls) ∙ append_assoc (reads a) first read.more;
+      all = All-weaker (λ place. Contains read.more place) (λ place. Contains (first ++ read.more) place) (λ place there. Contains-append_right first read.more place there) places read.all;
+    }
+
+module _ (s : Sizes) (v : ℕ) (entries : List RecipeEntry) (image : List ℕ) (damage : Damage) where
+  pub spots-append : (xs ys : List RowPlace) → spots_in s image (xs ++ ys) ≡ spots_in s image xs ++ spots_in s image ys
+  spots-append xs ys = flat_map-append (row_spots s image) xs ys
+
+  -- at the record behind the first ones of a row
+  pub met_here : {Kind : Call → Type 0} (f g : List Bool) (p : RowPlace) (count at : ℕ) (owner : List ℕ) {a b c : History} → count < p.row.chunks → at ≡ past p.from (first_spots s image p count) → owner ≡ owner_bytes s p.extents image → Made Kind a b →
+      ((seen : List Stored) → AreFlags entries seen f → AreFlags entries (seen ++ records_at (first_spots s image p count)) g) →
+      MetAt s v entries g p at owner damage b c → MetOn s v entries image f (p ∷ []) damage a c
+  met_here f g p count at owner {a} {b} {c} lt there same made flags met = record {
+    before = [];
+    place = p;
+    behind = [];
+    so = refl;
+    count = count;
+    inside = lt;
+    breaks = λ seen are. subst (λ o. BreaksAt s v entries (seen ++ records_at (first_spots s image p count)) p (past p.from (first_spots s image p count)) o damage) same
+        (subst (λ k. BreaksAt s v entries (seen ++ records_at (first_spots s image p count)) p k owner damage) there
+        (met.breaks (seen ++ records_at (first_spots s image p count)) (flags seen are)));
+    read = has_read_later (places_met s p (owner_bytes s p.extents image) damage) made (subst (λ o. HasRead (places_met s p o damage) b c) same met.read);
+  }
+
+  -- what is met on these rows is met where others follow
+  pub met_before : (f : List Bool) (xs ys : List RowPlace) {a b : History} → MetOn s v entries image f xs damage a b → MetOn s v entries image f (xs ++ ys) damage a b
+  met_before f xs ys met = record {
+    before = met.before;
+    place = met.place;
+    behind = met.behind ++ ys;
+    so = ap (λ l. l ++ ys) met.so ∙ append_assoc met.before (met.place ∷ met.behind) ys;
+    count = met.count;
+    inside = met.inside;
+    breaks = met.breaks;
+    read = met.read;
+  }
+
+  -- and after the walk over others
+  pub met_after : {Kind : Call → Type 0} (f g : List Bool) (xs ys : List RowPlace) {a b c : History} → Made Kind a b → ((seen : List Stored) → AreFlags entries seen f → AreFlags entries (seen ++ records_at (spots_in s image xs)) g) →
+      MetOn s v entries image g ys damage b c → MetOn s v entries image f (xs ++ ys) damage a c
+  met_after f g xs ys made flags met =
+      let first = first_spots s image met.place met.count in
+      let mine = spots_in s image xs in
+      let theirs = spots_in s image met.before in
+      let owner = owner_bytes s met.place.extents image in
+      let at = past met.place.from first in
+      record {
+        before = xs ++ met.before;
+        place = met.place;
+        behind = met.behind;
+        so = ap (λ l. xs ++ l) met.so ∙ sym (append_assoc xs met.before (met.place ∷ met.behind));
+        count = met.count;
+        inside = met.inside;
+        breaks = λ seen are.
+            let spots : mine ++ (theirs ++ first) ≡ spots_in s image (xs ++ met.before) ++ first = sym (append_assoc mine theirs first) ∙ ap (λ l. l ++ first) (sym (spots-append xs met.before)) in
+            subst (λ l. BreaksAt s v entries (seen ++ records_at l) met.place at owner damage) spots
+            (subst (λ l. BreaksAt s v entries l met.place at owner damage) (seen_both s entries seen mine (theirs ++ first))
+            (met.breaks (seen ++ records_at mine) (flags seen are)));
+        read = has_read_later (places_met s met.place owner damage) made met.read;
+      }
+
+-- what is known of the damage that is answered, also where the fault is passed on
+pub damaged_wider : {T : Type 0} (P Q : Damage → Type 0) (result : Result T RestoreFault) → ((damage : Damage) → P damage → Q damage) → IfDamaged result P → IfDamaged result Q
+damaged_wider P Q (Ok value) step met = tt
+damaged_wider P Q (Err TargetFault) step met = tt
+damaged_wider P Q (Err DiskFault) step met = tt
+damaged_wider P Q (Err (Damaged damage)) step met = step damage met
+damaged_wider P Q (Err OutOfMemory) step met = tt
+
+pub damaged_by : (U : Type 0) {T : Type 0} (P Q : Damage → Type 0) (fault : RestoreFault) (result : Result T RestoreFault) → IsErrAnd result (λ e. e ≡ fault) → ((damage : Damage) → P damage → Q damage) → IfDamaged {T = U} (Err fault) P → IfDamaged result Q
+damaged_by U P Q fault (Ok value) is step met = tt
+damaged_by U {T} P Q fault (Err e) is step met = subst (λ f. IfDamaged {T = T} (Err f) Q) (sym is) (by fault met) where
+  by : (f : RestoreFault) → IfDamaged {T = U} (Err f) P → IfDamaged {T = T} (Err f) Q
+  by TargetFault met = tt
+  by DiskFault met = tt
+  by (Damaged damage) met = step damage met
+  by OutOfMemory met = tt
+
+-- ---- the records of a row
 
 module _ (extents bytes : List ℕ) where
-  spot_of : ℕ → Spot
-  spot_of at = record { extents = extents; at = at; stored = stored_at (drop at bytes) }
-
   pub spots-more : (n at : ℕ) → spots_from extents bytes (suc n) at ≡ spots_from extents bytes n at ++ record { extents = extents; at = past at (spots_from extents bytes n at); stored = stored_at (drop (past at (spots_from extents bytes n at)) bytes) } ∷ []
   spots-more zero at = refl
   spots-more (suc n) at =
@@ -65,15 +162,112 @@ module _ (extents bytes : List ℕ) where
   past-more zero at = refl
   past-more (suc n) at = past-more n (at + 36 + (stored_at (drop at bytes)).length)
 
--- ---- open categories
+-- ---- rows
 
-pub walk-append : (s : Sizes) (image : List ℕ) (v : ℕ) (xs ys : List OpenEntry) → open_walk s image v (xs ++ ys) ≡ open_walk s image v xs ++ open_walk s image v ys
-walk-append s image v xs ys =
-    let begins : OpenEntry → Bool = λ e. nat_le e.row.start v in
-    ap (flat_map (open_spots s image)) (filter-append begins xs ys) ∙ flat_map-append (open_spots s image) (filter begins xs) (filter begins ys)
+pub begun-append : (v : ℕ) (xs ys : List RowPlace) → begun_by v (xs ++ ys) ≡ begun_by v xs ++ begun_by v ys
+begun-append v xs ys = filter-append (λ (p : RowPlace). nat_le p.row.start v) xs ys
 
-pub walk-later : (s : Sizes) (image : List ℕ) (v : ℕ) (e : OpenEntry) → v < e.row.start → open_walk s image v (e ∷ []) ≡ []
-walk-later s image v e later = ap (λ b. flat_map (open_spots s image) (cond b (e ∷ []) [])) (lt-leb e.row.start v later)
+pub begun-later : (v : ℕ) (p : RowPlace) → v < p.row.start → begun_by v (p ∷ []) ≡ []
+begun-later v p later = ap (λ b. cond b (p ∷ []) []) (lt-leb p.row.start v later)
 
-pub walk-one : (s : Sizes) (image : List ℕ) (v : ℕ) (e : OpenEntry) → e.row.start ≤ v → open_walk s image v (e ∷ []) ≡ open_spots s image e
-walk-one s image v e within = ap (λ b. flat_map (open_spots s image) (cond b (e ∷ []) [])) (le-leb e.row.start v within) ∙ append-nil (open_spots s image e)
+pub begun-one : (v : ℕ) (p : RowPlace) → p.row.start ≤ v → begun_by v (p ∷ []) ≡ p ∷ []
+begun-one v p within = ap (λ b. cond b (p ∷ []) []) (le-leb p.row.start v within)
+
+pub spots-one : (s : Sizes) (image : List ℕ) (p : RowPlace) → spots_in s image (p ∷ []) ≡ row_spots s image p
+spots-one s image p = append-nil (row_spots s image p)
+
+pub rows-append : (who : Owner) (extents : List ℕ) (from : ℕ) (xs ys : List CategoryRow) → rows_from who extents from (xs ++ ys) ≡ rows_from who extents from xs ++ rows_from who extents (from + bytes_of_rows xs) ys
+rows-append who extents from [] ys =
+    let same : from ≡ from + bytes_of_rows [] = omega arith in
+    ap (λ k. rows_from who extents k ys) same
+rows-append who extents from (x ∷ xs) ys =
+    let sums : from + x.bytes + bytes_of_rows xs ≡ from + bytes_of_rows (x ∷ xs) = omega (arith, sum_by-cons (λ (r : CategoryRow). r.bytes) x xs) in
+    ap (λ l. row_place who extents from x ∷ l) (rows-append who extents (from + x.bytes) xs ys ∙ ap (λ k. rows_from who extents (from + x.bytes) xs ++ rows_from who extents k ys) sums)
+
+-- one row more, and what is behind it
+module _ (places : List RowPlace) (i : ℕ) (p : RowPlace) (lt : i < length places) (here : get_or places i p ≡ p) where
+  pub row_next : take (i + 1) places ≡ take i places ++ p ∷ []
+  row_next = take_more places i p lt ∙ ap (λ x. take i places ++ x ∷ []) here
+
+  pub row_rest : places ≡ (take i places ++ p ∷ []) ++ drop (i + 1) places
+  row_rest = sym (take-append-drop (i + 1) places) ∙ ap (λ l. l ++ drop (i + 1) places) row_next
+
+-- ---- the rows that begin by a version
+
+module _ (s : Sizes) (v : ℕ) (entries : List RecipeEntry) (image : List ℕ) where
+  begun_spots : (xs ys all : List RowPlace) → all ≡ xs ++ ys → spots_in s image (begun_by v xs) ++ spots_in s image (begun_by v ys) ≡ spots_in s image (begun_by v all)
+  begun_spots xs ys all is = sym (flat_map-append (row_spots s image) (begun_by v xs) (begun_by v ys)) ∙ ap (spots_in s image) (sym (begun-append v xs ys) ∙ ap (begun_by v) (sym is))
+
+  pub walks_on : (xs ys all : List RowPlace) (now : List ℕ) (f g h : List Bool) {a b c : History} → all ≡ xs ++ ys → now ≡ image → Walks s entries (spots_in s image (begun_by v xs)) f g a b → Walks s entries (spots_in s now (begun_by v ys)) g h b c →
+      Walks s entries (spots_in s image (begun_by v all)) f h a c
+  walks_on xs ys all now f g h {a} {b} {c} is same one other =
+      subst (λ l. Walks s entries l f h a c) (begun_spots xs ys all is)
+      (walks_both s entries (spots_in s image (begun_by v xs)) (spots_in s image (begun_by v ys)) f g h one
+      (subst (λ i. Walks s entries (spots_in s i (begun_by v ys)) g h b c) same other))
+
+  pub gives_on : (xs ys all : List RowPlace) (now : List ℕ) (f g : List Bool) (p q r : List ℕ) {a b : History} → all ≡ xs ++ ys → now ≡ image → Walks s entries (spots_in s image (begun_by v xs)) f g a b → Gives entries (spots_in s image (begun_by v xs)) f p q → Gives entries (spots_in s now (begun_by v ys)) g q r →
+      Gives entries (spots_in s image (begun_by v all)) f p r
+  gives_on xs ys all now f g p q r is same walk one other =
+      subst (λ l. Gives entries l f p r) (begun_spots xs ys all is)
+      (gives_both s entries (spots_in s image (begun_by v xs)) (spots_in s image (begun_by v ys)) f g p q r walk one
+      (subst (λ i. Gives entries (spots_in s i (begun_by v ys)) g q r) same other))
+
+  pub met_first : (xs rest all : List RowPlace) (f : List Bool) (damage : Damage) {a b : History} → all ≡ xs ++ rest → MetOn s v entries image f (begun_by v xs) damage a b → MetOn s v entries image f (begun_by v all) damage a b
+  met_first xs rest all f damage {a} {b} is met =
+      subst (λ l. MetOn s v entries image f l damage a b) (sym (begun-append v xs rest) ∙ ap (begun_by v) (sym is))
+      (met_before s v entries image damage f (begun_by v xs) (begun_by v rest) met)
+
+  pub met_on : (xs ys rest all : List RowPlace) (now : List ℕ) (f g : List Bool) (damage : Damage) {Kind : Call → Type 0} {a b c : History} → all ≡ (xs ++ ys) ++ rest → now ≡ image → Made Kind a b → Walks s entries (spots_in s image (begun_by v xs)) f g a b → MetOn s v entries now g (begun_by v ys) damage b c →
+      MetOn s v entries image f (begun_by v all) damage a c
+  met_on xs ys rest all now f g damage {a = a} {b = b} {c = c} is same made walk met =
+      let rows : (begun_by v xs ++ begun_by v ys) ++ begun_by v rest ≡ begun_by v all = ap (λ l. l ++ begun_by v rest) (sym (begun-append v xs ys)) ∙ sym (begun-append v (xs ++ ys) rest) ∙ ap (begun_by v) (sym is) in
+      subst (λ l. MetOn s v entries image f l damage a c) rows
+      (met_before s v entries image damage f (begun_by v xs ++ begun_by v ys) (begun_by v rest)
+      (met_after s v entries image damage f g (begun_by v xs) (begun_by v ys) made walk.flags
+      (subst (λ i. MetOn s v entries i g (begun_by v ys) damage b c) same met)))
+
+-- the row at an index of an owner, which begins where those before it end
+module _ (who : Owner) (extents mine : List ℕ) (rows : List CategoryRow) (i : ℕ) (d row : CategoryRow) (from : ℕ) (same : mine ≡ extents) (lt : i < length rows) (is : get_or rows i d ≡ row) (at : from ≡ bytes_of_rows (take i rows)) where
+  taken : take (i + 1) rows ≡ take i rows ++ row ∷ []
+  taken = take_more rows i d lt ∙ ap (λ r. take i rows ++ r ∷ []) is
+
+  pub owner_next : rows_from who extents 0 (take (i + 1) rows) ≡ rows_from who extents 0 (take i rows) ++ row_place who mine from row ∷ []
+  owner_next =
+      let place : 0 + bytes_of_rows (take i rows) ≡ from = omega (arith, at) in
+      ap (rows_from who extents 0) taken ∙ rows-append who extents 0 (take i rows) (row ∷ []) ∙ (λ k. rows_from who extents 0 (take i rows) ++ row_place who (sym same k) (place k) row ∷ [])
+
+  pub owner_rest : rows_from who extents 0 rows ≡ (rows_from who extents 0 (take i rows) ++ row_place who mine from row ∷ []) ++ rows_from who extents (0 + bytes_of_rows (take (i + 1) rows)) (drop (i + 1) rows)
+  owner_rest =
+      ap (rows_from who extents 0) (sym (take-append-drop (i + 1) rows)) ∙ rows-append who extents 0 (take (i + 1) rows) (drop (i + 1) rows)
+      ∙ ap (λ l. l ++ rows_from who extents (0 + bytes_of_rows (take (i + 1) rows)) (drop (i + 1) rows)) owner_next
+
+  pub owner_place : from + row.bytes ≡ bytes_of_rows (take (i + 1) rows)
+  owner_place =
+      let sums : bytes_of_rows (take i rows ++ row ∷ []) ≡ bytes_of_rows (take i rows) + (0 + row.bytes) = sum_by-append (λ (r : CategoryRow). r.bytes) (take i rows) (row ∷ []) in
+      omega (arith, ap bytes_of_rows taken, sums, at)
+
+  pub owner_within : from + row.bytes ≤ bytes_of_rows rows
+  owner_within =
+      let sums : bytes_of_rows (take (i + 1) rows ++ drop (i + 1) rows) ≡ bytes_of_rows (take (i + 1) rows) + bytes_of_rows (drop (i + 1) rows) = sum_by-append (λ (r : CategoryRow). r.bytes) (take (i + 1) rows) (drop (i + 1) rows) in
+      let all : bytes_of_rows (take (i + 1) rows ++ drop (i + 1) rows) ≡ bytes_of_rows rows = ap bytes_of_rows (take-append-drop (i + 1) rows) in
+      omega (arith, owner_place, sums, all)
+
+-- the rows of the volumes from v on and below n, those of the volume n, and those behind it
+module _ (c : Catalogue) (v n : ℕ) (mine : List RowPlace) (low : v ≤ n) (is : volume_rows c n ≡ mine) where
+  abbrev rows_below : List RowPlace
+  rows_below = flat_map (volume_rows c) (range_with_len v (n - v))
+
+  pub volumes_next : flat_map (volume_rows c) (range_with_len v (n + 1 - v)) ≡ rows_below ++ mine
+  volumes_next =
+      let more : n + 1 - v ≡ suc (n - v) = omega arith in
+      let last : v + (n - v) ≡ n = omega arith in
+      ap (λ k. flat_map (volume_rows c) (range_with_len v k)) more
+      ∙ ap (flat_map (volume_rows c)) (range_with_len-suc v (n - v) ∙ ap (λ k. range_with_len v (n - v) ++ k ∷ []) last)
+      ∙ flat_map-append (volume_rows c) (range_with_len v (n - v)) (n ∷ [])
+      ∙ ap (λ l. rows_below ++ l) (append-nil (volume_rows c n) ∙ is)
+
+  pub volumes_rest : n < c.newest → flat_map (volume_rows c) (numbers v (c.newest - 1)) ≡ (rows_below ++ mine) ++ flat_map (volume_rows c) (numbers (n + 1) (c.newest - 1))
+  volumes_rest high =
+      ap (flat_map (volume_rows c)) (numbers-split v n (c.newest - 1) (omega arith) (omega arith))
+      ∙ flat_map-append (volume_rows c) (numbers v n) (numbers (n + 1) (c.newest - 1))
+      ∙ ap (λ l. l ++ flat_map (volume_rows c) (numbers (n + 1) (c.newest - 1))) volumes_next

@@ -12,6 +12,7 @@ mod run;
 mod tables;
 #[cfg(test)]
 mod tests;
+mod volumes;
 
 pub use bd_recipe::ReadFault;
 pub use fault::RestoreFault;

@@ -5,7 +5,7 @@ use Rattle.bd_files.specs.Files.{ChangesOnly}
 use Rattle.bd_model.specs.Sizes.{sizes_of}
 use Rattle.bd_catalog.specs.Shown.{open_entry}
 use Rattle.bd_restore.specs.Target.{held, IsTarget}
-use Rattle.bd_restore.specs.Walk.{open_walk, Gives, Walks}
+use Rattle.bd_restore.specs.Walk.{begun_by, open_row, spots_in, Gives, Walks}
 use Rattle.bd_restore.proofs.actives.run_actives.Given as goal
 
 abbrev pub invariant-loop-active : goal.invariant-loop-active
@@ -18,6 +18,6 @@ invariant-loop-active g l = record {
   others : g.F.Files.tells → ChangesOnly l.name (g.F.Files.files l.fn.files) (g.F.Files.files l.files);
   writes : g.D.Disk.tells → WritesNothing (g.D.Disk.history l.fn.disk) (g.D.Disk.history l.disk);
   there : g.F.Files.tells → IsTarget l.tables l.name (g.F.Files.files l.files);
-  walk : g.D.Disk.tells → Walks (sizes_of l.shape) l.tables (open_walk (sizes_of l.shape) (contents (g.D.Disk.history l.fn.disk)) l.version (take l.active-index (map open_entry l.actives))) l.fn.filled l.filled (g.D.Disk.history l.fn.disk) (g.D.Disk.history l.disk);
-  gives : g.D.Disk.tells → g.F.Files.tells → Gives l.tables (open_walk (sizes_of l.shape) (contents (g.D.Disk.history l.fn.disk)) l.version (take l.active-index (map open_entry l.actives))) l.fn.filled (held (g.F.Files.files l.fn.files) l.name) (held (g.F.Files.files l.files) l.name);
+  walk : g.D.Disk.tells → Walks (sizes_of l.shape) l.tables (spots_in (sizes_of l.shape) (contents (g.D.Disk.history l.fn.disk)) (begun_by l.version (take l.active-index (map open_row (map open_entry l.actives))))) l.fn.filled l.filled (g.D.Disk.history l.fn.disk) (g.D.Disk.history l.disk);
+  gives : g.D.Disk.tells → g.F.Files.tells → Gives l.tables (spots_in (sizes_of l.shape) (contents (g.D.Disk.history l.fn.disk)) (begun_by l.version (take l.active-index (map open_row (map open_entry l.actives))))) l.fn.filled (held (g.F.Files.files l.fn.files) l.name) (held (g.F.Files.files l.files) l.name);
 }

@@ -1,46 +1,63 @@
-use Rattle.std.proofs.Common.{◌≡◌, ℕ, suc, ◌+◌, List, [], ◌∷◌, ◌++◌, take, drop, sym, ◌∙◌, ap, subst, arith}
+use Rattle.std.proofs.Common.{◌≡◌, ℕ, suc, ◌+◌, List, [], ◌∷◌, ◌++◌, drop, sym, ◌∙◌, ap, subst, arith}
 use Rattle.bd_disk.specs.History.{contents}
 use Rattle.bd_disk.proofs.Frames.{made_both, unchanged}
 use Rattle.bd_model.specs.Sizes.{sizes_of}
 use Rattle.bd_model.specs.Extents.{owner_bytes}
 use Rattle.bd_model.specs.Records.{stored_at}
+use Rattle.bd_restore.specs.Met.{MetAt, MetOn}
 use Rattle.bd_restore.specs.Target.{held}
-use Rattle.bd_restore.specs.Walk.{Spot, past, spots_from, Gives, Walks}
-use Rattle.bd_restore.proofs.Joining.{walks_both, gives_both, spots-more, past-more}
+use Rattle.bd_restore.specs.Walk.{RowPlace, Spot, first_spots, past, row_bytes, row_place, Gives, Walks}
+use Rattle.bd_restore.proofs.Joining.{damaged_by, walks_both, gives_both, met_here, spots-more, past-more}
 use Rattle.bd_restore.proofs.Putting.{changes_both}
 use Rattle.bd_restore.proofs.piece.run_piece.Goals as goal
 
 pub returns-in_err-at-clause-writes : goal.returns-in_err-at-clause-writes
 returns-in_err-at-clause-writes g c = λ told. made_both (c.loop-done.invariant.writes told) (c.read_record.ensures.writes told)
 
+pub returns-in_err-at-clause-damage : goal.returns-in_err-at-clause-damage
+returns-in_err-at-clause-damage g c =
+    let s = sizes_of c.args.shape.now in
+    let v = c.args.version in
+    let entries = c.args.tables.now in
+    let piece = c.args.piece.now in
+    let p : RowPlace = row_place piece.who piece.extents.now piece.from piece.row in
+    let inv = c.loop-done.invariant in
+    let image = contents (g.D.Disk.history c.args.disk.now) in
+    let first = g.D.Disk.history c.args.disk.now in
+    let before = g.D.Disk.history c.loop-done.disk in
+    let after = g.D.Disk.history c.read_record.new.disk in
+    let owner = owner_bytes s p.extents (contents before) in
+    damaged_by ℕ (λ damage. g.D.Disk.tells → MetAt s v entries c.loop-done.filled p c.loop-done.at owner damage before after) (λ damage. g.D.Disk.tells → MetOn s v entries image c.args.filled.now (p ∷ []) damage first after) c.in_err-at.field-0.0 c.from_residual.result c.from_residual.ensures.1
+    (λ damage met told. met_here s v entries image damage c.args.filled.now c.loop-done.filled p c.loop-done.done c.loop-done.at owner c.loop-done-test.true (inv.next told) (ap (owner_bytes s p.extents) (unchanged (inv.writes told))) (inv.writes told) (inv.walk told).flags (met told))
+    c.in_err-at.ensures.damage
+
 pub returns-clause-walk : goal.returns-clause-walk
 returns-clause-walk g c = λ told.
     let s = sizes_of c.args.shape.now in
-    let extents = c.args.piece.now.extents.now in
-    let bytes = take c.args.piece.now.to (owner_bytes s extents (contents (g.D.Disk.history c.args.disk.now))) in
-    let all : c.loop-done.done ≡ c.args.piece.now.chunks = omega (arith, c.loop-done-test.false) in
-    subst (λ n. Walks s c.args.tables.now (spots_from extents bytes n c.args.piece.now.from) c.args.filled.now c.loop-done.filled (g.D.Disk.history c.args.disk.now) (g.D.Disk.history c.loop-done.disk)) all (c.loop-done.invariant.walk told)
+    let piece = c.args.piece.now in
+    let p : RowPlace = row_place piece.who piece.extents.now piece.from piece.row in
+    let image = contents (g.D.Disk.history c.args.disk.now) in
+    let all : c.loop-done.done ≡ piece.row.chunks = omega (arith, c.loop-done-test.false) in
+    subst (λ n. Walks s c.args.tables.now (first_spots s image p n) c.args.filled.now c.loop-done.filled (g.D.Disk.history c.args.disk.now) (g.D.Disk.history c.loop-done.disk)) all (c.loop-done.invariant.walk told)
 
 pub loop-done-preserved : goal.loop-done-preserved
 loop-done-preserved g c =
     let s = sizes_of c.args.shape.now in
     let entries = c.args.tables.now in
-    let extents = c.args.piece.now.extents.now in
-    let to = c.args.piece.now.to in
-    let from = c.args.piece.now.from in
+    let piece = c.args.piece.now in
+    let p : RowPlace = row_place piece.who piece.extents.now piece.from piece.row in
     let name = c.args.name.now in
     let inv = c.loop-done.invariant in
     let done = c.loop-done.done in
     let image = contents (g.D.Disk.history c.args.disk.now) in
-    let bytes = take to (owner_bytes s extents image) in
-    let spots = spots_from extents bytes done from in
+    let spots = first_spots s image p done in
     let first = g.D.Disk.history c.args.disk.now in
     let before = g.D.Disk.history c.loop-done.disk in
     let after = g.D.Disk.history c.read_record.new.disk in
-    let spot : List ℕ → ℕ → Spot = λ i at. record { extents = extents; at = at; stored = stored_at (drop at (take to (owner_bytes s extents i))) } in
+    let spot : List ℕ → ℕ → Spot = λ i at. record { extents = p.extents; at = at; stored = stored_at (drop at (row_bytes s i p)) } in
     let more : done + 1 ≡ suc done = omega arith in
-    let last = spot image (past from spots) in
-    let list : spots_from extents bytes (done + 1) from ≡ spots ++ last ∷ [] = ap (λ n. spots_from extents bytes n from) more ∙ spots-more extents bytes done from in
+    let last = spot image (past p.from spots) in
+    let list : first_spots s image p (done + 1) ≡ spots ++ last ∷ [] = ap (first_spots s image p) more ∙ spots-more p.extents (row_bytes s image p) done p.from in
     record {
       bytes = c.read_record.ensures.bytes ∙ inv.bytes;
       faults = c.in_ok-at.ensures.cause.cause ∙ inv.faults;
@@ -56,7 +73,7 @@ loop-done-preserved g c =
           let at = inv.next told in
           c.in_ok-at.ensures.next told
           ∙ (λ i. at i + 36 + (spot (same i) (at i)).stored.length)
-          ∙ sym (ap (λ n. past from (spots_from extents bytes n from)) more ∙ past-more extents bytes done from);
+          ∙ sym (ap (λ n. past p.from (first_spots s image p n)) more ∙ past-more p.extents (row_bytes s image p) done p.from);
       walk = λ told.
           let same : contents before ≡ image = unchanged (inv.writes told) in
           let one : Walks s entries (last ∷ []) c.loop-done.filled c.read_record.new.filled before after =

@@ -1,11 +1,10 @@
-use Rattle.std.proofs.Common.{◌≡◌, ◌≤◌, take}
+use Rattle.std.proofs.Common.{◌≡◌, ◌+◌, ◌≤◌}
 use Rattle.bd_disk.specs.History.{contents}
 use Rattle.bd_disk.specs.Made.{WritesNothing}
 use Rattle.bd_files.specs.Files.{ChangesOnly}
 use Rattle.bd_model.specs.Sizes.{sizes_of}
-use Rattle.bd_model.specs.Extents.{owner_bytes}
 use Rattle.bd_restore.specs.Target.{held, IsTarget}
-use Rattle.bd_restore.specs.Walk.{past, spots_from, Gives, Walks}
+use Rattle.bd_restore.specs.Walk.{first_spots, past, row_place, Gives, Walks}
 use Rattle.bd_restore.proofs.piece.run_piece.Given as goal
 
 abbrev pub invariant-loop-done : goal.invariant-loop-done
@@ -18,8 +17,8 @@ invariant-loop-done g l = record {
   others : g.F.Files.tells → ChangesOnly l.name (g.F.Files.files l.fn.files) (g.F.Files.files l.files);
   writes : g.D.Disk.tells → WritesNothing (g.D.Disk.history l.fn.disk) (g.D.Disk.history l.disk);
   there : g.F.Files.tells → IsTarget l.tables l.name (g.F.Files.files l.files);
-  within : l.at ≤ l.piece.to;
-  next : g.D.Disk.tells → l.at ≡ past l.piece.from (spots_from l.piece.extents.now (take l.piece.to (owner_bytes (sizes_of l.shape) l.piece.extents.now (contents (g.D.Disk.history l.fn.disk)))) l.done l.piece.from);
-  walk : g.D.Disk.tells → Walks (sizes_of l.shape) l.tables (spots_from l.piece.extents.now (take l.piece.to (owner_bytes (sizes_of l.shape) l.piece.extents.now (contents (g.D.Disk.history l.fn.disk)))) l.done l.piece.from) l.fn.filled l.filled (g.D.Disk.history l.fn.disk) (g.D.Disk.history l.disk);
-  gives : g.D.Disk.tells → g.F.Files.tells → Gives l.tables (spots_from l.piece.extents.now (take l.piece.to (owner_bytes (sizes_of l.shape) l.piece.extents.now (contents (g.D.Disk.history l.fn.disk)))) l.done l.piece.from) l.fn.filled (held (g.F.Files.files l.fn.files) l.name) (held (g.F.Files.files l.files) l.name);
+  within : l.at ≤ l.piece.from + l.piece.row.bytes;
+  next : g.D.Disk.tells → l.at ≡ past l.piece.from (first_spots (sizes_of l.shape) (contents (g.D.Disk.history l.fn.disk)) (row_place l.piece.who l.piece.extents.now l.piece.from l.piece.row) l.done);
+  walk : g.D.Disk.tells → Walks (sizes_of l.shape) l.tables (first_spots (sizes_of l.shape) (contents (g.D.Disk.history l.fn.disk)) (row_place l.piece.who l.piece.extents.now l.piece.from l.piece.row) l.done) l.fn.filled l.filled (g.D.Disk.history l.fn.disk) (g.D.Disk.history l.disk);
+  gives : g.D.Disk.tells → g.F.Files.tells → Gives l.tables (first_spots (sizes_of l.shape) (contents (g.D.Disk.history l.fn.disk)) (row_place l.piece.who l.piece.extents.now l.piece.from l.piece.row) l.done) l.fn.filled (held (g.F.Files.files l.fn.files) l.name) (held (g.F.Files.files l.files) l.name);
 }

@@ -1,95 +1,170 @@
-use Rattle.std.proofs.Common.{◌≡◌, ℕ, ◌-◌, ◌<◌, ◌≤◌, true, false, [], length, replicate, ◌∙◌, ap, sym, subst, arith, Some}
-use Rattle.std.specs.Prelude.{All}
-use Rattle.std.specs.Prelude.{map as each}
+use Rattle.std.proofs.Common.{◌≡◌, ℕ, ◌<◌, ◌≤◌, true, false, List, [], length, replicate, ◌∙◌, ap, sym, subst, arith, Some}
 use Rattle.std.specs.FinMap as map
 use Rattle.std.proofs.lemmas.List.{take_at}
 use Rattle.bd_disk.specs.History.{contents}
 use Rattle.bd_disk.specs.Trace.{ReadsOnly}
-use Rattle.bd_model.specs.Sizes.{Sizes, sizes_of}
-use Rattle.bd_catalog.specs.Shown.{open_entry}
+use Rattle.bd_model.specs.Sizes.{Sizes}
+use Rattle.bd_model.specs.declared.damage.Damage.TheVariants.{Missing}
 use Rattle.bd_files.specs.Files.{ChangesOnly}
-use Rattle.bd_recipe.specs.Reading.{total}
-use Rattle.bd_restore.specs.Target.{held, flag_at, IsTarget}
-use Rattle.bd_restore.specs.Walk.{open_walk, records_at, walk_reads, joined, AreFlags, AreGiven, IsOpen}
-use Rattle.bd_model.specs.Chunks.{numbers}
-use Rattle.bd_model.proofs.ListLemmas.{numbers-none}
-use Rattle.bd_restore.proofs.Contents.{newest_records}
-use Rattle.bd_restore.proofs.Finishing.{ok_of, are_open, flags_none, given_none, target_begun, all_given, only_put}
+use Rattle.bd_catalog.specs.Damages.{IsOfRestore}
+use Rattle.bd_catalog.specs.Rules.{obeys}
+use Rattle.bd_catalog.specs.Sound.{recipe_of, records_for}
+use Rattle.bd_recipe.specs.Reading.{recipe_places, total}
+use Rattle.bd_restore.specs.Met.{IsNeeded, IsSeenAfter, IsWhole, MetOn}
+use Rattle.bd_restore.specs.Target.{held, flag_at, mark_at, IsTarget}
+use Rattle.bd_restore.specs.Walk.{joined, records_at, spots_in, walk, walk_reads, AreFlags, AreGiven}
+use Rattle.bd_restore.proofs.Finishing.{ok_of, flags_none, given_none, target_begun, all_given, only_put}
+use Rattle.bd_restore.proofs.Joining.{damaged_by}
+use Rattle.bd_restore.proofs.Seeing.{met_needed, met_part, met_seen, met_whole, missing_seen, missing_whole, walk_records}
 use Rattle.bd_restore.proofs.Putting.{changes_both}
 use Rattle.bd_restore.proofs.run.run_plan.Goals as goal
 
-pub run_actives-requires-clause-opened : goal.run_actives-requires-clause-opened
-run_actives-requires-clause-opened g c =
-    let found = c.args.catalog.now.found in
-    let all : All (IsOpen found.sizes) found.catalogue.actives = are_open found.sizes found.catalogue (subst (λ (s : Sizes). 1 ≤ s.extent) c.shape-shape.ensures.sizes (omega arith)) c.shape-shape.ensures.rules in
-    let same : each open_entry c.as_slice-actives.result.now ≡ found.catalogue.actives = ap (each open_entry) c.as_slice-actives.ensures ∙ c.actives.ensures in
-    subst (λ (s : Sizes). All (IsOpen s) (each open_entry c.as_slice-actives.result.now)) (sym c.shape-shape.ensures.sizes) (subst (λ es. All (IsOpen found.sizes) es) (sym same) all)
-
-pub run_actives-requires-clause-there : goal.run_actives-requires-clause-there
-run_actives-requires-clause-there g c = λ tells.
+pub run_walk-requires-clause-there : goal.run_walk-requires-clause-there
+run_walk-requires-clause-there g c = λ tells.
     let begun : g.F.Files.files c.begin.new.self ≡ map.insert (g.F.Files.files c.args.files.now) c.args.name.now (replicate c.into_parts-version.result.1 0) = ok_of c.begin.result _ (sym c.is_err.ensures.value ∙ c.if-is_err.false) c.begin.ensures.ok tells in
     target_begun c.into_parts-version.result.2 (g.F.Files.files c.args.files.now) (g.F.Files.files c.begin.new.self) c.args.name.now c.into_parts-version.result.1 (c.into_parts-version.ensures.length ∙ ap total (sym c.into_parts-version.ensures.entries)) begun
 
-pub returns-in-Some-clause-others : goal.returns-in-Some-clause-others
-returns-in-Some-clause-others g c = λ tells. changes_both c.args.name.now _ _ _ (c.begin.ensures.others tells) (c.run_actives.ensures.others tells)
+pub returns-in_err-run_walk-clause-part : goal.returns-in_err-run_walk-clause-part
+returns-in_err-run_walk-clause-part g c =
+    let s = c.args.catalog.now.found.sizes in
+    let cat = c.args.catalog.now.found.catalogue in
+    let plan = c.args.plan in
+    let tables = c.into_parts-version.result.2 in
+    let v = c.into_parts-version.result.0 in
+    let old = g.D.Disk.history c.args.disk.now in
+    let new = g.D.Disk.history c.run_walk.new.disk in
+    let image = contents old in
+    let flags : AreFlags tables [] c.deref_mut.result.now = flags_none tables c.deref_mut.result.now (c.deref_mut.ensures.value ∙ c.into_parts-version.ensures.flags ∙ ap (λ es. replicate (length es) false) (sym c.into_parts-version.ensures.entries)) in
+    damaged_by (Unit {0}) (λ damage. g.D.Disk.tells → MetOn s v tables image c.deref_mut.result.now (walk cat v) damage old new) (λ damage. g.D.Disk.tells → IsOfRestore plan.version damage) c.in_err-run_walk.field-0.0 c.from_residual.result c.from_residual.ensures.1
+    (λ damage met told. subst (λ n. IsOfRestore n damage) c.into_parts-version.ensures.version (met_part s cat image v tables c.deref_mut.result.now damage old new flags (met told)))
+    c.in_err-run_walk.ensures.damage
 
-pub returns-then-is_err-2-clause-others : goal.returns-then-is_err-2-clause-others
-returns-then-is_err-2-clause-others g c = λ tells. subst (ChangesOnly c.args.name.now (g.F.Files.files c.args.files.now)) (sym (c.finish.ensures.same tells)) (changes_both c.args.name.now _ _ _ (c.begin.ensures.others tells) (c.run_actives.ensures.others tells))
+pub returns-in_err-run_walk-clause-needed : goal.returns-in_err-run_walk-clause-needed
+returns-in_err-run_walk-clause-needed g c =
+    let s = c.args.catalog.now.found.sizes in
+    let cat = c.args.catalog.now.found.catalogue in
+    let plan = c.args.plan in
+    let tables = c.into_parts-version.result.2 in
+    let v = c.into_parts-version.result.0 in
+    let old = g.D.Disk.history c.args.disk.now in
+    let new = g.D.Disk.history c.run_walk.new.disk in
+    let image = contents old in
+    let flags : AreFlags tables [] c.deref_mut.result.now = flags_none tables c.deref_mut.result.now (c.deref_mut.ensures.value ∙ c.into_parts-version.ensures.flags ∙ ap (λ es. replicate (length es) false) (sym c.into_parts-version.ensures.entries)) in
+    damaged_by (Unit {0}) (λ damage. g.D.Disk.tells → MetOn s v tables image c.deref_mut.result.now (walk cat v) damage old new) (λ damage. g.D.Disk.tells → IsNeeded plan.entries damage) c.in_err-run_walk.field-0.0 c.from_residual.result c.from_residual.ensures.1
+    (λ damage met told. subst (λ es. IsNeeded es damage) c.into_parts-version.ensures.entries (met_needed s cat image v tables c.deref_mut.result.now damage old new flags (met told)))
+    c.in_err-run_walk.ensures.damage
 
-pub returns-clause-others : goal.returns-clause-others
-returns-clause-others g c = λ tells. subst (ChangesOnly c.args.name.now (g.F.Files.files c.args.files.now)) (sym (c.finish.ensures.same tells)) (changes_both c.args.name.now _ _ _ (c.begin.ensures.others tells) (c.run_actives.ensures.others tells))
+pub returns-in_err-run_walk-clause-seen : goal.returns-in_err-run_walk-clause-seen
+returns-in_err-run_walk-clause-seen g c =
+    let s = c.args.catalog.now.found.sizes in
+    let cat = c.args.catalog.now.found.catalogue in
+    let plan = c.args.plan in
+    let tables = c.into_parts-version.result.2 in
+    let v = c.into_parts-version.result.0 in
+    let old = g.D.Disk.history c.args.disk.now in
+    let new = g.D.Disk.history c.run_walk.new.disk in
+    let image = contents old in
+    let flags : AreFlags tables [] c.deref_mut.result.now = flags_none tables c.deref_mut.result.now (c.deref_mut.ensures.value ∙ c.into_parts-version.ensures.flags ∙ ap (λ es. replicate (length es) false) (sym c.into_parts-version.ensures.entries)) in
+    damaged_by (Unit {0}) (λ damage. g.D.Disk.tells → MetOn s v tables image c.deref_mut.result.now (walk cat v) damage old new) (λ damage. g.D.Disk.tells → plan.entries ≡ recipe_of s cat image plan.version → IsSeenAfter (recipe_places s cat plan.version) s cat image damage old new) c.in_err-run_walk.field-0.0 c.from_residual.result c.from_residual.ensures.1
+    (λ damage met told is. met_seen s cat image v tables c.deref_mut.result.now damage old new flags (met told) (recipe_places s cat plan.version) c.shape-shape.ensures.rules)
+    c.in_err-run_walk.ensures.damage
+
+pub returns-in_err-run_walk-clause-whole : goal.returns-in_err-run_walk-clause-whole
+returns-in_err-run_walk-clause-whole g c =
+    let s = c.args.catalog.now.found.sizes in
+    let cat = c.args.catalog.now.found.catalogue in
+    let plan = c.args.plan in
+    let tables = c.into_parts-version.result.2 in
+    let v = c.into_parts-version.result.0 in
+    let old = g.D.Disk.history c.args.disk.now in
+    let new = g.D.Disk.history c.run_walk.new.disk in
+    let image = contents old in
+    let flags : AreFlags tables [] c.deref_mut.result.now = flags_none tables c.deref_mut.result.now (c.deref_mut.ensures.value ∙ c.into_parts-version.ensures.flags ∙ ap (λ es. replicate (length es) false) (sym c.into_parts-version.ensures.entries)) in
+    damaged_by (Unit {0}) (λ damage. g.D.Disk.tells → MetOn s v tables image c.deref_mut.result.now (walk cat v) damage old new) (λ damage. g.D.Disk.tells → IsWhole s cat image plan.version plan.entries → ⊥) c.in_err-run_walk.field-0.0 c.from_residual.result c.from_residual.ensures.1
+    (λ damage met told whole. met_whole s cat image v tables c.deref_mut.result.now damage old new flags (met told)
+    (subst (λ n. IsWhole s cat image n tables) (sym c.into_parts-version.ensures.version) (subst (IsWhole s cat image plan.version) (sym c.into_parts-version.ensures.entries) whole)))
+    c.in_err-run_walk.ensures.damage
+
+pub returns-in-Some-clause-seen : goal.returns-in-Some-clause-seen
+returns-in-Some-clause-seen g c = λ told is.
+    let s = c.args.catalog.now.found.sizes in
+    let cat = c.args.catalog.now.found.catalogue in
+    let plan = c.args.plan in
+    let tables = c.into_parts-version.result.2 in
+    let v = c.into_parts-version.result.0 in
+    let old = g.D.Disk.history c.args.disk.now in
+    let new = g.D.Disk.history c.run_walk.new.disk in
+    let image = contents old in
+    let flags : AreFlags tables [] c.deref_mut.result.now = flags_none tables c.deref_mut.result.now (c.deref_mut.ensures.value ∙ c.into_parts-version.ensures.flags ∙ ap (λ es. replicate (length es) false) (sym c.into_parts-version.ensures.entries)) in
+    let after : AreFlags tables (records_for s cat image v) c.run_walk.new.filled = subst (λ l. AreFlags tables l c.run_walk.new.filled) (walk_records s cat image v) ((c.in_ok-run_walk.ensures.walk told).flags [] flags) in
+    let filled : c.deref.result.now ≡ c.run_walk.new.filled = c.deref.ensures.value ∙ take_at c.run_walk.new.filled _ c.into_parts-version.result.3.len (c.run_walk.auto.filled ∙ c.deref_mut.ensures.len) in
+    let k = c.in-Some.index in
+    let lt : k < length tables = omega (arith, c.in-Some.ensures.within, ap length filled, after.count) in
+    let miss : flag_at c.run_walk.new.filled k ≡ false = subst (λ l. flag_at l k ≡ false) filled c.in-Some.ensures.some in
+    let same : tables ≡ recipe_of s cat image v = c.into_parts-version.ensures.entries ∙ is ∙ ap (recipe_of s cat image) (sym c.into_parts-version.ensures.version) in
+    let more = walk_reads s tables [] (spots_in s image (walk cat v)) in
+    let reads : ReadsOnly more old new = (c.in_ok-run_walk.ensures.walk told).reads [] flags in
+    subst (λ n. IsSeenAfter (recipe_places s cat n) s cat image (Missing v k c.entry.result.mark) old new) c.into_parts-version.ensures.version
+    (missing_seen s cat image v tables c.run_walk.new.filled after k lt miss c.entry.result.mark more c.entry.ensures.mark same reads)
+
+pub returns-in-Some-clause-whole : goal.returns-in-Some-clause-whole
+returns-in-Some-clause-whole g c = λ told whole.
+    let s = c.args.catalog.now.found.sizes in
+    let cat = c.args.catalog.now.found.catalogue in
+    let plan = c.args.plan in
+    let tables = c.into_parts-version.result.2 in
+    let v = c.into_parts-version.result.0 in
+    let old = g.D.Disk.history c.args.disk.now in
+    let new = g.D.Disk.history c.run_walk.new.disk in
+    let image = contents old in
+    let flags : AreFlags tables [] c.deref_mut.result.now = flags_none tables c.deref_mut.result.now (c.deref_mut.ensures.value ∙ c.into_parts-version.ensures.flags ∙ ap (λ es. replicate (length es) false) (sym c.into_parts-version.ensures.entries)) in
+    let after : AreFlags tables (records_for s cat image v) c.run_walk.new.filled = subst (λ l. AreFlags tables l c.run_walk.new.filled) (walk_records s cat image v) ((c.in_ok-run_walk.ensures.walk told).flags [] flags) in
+    let filled : c.deref.result.now ≡ c.run_walk.new.filled = c.deref.ensures.value ∙ take_at c.run_walk.new.filled _ c.into_parts-version.result.3.len (c.run_walk.auto.filled ∙ c.deref_mut.ensures.len) in
+    let k = c.in-Some.index in
+    let lt : k < length tables = omega (arith, c.in-Some.ensures.within, ap length filled, after.count) in
+    let miss : flag_at c.run_walk.new.filled k ≡ false = subst (λ l. flag_at l k ≡ false) filled c.in-Some.ensures.some in
+    missing_whole s cat image v tables c.run_walk.new.filled after k lt miss
+    (subst (λ n. IsWhole s cat image n tables) (sym c.into_parts-version.ensures.version) (subst (IsWhole s cat image plan.version) (sym c.into_parts-version.ensures.entries) whole))
 
 pub returns-clause-places : goal.returns-clause-places
 returns-clause-places g c = λ told.
-    let found = c.args.catalog.now.found in
+    let s = c.args.catalog.now.found.sizes in
+    let cat = c.args.catalog.now.found.catalogue in
+    let plan = c.args.plan in
     let tables = c.into_parts-version.result.2 in
     let v = c.into_parts-version.result.0 in
-    let image = contents (g.D.Disk.history c.args.disk.now) in
     let old = g.D.Disk.history c.args.disk.now in
-    let new = g.D.Disk.history c.run_actives.new.disk in
-    let same : each open_entry c.as_slice-actives.result.now ≡ found.catalogue.actives = ap (each open_entry) c.as_slice-actives.ensures ∙ c.actives.ensures in
+    let new = g.D.Disk.history c.run_walk.new.disk in
+    let image = contents old in
     let flags : AreFlags tables [] c.deref_mut.result.now = flags_none tables c.deref_mut.result.now (c.deref_mut.ensures.value ∙ c.into_parts-version.ensures.flags ∙ ap (λ es. replicate (length es) false) (sym c.into_parts-version.ensures.entries)) in
-    let reads = (c.in_ok-run_actives.ensures.walk told).reads [] flags in
-    subst (λ (s : Sizes). ReadsOnly (walk_reads s c.args.plan.entries [] (open_walk s image c.args.plan.version found.catalogue.actives)) old new) c.shape-shape.ensures.sizes
-    (subst (λ es. ReadsOnly (walk_reads (sizes_of c.shape-shape.result) c.args.plan.entries [] (open_walk (sizes_of c.shape-shape.result) image c.args.plan.version es)) old new) same
-    (subst (λ n. ReadsOnly (walk_reads (sizes_of c.shape-shape.result) c.args.plan.entries [] (open_walk (sizes_of c.shape-shape.result) image n (each open_entry c.as_slice-actives.result.now))) old new) c.into_parts-version.ensures.version
-    (subst (λ es. ReadsOnly (walk_reads (sizes_of c.shape-shape.result) es [] (open_walk (sizes_of c.shape-shape.result) image v (each open_entry c.as_slice-actives.result.now))) old new) c.into_parts-version.ensures.entries reads)))
+    subst (λ n. ReadsOnly (walk_reads s plan.entries [] (spots_in s image (walk cat n))) old new) c.into_parts-version.ensures.version
+    (subst (λ es. ReadsOnly (walk_reads s es [] (spots_in s image (walk cat v))) old new) c.into_parts-version.ensures.entries
+    ((c.in_ok-run_walk.ensures.walk told).reads [] flags))
 
 pub returns-clause-file : goal.returns-clause-file
 returns-clause-file g c = λ told tells.
-    let found = c.args.catalog.now.found in
+    let s = c.args.catalog.now.found.sizes in
+    let cat = c.args.catalog.now.found.catalogue in
+    let plan = c.args.plan in
     let tables = c.into_parts-version.result.2 in
     let v = c.into_parts-version.result.0 in
-    let s = sizes_of c.shape-shape.result in
-    let name = c.args.name.now in
-    let image = contents (g.D.Disk.history c.args.disk.now) in
-    let opens = each open_entry c.as_slice-actives.result.now in
-    let records = records_at (open_walk s image v opens) in
-    let old = g.F.Files.files c.args.files.now in
-    let begun = g.F.Files.files c.begin.new.self in
-    let new = g.F.Files.files c.run_actives.new.files in
-    let same : opens ≡ found.catalogue.actives = ap (each open_entry) c.as_slice-actives.ensures ∙ c.actives.ensures in
+    let old = g.D.Disk.history c.args.disk.now in
+    let new = g.D.Disk.history c.run_walk.new.disk in
+    let image = contents old in
     let flags : AreFlags tables [] c.deref_mut.result.now = flags_none tables c.deref_mut.result.now (c.deref_mut.ensures.value ∙ c.into_parts-version.ensures.flags ∙ ap (λ es. replicate (length es) false) (sym c.into_parts-version.ensures.entries)) in
-    let after : AreFlags tables records c.run_actives.new.filled = (c.in_ok-run_actives.ensures.walk told).flags [] flags in
-    let given : AreGiven tables records (held new name) = (c.in_ok-run_actives.ensures.gives told tells).each [] flags (given_none tables (held begun name)) in
-    let target : IsTarget tables name new = c.in_ok-run_actives.ensures.there tells in
-    let all : (k : ℕ) → k < length c.run_actives.new.filled → flag_at c.run_actives.new.filled k ≡ true = subst (λ l. (k : ℕ) → k < length l → flag_at l k ≡ true) (c.deref.ensures.value ∙ take_at c.run_actives.new.filled _ c.into_parts-version.result.3.len (c.run_actives.auto.filled ∙ c.deref_mut.ensures.len)) c.in_default.ensures.none in
-    let content : held new name ≡ joined tables records = all_given tables records c.run_actives.new.filled (held new name) target.long after given all in
-    let changes : ChangesOnly name old new = changes_both name _ _ _ (c.begin.ensures.others tells) (c.run_actives.ensures.others tells) in
-    let put : new ≡ map.insert old name (joined tables records) = only_put old new name (joined tables records) changes (target.there ∙ ap Some content) in
+    let after : AreFlags tables (records_for s cat image v) c.run_walk.new.filled = subst (λ l. AreFlags tables l c.run_walk.new.filled) (walk_records s cat image v) ((c.in_ok-run_walk.ensures.walk told).flags [] flags) in
+    let filled : c.deref.result.now ≡ c.run_walk.new.filled = c.deref.ensures.value ∙ take_at c.run_walk.new.filled _ c.into_parts-version.result.3.len (c.run_walk.auto.filled ∙ c.deref_mut.ensures.len) in
+    let name = c.args.name.now in
+    let records = records_for s cat image v in
+    let before = g.F.Files.files c.args.files.now in
+    let begun = g.F.Files.files c.begin.new.self in
+    let now = g.F.Files.files c.run_walk.new.files in
+    let given : AreGiven tables records (held now name) = subst (λ l. AreGiven tables l (held now name)) (walk_records s cat image v) ((c.in_ok-run_walk.ensures.gives told tells).each [] flags (given_none tables (held begun name))) in
+    let target : IsTarget tables name now = c.in_ok-run_walk.ensures.there tells in
+    let all : (k : ℕ) → k < length c.run_walk.new.filled → flag_at c.run_walk.new.filled k ≡ true = subst (λ l. (k : ℕ) → k < length l → flag_at l k ≡ true) filled c.in_default.ensures.none in
+    let content : held now name ≡ joined tables records = all_given tables records c.run_walk.new.filled (held now name) target.long after given all in
+    let changes : ChangesOnly name before now = changes_both name _ _ _ (c.begin.ensures.others tells) (c.run_walk.ensures.others tells) in
+    let put : now ≡ map.insert before name (joined tables records) = only_put before now name (joined tables records) changes (target.there ∙ ap Some content) in
     c.finish.ensures.same tells ∙ put
-    ∙ ap (λ es. map.insert old name (joined es records)) c.into_parts-version.ensures.entries
-    ∙ ap (λ n. map.insert old name (joined c.args.plan.entries (records_at (open_walk s image n opens)))) c.into_parts-version.ensures.version
-    ∙ ap (λ es. map.insert old name (joined c.args.plan.entries (records_at (open_walk s image c.args.plan.version es)))) same
-    ∙ ap (λ (t : Sizes). map.insert old name (joined c.args.plan.entries (records_at (open_walk t image c.args.plan.version found.catalogue.actives)))) c.shape-shape.ensures.sizes
-
-pub returns-clause-content : goal.returns-clause-content
-returns-clause-content g c = λ told tells some newest is.
-    let found = c.args.catalog.now.found in
-    let s = found.sizes in
-    let v = c.args.plan.version in
-    let image = contents (g.D.Disk.history c.args.disk.now) in
-    let none : numbers v (found.catalogue.newest - 1) ≡ [] = numbers-none v (found.catalogue.newest - 1) (omega arith) in
-    let records = newest_records s image v found.catalogue none in
-    returns-clause-file g c told tells
-    ∙ (λ i. map.insert (g.F.Files.files c.args.files.now) c.args.name.now (joined (is i) (records i)))
+    ∙ ap (λ es. map.insert before name (joined es records)) c.into_parts-version.ensures.entries
+    ∙ ap (λ n. map.insert before name (joined plan.entries (records_for s cat image n))) c.into_parts-version.ensures.version
