@@ -1,6 +1,6 @@
 -- Walks that follow each other, what is met on them, and the records and rows that they go over.
 use Rattle.std.proofs.Common.{◌≡◌, ℕ, zero, suc, ◌+◌, ◌-◌, ◌<◌, ◌≤◌, Bool, cond, List, [], ◌∷◌, ◌++◌, length, take, drop, get_or, refl, sym, ◌∙◌, ap, subst, arith, append_assoc}
-use Rattle.std.specs.Prelude.{if◌then◌else◌, All, Contains, filter, nat_le, Result, Ok, Err, IsErrAnd}
+use Rattle.std.specs.Prelude.{if◌then◌else◌, Contains, nat_le, Result, Ok, Err, IsErrAnd}
 use Rattle.std.specs.List.{flat_map, range_with_len}
 use Rattle.std.proofs.lemmas.List.{append-nil, map-append, take-append-drop, take_more}
 use Rattle.std.proofs.lemmas.List.Elements.{filter-append, All-weaker, Contains-append_right}

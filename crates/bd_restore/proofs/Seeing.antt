@@ -1,8 +1,8 @@
 -- A damage that a walk meets is one of its restore, breaks its rule, and doesn't come where the walk is whole.
-use Rattle.std.proofs.Common.{◌≡◌, ◌≢◌, ◌⊎◌, ℕ, zero, suc, ◌+◌, ◌*◌, ◌<◌, ◌≤◌, Bool, true, false, cond, List, [], ◌∷◌, ◌++◌, drop, get_or, map, inl, inr, append_assoc, refl, sym, ◌∙◌, ap, subst, arith, Some, slice_get}
-use Rattle.std.specs.Prelude.{length, nat_le, nat_lt, bytes_eq, ◌&&◌, ◌==◌, IsTrue, IsFalse}
-use Rattle.std.specs.List.{All, Contains, flat_map, list_all, sum_by}
-use Rattle.std.proofs.lemmas.Bool.{leb-true, ltb-true, eqb-true, lt-ltb}
+use Rattle.std.proofs.Common.{◌≡◌, ◌≢◌, ℕ, zero, suc, ◌+◌, ◌*◌, ◌<◌, ◌≤◌, Bool, true, false, cond, List, [], ◌∷◌, ◌++◌, drop, get_or, map, inl, inr, append_assoc, refl, sym, ◌∙◌, ap, subst, arith, Some, slice_get}
+use Rattle.std.specs.Prelude.{length, nat_le, nat_lt, bytes_eq, ◌&&◌, ◌==◌, IsTrue}
+use Rattle.std.specs.List.{All, Contains, list_all}
+use Rattle.std.proofs.lemmas.Bool.{leb-true, eqb-true, lt-ltb}
 use Rattle.std.proofs.lemmas.List.{get_or-map, map-append}
 use Rattle.std.proofs.lemmas.Grind.{flat_map-append}
 use Rattle.std.proofs.lemmas.List.Elements.{All-nil, All-weaker, Contains-append_left, Contains-append_right, filter-append}
@@ -15,20 +15,20 @@ use Rattle.bd_disk.specs.Trace.{ReadsOnly}
 use Rattle.bd_model.specs.Sizes.{Sizes}
 use Rattle.bd_model.specs.Extents.{owner_bytes, places_at}
 use Rattle.bd_model.specs.Marks.{mark}
-use Rattle.bd_model.specs.Records.{Stored, entries_in, stored_at}
+use Rattle.bd_model.specs.Records.{Stored, stored_at}
 use Rattle.bd_model.specs.declared.damage.Damage.{Damage}
 use Rattle.bd_model.specs.declared.damage.Damage.TheVariants.{Entry, Sum, Header, Row, Body, Length, Missing}
 use Rattle.bd_model.specs.declared.layout.RecipeEntry.{RecipeEntry}
 use Rattle.bd_model.specs.declared.mark.Mark.{Mark}
 use Rattle.bd_model.proofs.ListLemmas.{left_and, right_and}
 use Rattle.bd_catalog.specs.Catalogue.{Catalogue, recipe_extents}
-use Rattle.bd_catalog.specs.Damages.{BreaksRule, IsBadHeader, IsOfRestore, IsRowOf, IsWalked, extents_of, named_places, record_at}
+use Rattle.bd_catalog.specs.Damages.{BreaksRule, IsBadHeader, IsOfRestore, IsRowOf, IsWalked, extents_of, named_places}
 use Rattle.bd_catalog.specs.Rules.{obeys}
-use Rattle.bd_catalog.specs.Sound.{is_stored, part_holds, part_records, parts_for, recipe_of, records_for, stored_holds, length_holds, with_mark}
+use Rattle.bd_catalog.specs.Sound.{is_stored, part_holds, part_records, recipe_of, records_for, stored_holds, length_holds, with_mark}
 use Rattle.bd_recipe.specs.Reading.{chunks_in, recipe_places}
 use Rattle.bd_recipe.proofs.Entries.{length-entries_in}
 use Rattle.bd_recipe.proofs.Found.{places_of_entry}
-use Rattle.bd_restore.specs.Met.{BreaksAt, HasEntry, HasRead, IsNeeded, IsSeenAfter, IsWhole, MetOn, places_met}
+use Rattle.bd_restore.specs.Met.{BreaksAt, HasEntry, IsNeeded, IsSeenAfter, IsWhole, MetOn, places_met}
 use Rattle.bd_restore.specs.Target.{flag_at, length_at, mark_at}
 use Rattle.bd_restore.specs.Walk.{AreFlags, RowPlace, Spot, first_spots, is_found, past, records_at, row_bytes, row_end, row_spots, spots_in, walk}
 use Rattle.bd_restore.proofs.Cuts.{past_later, past_sum, same_body, same_length, same_mark, spots_split, taken}

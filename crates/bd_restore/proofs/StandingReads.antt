@@ -1,5 +1,5 @@
 -- What is read of records that are all wanted.
-use Rattle.std.proofs.Common.{◌≡◌, ℕ, zero, suc, ◌+◌, ◌≤◌, Bool, true, cond, List, [], ◌∷◌, ◌++◌, length, drop, refl, sym, ◌∙◌, ap, arith, drop-drop}
+use Rattle.std.proofs.Common.{◌≡◌, ℕ, ◌+◌, ◌≤◌, Bool, true, cond, List, [], ◌∷◌, ◌++◌, length, drop, refl, sym, ◌∙◌, ap, arith, drop-drop}
 use Rattle.std.specs.List.{flat_map}
 use Rattle.bd_model.specs.History.{contains}
 use Rattle.bd_model.specs.Extents.{places_at}

@@ -1,17 +1,15 @@
 -- The walk of a restore of the newest version, in a settled store where no other is retained.
-use Rattle.std.proofs.Common.{◌≡◌, ℕ, ◌+◌, ◌≤◌, true, cond, ◌&&◌, List, [], ◌∷◌, ◌++◌, length, take, map, refl, sym, ◌∙◌, ap, arith, filter, nat_le, le-leb, zero-add, length-append}
+use Rattle.std.proofs.Common.{◌≡◌, ℕ, ◌+◌, ◌≤◌, true, cond, ◌&&◌, List, ◌∷◌, ◌++◌, length, take, map, refl, sym, ◌∙◌, ap, arith, filter, nat_le, le-leb, zero-add}
 use Rattle.std.specs.List.{list_all, flat_map}
 use Rattle.std.proofs.lemmas.List.{map-append}
-use Rattle.std.proofs.lemmas.List.Sums.{sum_by-cons}
 use Rattle.std.proofs.lemmas.Grind.{flat_map-append}
 use Rattle.bd_model.specs.declared.layout.CategoryRow.{CategoryRow}
 use Rattle.bd_model.specs.declared.layout.Phase.TheVariants.{Settled}
 use Rattle.bd_model.specs.Chunks.{numbers}
 use Rattle.bd_model.specs.Extents.{owner_bytes, places_at}
 use Rattle.bd_model.specs.History.{History, version, newest, contains}
-use Rattle.bd_model.specs.Layout.{open_category, record_bytes, row_of}
-use Rattle.bd_model.specs.Marks.{mark}
-use Rattle.bd_model.specs.Records.{four, record_of, records_of}
+use Rattle.bd_model.specs.Layout.{open_category, row_of}
+use Rattle.bd_model.specs.Records.{records_of}
 use Rattle.bd_model.specs.Sizes.{Sizes}
 use Rattle.bd_model.proofs.PlaceLemmas.{a_version_uses_a_front}
 use Rattle.bd_model.proofs.RecordLemmas.{length-records}

@@ -1,21 +1,20 @@
-use Rattle.std.proofs.Common.{◌≡◌, ℕ, ◌<◌, ◌≤◌, true, false, List, [], length, replicate, ◌∙◌, ap, sym, subst, arith, Some}
+use Rattle.std.proofs.Common.{◌≡◌, ℕ, ◌<◌, true, false, [], length, replicate, ◌∙◌, ap, sym, subst, arith, Some}
 use Rattle.std.specs.FinMap as map
 use Rattle.std.proofs.lemmas.List.{take_at}
 use Rattle.bd_disk.specs.History.{contents}
 use Rattle.bd_disk.specs.Trace.{ReadsOnly}
-use Rattle.bd_model.specs.Sizes.{Sizes}
 use Rattle.bd_model.specs.declared.damage.Damage.TheVariants.{Missing}
 use Rattle.bd_files.specs.Files.{ChangesOnly}
 use Rattle.bd_catalog.specs.Damages.{IsOfRestore}
-use Rattle.bd_catalog.specs.Rules.{obeys}
 use Rattle.bd_catalog.specs.Sound.{recipe_of, records_for}
 use Rattle.bd_recipe.specs.Reading.{recipe_places, total}
 use Rattle.bd_restore.specs.Met.{IsNeeded, IsSeenAfter, IsWhole, MetOn}
-use Rattle.bd_restore.specs.Target.{held, flag_at, mark_at, IsTarget}
-use Rattle.bd_restore.specs.Walk.{joined, records_at, spots_in, walk, walk_reads, AreFlags, AreGiven}
+use Rattle.bd_restore.specs.Target.{held, flag_at, IsTarget}
+use Rattle.bd_restore.specs.Walk.{joined, spots_in, walk, walk_reads, AreFlags, AreGiven}
 use Rattle.bd_restore.proofs.Finishing.{ok_of, flags_none, given_none, target_begun, all_given, only_put}
 use Rattle.bd_restore.proofs.Joining.{damaged_by}
-use Rattle.bd_restore.proofs.Seeing.{met_needed, met_part, met_seen, met_whole, missing_seen, missing_whole, walk_records}
+use Rattle.bd_restore.proofs.Seeing.{met_needed, met_part, met_seen, met_whole, missing_seen, missing_whole}
+use Rattle.bd_restore.proofs.WalkRecords.{walk_records}
 use Rattle.bd_restore.proofs.Putting.{changes_both}
 use Rattle.bd_restore.proofs.run.run_plan.Goals as goal
 
@@ -96,7 +95,7 @@ returns-in-Some-clause-seen g c = λ told is.
     let new = g.D.Disk.history c.run_walk.new.disk in
     let image = contents old in
     let flags : AreFlags tables [] c.deref_mut.result.now = flags_none tables c.deref_mut.result.now (c.deref_mut.ensures.value ∙ c.into_parts-version.ensures.flags ∙ ap (λ es. replicate (length es) false) (sym c.into_parts-version.ensures.entries)) in
-    let after : AreFlags tables (records_for s cat image v) c.run_walk.new.filled = subst (λ l. AreFlags tables l c.run_walk.new.filled) (walk_records s cat image v) ((c.in_ok-run_walk.ensures.walk told).flags [] flags) in
+    let after : AreFlags tables (records_for s cat image v) c.run_walk.new.filled = subst (λ l. AreFlags tables l c.run_walk.new.filled) (walk_records s image cat v) ((c.in_ok-run_walk.ensures.walk told).flags [] flags) in
     let filled : c.deref.result.now ≡ c.run_walk.new.filled = c.deref.ensures.value ∙ take_at c.run_walk.new.filled _ c.into_parts-version.result.3.len (c.run_walk.auto.filled ∙ c.deref_mut.ensures.len) in
     let k = c.in-Some.index in
     let lt : k < length tables = omega (arith, c.in-Some.ensures.within, ap length filled, after.count) in
@@ -118,7 +117,7 @@ returns-in-Some-clause-whole g c = λ told whole.
     let new = g.D.Disk.history c.run_walk.new.disk in
     let image = contents old in
     let flags : AreFlags tables [] c.deref_mut.result.now = flags_none tables c.deref_mut.result.now (c.deref_mut.ensures.value ∙ c.into_parts-version.ensures.flags ∙ ap (λ es. replicate (length es) false) (sym c.into_parts-version.ensures.entries)) in
-    let after : AreFlags tables (records_for s cat image v) c.run_walk.new.filled = subst (λ l. AreFlags tables l c.run_walk.new.filled) (walk_records s cat image v) ((c.in_ok-run_walk.ensures.walk told).flags [] flags) in
+    let after : AreFlags tables (records_for s cat image v) c.run_walk.new.filled = subst (λ l. AreFlags tables l c.run_walk.new.filled) (walk_records s image cat v) ((c.in_ok-run_walk.ensures.walk told).flags [] flags) in
     let filled : c.deref.result.now ≡ c.run_walk.new.filled = c.deref.ensures.value ∙ take_at c.run_walk.new.filled _ c.into_parts-version.result.3.len (c.run_walk.auto.filled ∙ c.deref_mut.ensures.len) in
     let k = c.in-Some.index in
     let lt : k < length tables = omega (arith, c.in-Some.ensures.within, ap length filled, after.count) in
@@ -152,14 +151,14 @@ returns-clause-file g c = λ told tells.
     let new = g.D.Disk.history c.run_walk.new.disk in
     let image = contents old in
     let flags : AreFlags tables [] c.deref_mut.result.now = flags_none tables c.deref_mut.result.now (c.deref_mut.ensures.value ∙ c.into_parts-version.ensures.flags ∙ ap (λ es. replicate (length es) false) (sym c.into_parts-version.ensures.entries)) in
-    let after : AreFlags tables (records_for s cat image v) c.run_walk.new.filled = subst (λ l. AreFlags tables l c.run_walk.new.filled) (walk_records s cat image v) ((c.in_ok-run_walk.ensures.walk told).flags [] flags) in
+    let after : AreFlags tables (records_for s cat image v) c.run_walk.new.filled = subst (λ l. AreFlags tables l c.run_walk.new.filled) (walk_records s image cat v) ((c.in_ok-run_walk.ensures.walk told).flags [] flags) in
     let filled : c.deref.result.now ≡ c.run_walk.new.filled = c.deref.ensures.value ∙ take_at c.run_walk.new.filled _ c.into_parts-version.result.3.len (c.run_walk.auto.filled ∙ c.deref_mut.ensures.len) in
     let name = c.args.name.now in
     let records = records_for s cat image v in
     let before = g.F.Files.files c.args.files.now in
     let begun = g.F.Files.files c.begin.new.self in
     let now = g.F.Files.files c.run_walk.new.files in
-    let given : AreGiven tables records (held now name) = subst (λ l. AreGiven tables l (held now name)) (walk_records s cat image v) ((c.in_ok-run_walk.ensures.gives told tells).each [] flags (given_none tables (held begun name))) in
+    let given : AreGiven tables records (held now name) = subst (λ l. AreGiven tables l (held now name)) (walk_records s image cat v) ((c.in_ok-run_walk.ensures.gives told tells).each [] flags (given_none tables (held begun name))) in
     let target : IsTarget tables name now = c.in_ok-run_walk.ensures.there tells in
     let all : (k : ℕ) → k < length c.run_walk.new.filled → flag_at c.run_walk.new.filled k ≡ true = subst (λ l. (k : ℕ) → k < length l → flag_at l k ≡ true) filled c.in_default.ensures.none in
     let content : held now name ≡ joined tables records = all_given tables records c.run_walk.new.filled (held now name) target.long after given all in
