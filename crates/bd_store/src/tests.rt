@@ -70,6 +70,37 @@ fn back_up(
     Ok(answer)
 }
 
+// What a restore answered, as numbers: of a version that was given back its number and its bytes, of one that isn't there
+// the three numbers that are told.
+fn told(answer: &Result<Answer, StoreFault>) -> [u64; 4] {
+    match answer {
+        Ok(Answer::Restored { version, bytes }) => [1, u64::from(*version), *bytes, 0],
+        Ok(
+            Answer::NoVersion {
+                asked,
+                oldest,
+                newest,
+            },
+        ) => [2, u64::from(*asked), u64::from(*oldest), u64::from(*newest)],
+        Ok(Answer::NothingRetained { asked: Some(asked) }) => [3, u64::from(*asked), 0, 0],
+        _ => [0; 4],
+    }
+}
+
+// Opens the store on the disk and restores this version to `t`.
+fn restore(
+    alloc: Global,
+    disk: &mut MemDisk,
+    files: &mut MemFiles,
+    version: u32,
+) -> Result<Result<Answer, StoreFault>, Fail> {
+    let name = Name::new(alloc, "t")?;
+    let Ok(mut store) = Store::open_store(alloc, disk) else {
+        return Ok(Err(StoreFault::DiskFault));
+    };
+    Ok(store.restore(disk, files, version, &name))
+}
+
 // A disk with the empty store.
 fn formatted(alloc: Global, shape: Shape) -> Result<MemDisk, Fail> {
     let mut disk = MemDisk::blank(alloc, DISK)?;
@@ -157,5 +188,45 @@ fn a_stop_within_a_backup_leaves_nothing_or_the_version(rt: HostRuntime) -> Resu
     }
     // At the write of the gate, and at the sync behind it.
     assert_eq!(rt; opened_by_filler, 2);
+    Ok(())
+}
+
+#[test]
+fn a_version_is_given_back(rt: HostRuntime) -> Result<(), Fail> {
+    let alloc = rt.alloc();
+    let target = Name::new(alloc, "t")?;
+    let cases: [(&str, &[u8]); 3] = [("a", b"AAAABBBBCCCC"), ("b", b"AAAAAAAAAAAA"), ("c", b"")];
+    for (source, bytes) in cases {
+        let mut files = MemFiles::new(alloc);
+        let mut disk = formatted(alloc, Shape::new(64, 16, 4, 4, 0, 4)?)?;
+        let nothing = restore(alloc, &mut disk, &mut files, 1)?;
+        assert_eq!(rt; told(&nothing), [3, 1, 0, 0]);
+        let stored = back_up(alloc, &mut disk, source)?;
+        assert_eq!(rt; stored.is_ok(), true);
+        let given = restore(alloc, &mut disk, &mut files, 1)?;
+        assert_eq!(rt; told(&given), [1, 1, bytes.len() as u64, 0], "{source}");
+        assert_eq!(rt; files.bytes_of(&target), Some(bytes));
+        let missing = restore(alloc, &mut disk, &mut files, 9)?;
+        assert_eq!(rt; told(&missing), [2, 9, 1, 1]);
+        let zero = restore(alloc, &mut disk, &mut files, 0)?;
+        assert_eq!(rt; told(&zero), [2, 0, 1, 1]);
+    }
+    Ok(())
+}
+
+#[test]
+fn a_fault_of_the_target_leaves_the_store(rt: HostRuntime) -> Result<(), Fail> {
+    let alloc = rt.alloc();
+    let target = Name::new(alloc, "t")?;
+    let mut files = MemFiles::new(alloc);
+    let mut disk = formatted(alloc, Shape::new(64, 16, 4, 4, 0, 4)?)?;
+    let stored = back_up(alloc, &mut disk, "a")?;
+    assert_eq!(rt; stored.is_ok(), true);
+    files.fail_target(2);
+    let failed = restore(alloc, &mut disk, &mut files, 1)?;
+    assert_eq!(rt; failed.err(), Some(StoreFault::TargetFault));
+    let given = restore(alloc, &mut disk, &mut files, 1)?;
+    assert_eq!(rt; told(&given), [1, 1, 12, 0]);
+    assert_eq!(rt; files.bytes_of(&target), Some(b"AAAABBBBCCCC".as_slice()));
     Ok(())
 }
