@@ -1,7 +1,7 @@
 use super::*;
 use bd_disk::{MemDisk, Touch, crash_image};
 use bd_files::MemFiles;
-use bd_model::{Answer, Name, Shape};
+use bd_model::{Answer, Damage, Name, Owner, Shape};
 use std::alloc::Global;
 use std::test::Fail;
 
@@ -228,5 +228,33 @@ fn a_fault_of_the_target_leaves_the_store(rt: HostRuntime) -> Result<(), Fail> {
     let given = restore(alloc, &mut disk, &mut files, 1)?;
     assert_eq!(rt; told(&given), [1, 1, 12, 0]);
     assert_eq!(rt; files.bytes_of(&target), Some(b"AAAABBBBCCCC".as_slice()));
+    Ok(())
+}
+
+#[test]
+fn a_changed_body_is_named(rt: HostRuntime) -> Result<(), Fail> {
+    let alloc = rt.alloc();
+    let mut files = MemFiles::new(alloc);
+    let mut disk = formatted(alloc, Shape::new(64, 16, 4, 4, 0, 4)?)?;
+    let stored = back_up(alloc, &mut disk, "b")?;
+    assert_eq!(rt; stored.is_ok(), true);
+    // Behind the two halves only the body of the one record has this byte.
+    let mut image = disk.contents().to_vec(alloc)?;
+    for byte in image.iter_mut().skip(132_870) {
+        if *byte == b'A' {
+            *byte = b'Z';
+        }
+    }
+    let mut changed = MemDisk::from_bytes(alloc, &image)?;
+    let failed = restore(alloc, &mut changed, &mut files, 1)?;
+    let named = match failed {
+        Err(
+            StoreFault::Damaged {
+                damage: Damage::Body { owner, at, .. },
+            },
+        ) => Some((owner, at)),
+        _ => None,
+    };
+    assert_eq!(rt; named, Some((Owner::Active(1), 0)));
     Ok(())
 }
