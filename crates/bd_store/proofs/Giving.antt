@@ -44,39 +44,18 @@ use Rattle.bd_restore.specs.Walk.{joined, spots_in, walk, walk_reads}
 use Rattle.bd_restore.specs.declared.fault.RestoreFault.{RestoreFault}
 use Rattle.bd_restore.specs.declared.fault.RestoreFault.TheVariants.{TargetFault, DiskFault, Damaged, OutOfMemory}
 use Rattle.bd_files.specs.Files.{ChangesOnly}
-use Rattle.bd_store.specs.declared.fault.StoreFault.{StoreFault}
-use Rattle.bd_store.specs.declared.fault.StoreFault.TheVariants.{SourceFault as SourceFailed, TargetFault as TargetFailed, DiskFault as DiskFailed, Damaged as DamageFound, OutOfMemory as MemoryFailed, Unbuilt}
 use Rattle.bd_store.specs.Naming.{fault_of_reading, fault_of_restore, NamesDamage}
-use Rattle.bd_store.specs.Steps.{task, Task, IsOneStep, LeadsTo, MakesStep}
-use Rattle.bd_store.specs.Stops.{IsSafeAtStops, IsSureBy, IsSureOf}
+use Rattle.bd_store.specs.Steps.{task, IsOneStep, LeadsTo, MakesStep}
+use Rattle.bd_store.specs.Stops.{IsSafeAtStops}
 use Rattle.bd_store.specs.Touches.{WalksTo}
 use Rattle.bd_store.proofs.Asking.{restore_step, same_oldest}
 use Rattle.bd_store.proofs.Assumed.{content_stands, lean_stands, length_stands, reads_stand, recipe_stands, whole_stands}
 
--- ---- where nothing is written
-
--- the catalogue agrees with the disk as before
+-- where nothing is written the catalogue agrees with the disk as before
 pub agrees_quiet : (found : Found) {h0 h1 : History} → WritesNothing h0 h1 → Agrees found h0 → Agrees found h1
 agrees_quiet found {h0} {h1} quiet agrees =
     let same : contents h1 ≡ contents h0 = unchanged quiet in
     record { opens = ap opened same ∙ agrees.opens; sure = subst (λ image. IsSure (InHalves found.sizes) image h1) (sym same) (still_now quiet agrees.sure) }
-
--- after a fault each image at any moment stands for the state, as it did before
-sure_fault : (t : Task) {h0 h1 : History} (fault : StoreFault) → WritesNothing h0 h1 → IsSureOf t h0 → IsSureBy t h0 h1 (Err fault)
-sure_fault t DiskFailed quiet sure = tt
-sure_fault t SourceFailed quiet sure = leaves_quiet quiet sure
-sure_fault t TargetFailed quiet sure = leaves_quiet quiet sure
-sure_fault t (DamageFound damage) quiet sure = leaves_quiet quiet sure
-sure_fault t MemoryFailed quiet sure = leaves_quiet quiet sure
-sure_fault t Unbuilt quiet sure = leaves_quiet quiet sure
-
-pub fault_safe : (v : ℕ) (name : List ℕ) (held : ℕ) {h0 h1 : History} (files : FileMap) (fault : StoreFault) → WritesNothing h0 h1 → IsSafeAtStops (Restore v name) held h0 h1 files (Err fault)
-fault_safe v name held files fault quiet = record {
-  each = λ shape st near sure. record {
-    within = leaves_wider _ (λ image stands. inl stands) (leaves_quiet quiet sure);
-    done = sure_fault (task shape held st files (Restore v name)) fault quiet sure;
-  };
-}
 
 -- ---- damage
 
@@ -190,7 +169,7 @@ module _ (found : Found) (v : ℕ) (h0 : History) (agrees : Agrees found h0) (on
       is_lean : IsLean (history shape st) c.phase v
       is_lean = subst (IsLean (history shape st) c.phase) is_last (lean_stands shape st phase held (contents h0) found stands agrees.opens near alone)
 
-  -- a restore has no version more, so marks are told apart as before
+  -- a recipe that couldn't be read
   pub reading_one_step : (name : List ℕ) (held : ℕ) {h1 : History} (files : FileMap) (fault : ReadFault) → WritesNothing h0 h1 → AnswersPlan (recipe_found s c (contents h0) v) (Err fault) →
       IsOneStep (Restore v name) held h0 h1 files files (Err (fault_of_reading fault))
   reading_one_step name held {h1} files fault quiet answers = record { each = λ shape st phase near stands. by shape st phase near stands fault answers } where
@@ -220,6 +199,7 @@ module _ (found : Found) (v : ℕ) (h0 : History) (agrees : Agrees found h0) (on
     at_first : {X : Type 0} (f : List ℕ → ℕ → X) → f (contents h1) n ≡ f (contents h0) v
     at_first f = ap (λ image. f image n) (unchanged first) ∙ ap (f (contents h0)) same
 
+    -- a fault on the walk
     pub walk_one_step : (name : List ℕ) (held : ℕ) (files files_now : FileMap) (fault : RestoreFault) → ChangesOnly name files files_now → {Tells : Type 0} → Tells → IfMet {T = ℕ} (Err fault) (λ damage. Tells → IsWhole s c (contents h1) n entries → ⊥) →
         IsOneStep (Restore v name) held h0 h2 files files_now (Err (fault_of_restore fault))
     walk_one_step name held files files_now fault others {Tells = Tells} told whole = record { each = λ shape st phase near stands. by shape st phase near stands fault whole } where
@@ -234,6 +214,7 @@ module _ (found : Found) (v : ℕ) (h0 : History) (agrees : Agrees found h0) (on
             entries_stored = ap (λ records. list_all (is_stored records) entries) (at_first (records_for s c)) ∙ (is_whole shape st phase held stands near entries is).entries_stored;
           })
 
+    -- a version that was given back
     pub restored_one_step : (name : List ℕ) (held : ℕ) (files files_now : FileMap) (bytes : ℕ) → bytes ≡ total entries → files_now ≡ map.insert files name (joined entries (records_for s c (contents h1) n)) →
         IsOneStep (Restore v name) held h0 h2 files files_now (Ok (Restored v bytes))
     restored_one_step name held files files_now bytes long put = record {
@@ -252,6 +233,7 @@ module _ (found : Found) (v : ℕ) (h0 : History) (agrees : Agrees found h0) (on
         put
         ∙ ap (map.insert files name) (ap (joined entries) (at_first (records_for s c)) ∙ ap (λ es. joined es (records_for s c (contents h0) v)) (holds-found s c v (contents h0) entries is).same)
 
+    -- what was read is the walk through the layout
     pub restored_walks : ReadsOnly (recipe_places s c v) h0 h1 → ReadsOnly (walk_reads s entries [] (spots_in s (contents h1) (walk c n))) h1 h2 → (held : ℕ) → WalksTo held found v h0 h2
     restored_walks recipe_read walked held = record {
       each = λ shape st phase near stands. (

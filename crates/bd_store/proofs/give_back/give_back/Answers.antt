@@ -3,7 +3,8 @@ use Rattle.bd_disk.proofs.Frames.{made_both}
 use Rattle.bd_model.specs.declared.command.Command.TheVariants.{Restore}
 use Rattle.bd_store.specs.Naming.{NamesDamage}
 use Rattle.bd_store.specs.Steps.{IsOneStep}
-use Rattle.bd_store.proofs.Giving.{fault_safe, reading_names, reading_one_step, restored_content, restored_one_step, restored_safe, restored_walks, walk_names, walk_one_step}
+use Rattle.bd_store.proofs.Giving.{reading_names, reading_one_step, restored_content, restored_one_step, restored_safe, restored_walks, walk_names, walk_one_step}
+use Rattle.bd_store.proofs.Quiet.{safe_quiet}
 use Rattle.bd_store.proofs.give_back.give_back.Goals as goal
 
 pub returns-in-Err-clause-damage : goal.returns-in-Err-clause-damage
@@ -17,7 +18,7 @@ returns-in-Err-clause-step g c = λ told files_tell held.
     (reading_one_step c.args.catalog.now.found c.args.version (g.D.Disk.history c.args.disk.now) (c.requires.agrees told) c.requires.only c.requires.newest c.args.name.now held _ c.in-Err.fault (c.plan_for.ensures.writes told) (c.in-Err.ensures.entries told))
 
 pub returns-in-Err-clause-stops : goal.returns-in-Err-clause-stops
-returns-in-Err-clause-stops g c = λ told files_tell held. fault_safe c.args.version c.args.name.now held _ c.fault_of_reading.result (c.plan_for.ensures.writes told)
+returns-in-Err-clause-stops g c = λ told files_tell held. safe_quiet (Restore c.args.version c.args.name.now) held _ c.fault_of_reading.result (c.plan_for.ensures.writes told)
 
 pub returns-in-Ok-run_plan-clause-writes : goal.returns-in-Ok-run_plan-clause-writes
 returns-in-Ok-run_plan-clause-writes g c = λ told. made_both (c.plan_for.ensures.writes told) (c.run_plan.ensures.writes told)
@@ -64,4 +65,4 @@ returns-in-Err-run_plan-clause-step g c = λ told files_tell held.
 
 pub returns-in-Err-run_plan-clause-stops : goal.returns-in-Err-run_plan-clause-stops
 returns-in-Err-run_plan-clause-stops g c = λ told files_tell held.
-    fault_safe c.args.version c.args.name.now held _ c.fault_of_restore.result (made_both (c.plan_for.ensures.writes told) (c.run_plan.ensures.writes told))
+    safe_quiet (Restore c.args.version c.args.name.now) held _ c.fault_of_restore.result (made_both (c.plan_for.ensures.writes told) (c.run_plan.ensures.writes told))
