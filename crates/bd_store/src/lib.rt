@@ -3,6 +3,7 @@
 
 mod fault;
 mod first;
+mod give_back;
 mod listing;
 mod store;
 

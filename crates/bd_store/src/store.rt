@@ -28,6 +28,7 @@ ghost use Rattle.bd_store.specs.Touches.{AnswersByNumbers, AnswersByVersion, Ans
 
 use crate::fault::{StoreFault, is_disk_fault};
 use crate::first::take_first;
+use crate::give_back::give_back;
 use crate::listing::lines_of;
 use bd_catalog::Catalog;
 use bd_disk::Disk;
@@ -227,7 +228,28 @@ impl Store {
         // A stop at any moment leaves the state as it is.
         ensures stops { D.tells → F.tells → IsSafeAtStops (Restore version name.now) self.old.held (D.history disk.old) (D.history disk.new) (F.files files.old) result }
     {
-        Err(StoreFault::OutOfMemory)
+        let _shape = self.catalog.shape();
+        let retained = self.catalog.retained();
+        let newest = self.catalog.newest();
+        if retained == 0 {
+            return Ok(Answer::NothingRetained {
+                asked: Some(version),
+            });
+        }
+        let oldest = newest - (retained - 1);
+        if version < oldest || newest < version {
+            return Ok(Answer::NoVersion {
+                asked: version,
+                oldest,
+                newest,
+            });
+        }
+        if retained > 1 {
+            return Err(StoreFault::Unbuilt);
+        }
+        let given = give_back(self.alloc, disk, &self.catalog, files, version, name);
+        self.worn = is_disk_fault(&given);
+        given
     }
 
     /// The retained versions, ascending.

@@ -1,7 +1,7 @@
 use super::*;
 use bd_disk::{MemDisk, Touch, crash_image};
 use bd_files::MemFiles;
-use bd_model::{Answer, Name, Shape};
+use bd_model::{Answer, Damage, Name, Owner, Shape};
 use std::alloc::Global;
 use std::test::Fail;
 
@@ -68,6 +68,37 @@ fn back_up(
         return Ok(Err(StoreFault::DiskFault));
     }
     Ok(answer)
+}
+
+// What a restore answered, as numbers: of a version that was given back its number and its bytes, of one that isn't there
+// the three numbers that are told.
+fn told(answer: &Result<Answer, StoreFault>) -> [u64; 4] {
+    match answer {
+        Ok(Answer::Restored { version, bytes }) => [1, u64::from(*version), *bytes, 0],
+        Ok(
+            Answer::NoVersion {
+                asked,
+                oldest,
+                newest,
+            },
+        ) => [2, u64::from(*asked), u64::from(*oldest), u64::from(*newest)],
+        Ok(Answer::NothingRetained { asked: Some(asked) }) => [3, u64::from(*asked), 0, 0],
+        _ => [0; 4],
+    }
+}
+
+// Opens the store on the disk and restores this version to `t`.
+fn restore(
+    alloc: Global,
+    disk: &mut MemDisk,
+    files: &mut MemFiles,
+    version: u32,
+) -> Result<Result<Answer, StoreFault>, Fail> {
+    let name = Name::new(alloc, "t")?;
+    let Ok(mut store) = Store::open_store(alloc, disk) else {
+        return Ok(Err(StoreFault::DiskFault));
+    };
+    Ok(store.restore(disk, files, version, &name))
 }
 
 // A disk with the empty store.
@@ -157,5 +188,73 @@ fn a_stop_within_a_backup_leaves_nothing_or_the_version(rt: HostRuntime) -> Resu
     }
     // At the write of the gate, and at the sync behind it.
     assert_eq!(rt; opened_by_filler, 2);
+    Ok(())
+}
+
+#[test]
+fn a_version_is_given_back(rt: HostRuntime) -> Result<(), Fail> {
+    let alloc = rt.alloc();
+    let target = Name::new(alloc, "t")?;
+    let cases: [(&str, &[u8]); 3] = [("a", b"AAAABBBBCCCC"), ("b", b"AAAAAAAAAAAA"), ("c", b"")];
+    for (source, bytes) in cases {
+        let mut files = MemFiles::new(alloc);
+        let mut disk = formatted(alloc, Shape::new(64, 16, 4, 4, 0, 4)?)?;
+        let nothing = restore(alloc, &mut disk, &mut files, 1)?;
+        assert_eq!(rt; told(&nothing), [3, 1, 0, 0]);
+        let stored = back_up(alloc, &mut disk, source)?;
+        assert_eq!(rt; stored.is_ok(), true);
+        let given = restore(alloc, &mut disk, &mut files, 1)?;
+        assert_eq!(rt; told(&given), [1, 1, bytes.len() as u64, 0], "{source}");
+        assert_eq!(rt; files.bytes_of(&target), Some(bytes));
+        let missing = restore(alloc, &mut disk, &mut files, 9)?;
+        assert_eq!(rt; told(&missing), [2, 9, 1, 1]);
+        let zero = restore(alloc, &mut disk, &mut files, 0)?;
+        assert_eq!(rt; told(&zero), [2, 0, 1, 1]);
+    }
+    Ok(())
+}
+
+#[test]
+fn a_fault_of_the_target_leaves_the_store(rt: HostRuntime) -> Result<(), Fail> {
+    let alloc = rt.alloc();
+    let target = Name::new(alloc, "t")?;
+    let mut files = MemFiles::new(alloc);
+    let mut disk = formatted(alloc, Shape::new(64, 16, 4, 4, 0, 4)?)?;
+    let stored = back_up(alloc, &mut disk, "a")?;
+    assert_eq!(rt; stored.is_ok(), true);
+    files.fail_target(2);
+    let failed = restore(alloc, &mut disk, &mut files, 1)?;
+    assert_eq!(rt; failed.err(), Some(StoreFault::TargetFault));
+    let given = restore(alloc, &mut disk, &mut files, 1)?;
+    assert_eq!(rt; told(&given), [1, 1, 12, 0]);
+    assert_eq!(rt; files.bytes_of(&target), Some(b"AAAABBBBCCCC".as_slice()));
+    Ok(())
+}
+
+#[test]
+fn a_changed_body_is_named(rt: HostRuntime) -> Result<(), Fail> {
+    let alloc = rt.alloc();
+    let mut files = MemFiles::new(alloc);
+    let mut disk = formatted(alloc, Shape::new(64, 16, 4, 4, 0, 4)?)?;
+    let stored = back_up(alloc, &mut disk, "b")?;
+    assert_eq!(rt; stored.is_ok(), true);
+    // Behind the two halves only the body of the one record has this byte.
+    let mut image = disk.contents().to_vec(alloc)?;
+    for byte in image.iter_mut().skip(132_870) {
+        if *byte == b'A' {
+            *byte = b'Z';
+        }
+    }
+    let mut changed = MemDisk::from_bytes(alloc, &image)?;
+    let failed = restore(alloc, &mut changed, &mut files, 1)?;
+    let named = match failed {
+        Err(
+            StoreFault::Damaged {
+                damage: Damage::Body { owner, at, .. },
+            },
+        ) => Some((owner, at)),
+        _ => None,
+    };
+    assert_eq!(rt; named, Some((Owner::Active(1), 0)));
     Ok(())
 }

@@ -1,0 +1,245 @@
+-- A restore of the one version that a store retains, over any state for which the contents stand. It writes nothing on the
+-- disk.
+use Rattle.std.proofs.Common.{◌≡◌, inl, ℕ, ◌+◌, Bool, true, false, cond, List, [], ◌++◌, length, refl, sym, ◌∙◌, ap, subst, arith, append_assoc, Option, Some, None, Ok, Err, eqb}
+use Rattle.std.specs.FinMap as map
+use Rattle.std.specs.List.{list_all}
+use Rattle.bd_disk.specs.History.{History, contents}
+use Rattle.bd_disk.specs.Made.{IsSure, WritesNothing}
+use Rattle.bd_disk.specs.Trace.{ReadsOnly, reads as reads_of}
+use Rattle.bd_disk.proofs.Frames.{contents_now, leaves_quiet, leaves_wider, still_now, unchanged}
+use Rattle.bd_disk.proofs.Traces.{reads_both}
+use Rattle.bd_gate.specs.Halves.{InHalves}
+use Rattle.bd_model.specs.FileMap.{FileMap}
+use Rattle.bd_model.specs.declared.shape.Shape.{Shape}
+use Rattle.bd_model.specs.declared.damage.Damage.{Damage}
+use Rattle.bd_model.specs.declared.damage.Damage.TheVariants.{Sum}
+use Rattle.bd_model.specs.declared.layout.Phase.{Phase}
+use Rattle.bd_model.specs.declared.layout.RecipeEntry.{RecipeEntry}
+use Rattle.bd_model.specs.declared.answer.Answer.TheVariants.{Restored}
+use Rattle.bd_model.specs.declared.command.Command.TheVariants.{Restore}
+use Rattle.bd_model.specs.History.{newest, oldest, retained}
+use Rattle.bd_model.specs.Marks.{Near}
+use Rattle.bd_model.specs.Recipe.{recipe}
+use Rattle.bd_model.specs.Sizes.{Sizes}
+use Rattle.bd_model.specs.State.{VersionState, history, stream_of}
+use Rattle.bd_model.specs.Step.{restore}
+use Rattle.bd_catalog.specs.Agreement.{Agrees}
+use Rattle.bd_catalog.specs.Catalogue.{Catalogue, retained_in}
+use Rattle.bd_catalog.specs.Damages.{IsOfRestore, IsSeen}
+use Rattle.bd_catalog.specs.Opening.{Found, opened}
+use Rattle.bd_catalog.specs.Sound.{content, entry_holds, is_stored, part_holds, parts_for, recipe_of, records_for}
+use Rattle.bd_catalog.specs.Standing.{StandsFor, Stands}
+use Rattle.bd_catalog.specs.Walks.{restore_reads, IsLean}
+use Rattle.bd_catalog.proofs.Standing.{stands-shows}
+use Rattle.bd_recipe.specs.Entries.{first_bad}
+use Rattle.bd_recipe.specs.Reading.{recipe_found, recipe_places, total, with_sum, length_in, IfDamaged}
+use Rattle.bd_recipe.specs.declared.fault.ReadFault.{ReadFault}
+use Rattle.bd_recipe.specs.declared.fault.ReadFault.TheVariants.{DiskFault as ReadDisk, Damaged as ReadDamaged, OutOfMemory as ReadMemory}
+use Rattle.bd_recipe.proofs.Entries.{first_bad-is}
+use Rattle.bd_recipe.proofs.Holding.{found-of_version, holds-found}
+use Rattle.bd_restore.specs.Faults.{IfDamaged as IfMet}
+use Rattle.bd_restore.specs.Met.{IsNeeded, IsSeenAfter, IsWhole}
+use Rattle.bd_restore.specs.Plan.{AnswersPlan, Planned}
+use Rattle.bd_restore.specs.Walk.{joined, spots_in, walk, walk_reads}
+use Rattle.bd_restore.specs.declared.fault.RestoreFault.{RestoreFault}
+use Rattle.bd_restore.specs.declared.fault.RestoreFault.TheVariants.{TargetFault, DiskFault, Damaged, OutOfMemory}
+use Rattle.bd_files.specs.Files.{ChangesOnly}
+use Rattle.bd_store.specs.Naming.{fault_of_reading, fault_of_restore, NamesDamage}
+use Rattle.bd_store.specs.Steps.{task, IsOneStep, LeadsTo, MakesStep}
+use Rattle.bd_store.specs.Stops.{IsSafeAtStops}
+use Rattle.bd_store.specs.Touches.{WalksTo}
+use Rattle.bd_store.proofs.Asking.{restore_step, same_oldest}
+use Rattle.bd_store.proofs.Assumed.{content_stands, lean_stands, length_stands, reads_stand, recipe_stands, whole_stands}
+
+-- where nothing is written the catalogue agrees with the disk as before
+pub agrees_quiet : (found : Found) {h0 h1 : History} → WritesNothing h0 h1 → Agrees found h0 → Agrees found h1
+agrees_quiet found {h0} {h1} quiet agrees =
+    let same : contents h1 ≡ contents h0 = unchanged quiet in
+    record { opens = ap opened same ∙ agrees.opens; sure = subst (λ image. IsSure (InHalves found.sizes) image h1) (sym same) (still_now quiet agrees.sure) }
+
+-- ---- damage
+
+-- the damage that a reading finds is no body
+needed_reading : (s : Sizes) (c : Catalogue) (image : List ℕ) (v : ℕ) (others : List RecipeEntry) (damage : Damage) → recipe_found s c image v ≡ Err damage → IsNeeded others damage
+needed_reading s c image v others damage = by_bad (recipe_of s c image v) (first_bad (entry_holds s c v) v 0 (recipe_of s c image v)) refl where
+  by_sum : (entries : List RecipeEntry) (b : Bool) → cond b (Ok entries) (Err (Sum v (length_in c v) (total entries))) ≡ Err damage → IsNeeded others damage
+  by_sum entries true is = let no : ⊥ = cc in absurd no
+  by_sum entries false is = let same : Sum v (length_in c v) (total entries) ≡ damage = cc in subst (IsNeeded others) same tt
+
+  by_bad : (entries : List RecipeEntry) (bad : Option Damage) → first_bad (entry_holds s c v) v 0 entries ≡ bad → with_sum v (length_in c v) entries bad ≡ Err damage → IsNeeded others damage
+  by_bad entries None e is = by_sum entries (eqb (total entries) (length_in c v)) is
+  by_bad entries (Some found) e is =
+      let bad = first_bad-is (entry_holds s c v) v 0 entries found e in
+      let same : found ≡ damage = cc in
+      subst (IsNeeded others) (sym bad.so ∙ same) tt
+
+module _ (found : Found) (v : ℕ) (h0 h1 : History) {Tells : Type 0} (told : Tells) where
+  -- a damage of the recipe
+  pub reading_names : (fault : ReadFault) → AnswersPlan (recipe_found found.sizes found.catalogue (contents h0) v) (Err fault) →
+      IfDamaged {T = Planned} (Err fault) (λ damage. Tells → IsSeen found.sizes found.catalogue (contents h0) damage h0 h1) → NamesDamage found v h0 h1 (Err (fault_of_reading fault))
+  reading_names ReadDisk answers seen = tt
+  reading_names ReadMemory answers seen = tt
+  reading_names (ReadDamaged damage) answers seen = (
+    found-of_version found.sizes found.catalogue v (contents h0) damage answers,
+    needed_reading found.sizes found.catalogue (contents h0) v _ damage answers,
+    seen told,
+  )
+
+  -- a damage on the walk
+  module _ (entries : List RecipeEntry) (is : recipe_found found.sizes found.catalogue (contents h0) v ≡ Ok entries) (n : ℕ) (same : n ≡ v) (quiet : WritesNothing h0 h1) (reads : ReadsOnly (recipe_places found.sizes found.catalogue v) h0 h1) where
+    are_entries : entries ≡ recipe_of found.sizes found.catalogue (contents h0) v
+    are_entries = (holds-found found.sizes found.catalogue v (contents h0) entries is).same
+
+    seen_both : (damage : Damage) (h2 : History) → IsSeenAfter (recipe_places found.sizes found.catalogue n) found.sizes found.catalogue (contents h1) damage h1 h2 → IsSeen found.sizes found.catalogue (contents h0) damage h0 h2
+    seen_both damage h2 seen = subst (λ image. IsSeen found.sizes found.catalogue image damage h0 h2) (unchanged quiet) (record {
+      more = recipe_places found.sizes found.catalogue n ++ seen.more;
+      so =
+          seen.so ∙ ap (λ l. l ++ seen.more) (reads.so ∙ ap (λ m. reads_of h0 ++ recipe_places found.sizes found.catalogue m) (sym same))
+          ∙ append_assoc (reads_of h0) (recipe_places found.sizes found.catalogue n) seen.more;
+      read = seen.read;
+      breaks = seen.breaks;
+    })
+
+    pub walk_names : (h2 : History) (fault : RestoreFault) → IfMet {T = ℕ} (Err fault) (λ damage. Tells → IsOfRestore n damage) → IfMet {T = ℕ} (Err fault) (λ damage. Tells → IsNeeded entries damage) →
+        IfMet {T = ℕ} (Err fault) (λ damage. Tells → entries ≡ recipe_of found.sizes found.catalogue (contents h1) n → IsSeenAfter (recipe_places found.sizes found.catalogue n) found.sizes found.catalogue (contents h1) damage h1 h2) →
+        NamesDamage found v h0 h2 (Err (fault_of_restore fault))
+    walk_names h2 TargetFault part needed seen = tt
+    walk_names h2 DiskFault part needed seen = tt
+    walk_names h2 OutOfMemory part needed seen = tt
+    walk_names h2 (Damaged damage) part needed seen = (
+      subst (λ m. IsOfRestore m damage) same (part told),
+      subst (λ es. IsNeeded es damage) are_entries (needed told),
+      seen_both damage h2 (seen told (are_entries ∙ ap (λ image. recipe_of found.sizes found.catalogue image v) (sym (unchanged quiet)) ∙ ap (recipe_of found.sizes found.catalogue (contents h1)) (sym same))),
+    )
+
+-- ---- the step
+
+module _ (found : Found) (v : ℕ) (h0 : History) (agrees : Agrees found h0) (only : retained_in found.catalogue ≡ 1) (is_newest : v ≡ found.catalogue.newest) where
+  abbrev s : Sizes
+  s = found.sizes
+
+  abbrev c : Catalogue
+  c = found.catalogue
+
+  -- what is known of a state for which the contents stand
+  module _ (shape : Shape) (st : VersionState) (phase : Phase) (held : ℕ) (stands : StandsFor shape st phase held (contents h0)) where
+    alone : retained (history shape st) ≡ 1
+    alone = sym (stands-shows stands agrees.opens).numbers.retained ∙ only
+
+    is_last : newest (history shape st) ≡ v
+    is_last = sym (stands-shows stands agrees.opens).numbers.newest ∙ sym is_newest
+
+    is_first : oldest (history shape st) ≡ v
+    is_first = omega (arith, same_oldest (history shape st) c (stands-shows stands agrees.opens).numbers (omega (arith, only)), only, is_newest)
+
+    leads : (files : FileMap) (name : List ℕ) → LeadsTo (task shape held st files (Restore v name)) (restore st files v name)
+    leads files name = restore_step shape held st files v name (omega (arith, alone)) (omega (arith, is_first)) (omega (arith, is_last))
+
+    module _ (near : Near (history shape st)) where
+      found_recipe : recipe_found s c (contents h0) v ≡ Ok (recipe (history shape st) v)
+      found_recipe = subst (λ n. recipe_found s c (contents h0) n ≡ Ok (recipe (history shape st) n)) is_last (recipe_stands shape st phase held (contents h0) found stands agrees.opens near alone)
+
+      the_recipe : (entries : List RecipeEntry) → recipe_found s c (contents h0) v ≡ Ok entries → entries ≡ recipe (history shape st) v
+      the_recipe entries is = let same : Ok entries ≡ Ok (recipe (history shape st) v) = sym is ∙ found_recipe in cc
+
+      no_damage : (damage : Damage) → recipe_found s c (contents h0) v ≡ Err damage → ⊥
+      no_damage damage is = let same : Err damage ≡ Ok (recipe (history shape st) v) = sym is ∙ found_recipe in absurd (cc)
+
+      is_whole : (entries : List RecipeEntry) → recipe_found s c (contents h0) v ≡ Ok entries → IsWhole s c (contents h0) v entries
+      is_whole entries is =
+          subst (IsWhole s c (contents h0) v) (sym (the_recipe entries is))
+          (subst (λ n. IsWhole s c (contents h0) n (recipe (history shape st) n)) is_last (whole_stands shape st phase held (contents h0) found stands agrees.opens near alone))
+
+      has_length : (entries : List RecipeEntry) → recipe_found s c (contents h0) v ≡ Ok entries → total entries ≡ length (stream_of st v)
+      has_length entries is =
+          ap total (the_recipe entries is)
+          ∙ subst (λ n. total (recipe (history shape st) n) ≡ length (stream_of st n)) is_last (length_stands shape st phase held (contents h0) found stands agrees.opens near alone)
+
+      is_stream : (entries : List RecipeEntry) → recipe_found s c (contents h0) v ≡ Ok entries → joined entries (records_for s c (contents h0) v) ≡ stream_of st v
+      is_stream entries is =
+          ap (λ es. joined es (records_for s c (contents h0) v)) (the_recipe entries is)
+          ∙ subst (λ n. joined (recipe (history shape st) n) (records_for s c (contents h0) n) ≡ stream_of st n) is_last (content_stands shape st phase held (contents h0) found stands agrees.opens near alone)
+
+      are_reads : (entries : List RecipeEntry) → recipe_found s c (contents h0) v ≡ Ok entries →
+          recipe_places s c v ++ walk_reads s entries [] (spots_in s (contents h0) (walk c v)) ≡ restore_reads s c (history shape st) v
+      are_reads entries is =
+          ap (λ es. recipe_places s c v ++ walk_reads s es [] (spots_in s (contents h0) (walk c v))) (the_recipe entries is)
+          ∙ subst (λ n. recipe_places s c n ++ walk_reads s (recipe (history shape st) n) [] (spots_in s (contents h0) (walk c n)) ≡ restore_reads s c (history shape st) n) is_last (reads_stand shape st phase held (contents h0) found stands agrees.opens near alone)
+
+      is_lean : IsLean (history shape st) c.phase v
+      is_lean = subst (IsLean (history shape st) c.phase) is_last (lean_stands shape st phase held (contents h0) found stands agrees.opens near alone)
+
+  -- a recipe that couldn't be read
+  pub reading_one_step : (name : List ℕ) (held : ℕ) {h1 : History} (files : FileMap) (fault : ReadFault) → WritesNothing h0 h1 → AnswersPlan (recipe_found s c (contents h0) v) (Err fault) →
+      IsOneStep (Restore v name) held h0 h1 files files (Err (fault_of_reading fault))
+  reading_one_step name held {h1} files fault quiet answers = record { each = λ shape st phase near stands. by shape st phase near stands fault answers } where
+    by : (shape : Shape) (st : VersionState) (phase : Phase) → Near (history shape st) → StandsFor shape st phase held (contents h0) → (fault : ReadFault) → AnswersPlan (recipe_found s c (contents h0) v) (Err fault) →
+        MakesStep (task shape held st files (Restore v name)) phase (contents h1) files (Err (fault_of_reading fault))
+    by shape st phase near stands ReadDisk answers = record { stands = inl (record { phase = phase; so = subst (StandsFor shape st phase held) (sym (unchanged quiet)) stands }); beside = record { others = λ other differ. refl } }
+    by shape st phase near stands ReadMemory answers = record { stands = record { phase = phase; so = subst (StandsFor shape st phase held) (sym (unchanged quiet)) stands }; beside = record { others = λ other differ. refl } }
+    by shape st phase near stands (ReadDamaged damage) answers = no_damage shape st phase held stands near damage answers
+
+  -- once it has answered, a stop leaves the state as it is
+  pub restored_safe : (name : List ℕ) (held : ℕ) {h1 : History} (files : FileMap) (bytes : ℕ) → WritesNothing h0 h1 → IsSafeAtStops (Restore v name) held h0 h1 files (Ok (Restored v bytes))
+  restored_safe name held {h1} files bytes quiet = record {
+    each = λ shape st near sure.
+        let now : Stands shape held st (contents h0) = sure.each (contents h0) (contents_now h0) in
+        record {
+          within = leaves_wider _ (λ image stands. inl stands) (leaves_quiet quiet sure);
+          done = record { outcome = restore st files v name; leads = leads shape st now.phase held now.so files name; sure = still_now quiet sure };
+        };
+  }
+
+  -- the recipe was read, and then its plan was run
+  module _ (entries : List RecipeEntry) (is : recipe_found s c (contents h0) v ≡ Ok entries) (n : ℕ) (same : n ≡ v) (h1 : History) (first : WritesNothing h0 h1) (h2 : History) (then : WritesNothing h1 h2) where
+    unwritten : contents h2 ≡ contents h0
+    unwritten = unchanged then ∙ unchanged first
+
+    -- what is found in the first image by the plan's number
+    at_first : {X : Type 0} (f : List ℕ → ℕ → X) → f (contents h1) n ≡ f (contents h0) v
+    at_first f = ap (λ image. f image n) (unchanged first) ∙ ap (f (contents h0)) same
+
+    -- a fault on the walk
+    pub walk_one_step : (name : List ℕ) (held : ℕ) (files files_now : FileMap) (fault : RestoreFault) → ChangesOnly name files files_now → {Tells : Type 0} → Tells → IfMet {T = ℕ} (Err fault) (λ damage. Tells → IsWhole s c (contents h1) n entries → ⊥) →
+        IsOneStep (Restore v name) held h0 h2 files files_now (Err (fault_of_restore fault))
+    walk_one_step name held files files_now fault others {Tells = Tells} told whole = record { each = λ shape st phase near stands. by shape st phase near stands fault whole } where
+      by : (shape : Shape) (st : VersionState) (phase : Phase) → Near (history shape st) → StandsFor shape st phase held (contents h0) → (fault : RestoreFault) → IfMet {T = ℕ} (Err fault) (λ damage. Tells → IsWhole s c (contents h1) n entries → ⊥) →
+          MakesStep (task shape held st files (Restore v name)) phase (contents h2) files_now (Err (fault_of_restore fault))
+      by shape st phase near stands DiskFault whole = record { stands = inl (record { phase = phase; so = subst (StandsFor shape st phase held) (sym unwritten) stands }); beside = others }
+      by shape st phase near stands TargetFault whole = record { stands = record { phase = phase; so = subst (StandsFor shape st phase held) (sym unwritten) stands }; beside = others }
+      by shape st phase near stands OutOfMemory whole = record { stands = record { phase = phase; so = subst (StandsFor shape st phase held) (sym unwritten) stands }; beside = others }
+      by shape st phase near stands (Damaged damage) whole =
+          whole told (record {
+            rows = ap (λ parts. list_all (part_holds s) parts) (at_first (parts_for s c)) ∙ (is_whole shape st phase held stands near entries is).rows;
+            entries_stored = ap (λ records. list_all (is_stored records) entries) (at_first (records_for s c)) ∙ (is_whole shape st phase held stands near entries is).entries_stored;
+          })
+
+    -- a version that was given back
+    pub restored_one_step : (name : List ℕ) (held : ℕ) (files files_now : FileMap) (bytes : ℕ) → bytes ≡ total entries → files_now ≡ map.insert files name (joined entries (records_for s c (contents h1) n)) →
+        IsOneStep (Restore v name) held h0 h2 files files_now (Ok (Restored v bytes))
+    restored_one_step name held files files_now bytes long put = record {
+      each = λ shape st phase near stands. record {
+        outcome = restore st files v name;
+        leads = leads shape st phase held stands files name;
+        says = ap (Restored v) (long ∙ has_length shape st phase held stands near entries is);
+        stands = subst (StandsFor shape st phase held) (sym unwritten) stands;
+        beside = put ∙ ap (map.insert files name) (ap (joined entries) (at_first (records_for s c)) ∙ is_stream shape st phase held stands near entries is);
+      };
+    }
+
+    -- the target has what the recipe's entries find
+    pub restored_content : (name : List ℕ) (files files_now : FileMap) → files_now ≡ map.insert files name (joined entries (records_for s c (contents h1) n)) → files_now ≡ map.insert files name (content found (contents h0) v)
+    restored_content name files files_now put =
+        put
+        ∙ ap (map.insert files name) (ap (joined entries) (at_first (records_for s c)) ∙ ap (λ es. joined es (records_for s c (contents h0) v)) (holds-found s c v (contents h0) entries is).same)
+
+    -- what was read is the walk through the layout
+    pub restored_walks : ReadsOnly (recipe_places s c v) h0 h1 → ReadsOnly (walk_reads s entries [] (spots_in s (contents h1) (walk c n))) h1 h2 → (held : ℕ) → WalksTo held found v h0 h2
+    restored_walks recipe_read walked held = record {
+      each = λ shape st phase near stands. (
+        subst (λ places. ReadsOnly places h0 h2)
+            (ap (λ spots. recipe_places s c v ++ walk_reads s entries [] spots) (at_first (λ image m. spots_in s image (walk c m))) ∙ are_reads shape st phase held stands near entries is)
+            (reads_both recipe_read walked),
+        is_lean shape st phase held stands near,
+      );
+    }
