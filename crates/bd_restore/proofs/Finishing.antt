@@ -28,7 +28,7 @@ use Rattle.bd_catalog.specs.Sound.{with_mark, first_body}
 use Rattle.bd_catalog.proofs.StandingFound.{obeys-each, numbers-each}
 use Rattle.bd_recipe.specs.Reading.{total}
 use Rattle.bd_recipe.proofs.Versions.{are_left, are_right, are_all}
-use Rattle.bd_restore.specs.Target.{held, mark_at, length_at, place_at, IsTarget, chunk_at, flag_at}
+use Rattle.bd_restore.specs.Target.{HasChunks, held, mark_at, length_at, place_at, IsTarget, chunk_at, flag_at}
 use Rattle.bd_restore.specs.Walk.{RowPlace, joined, open_row, rows_in, AreFlags, AreGiven, IsInRoom}
 use Rattle.bd_restore.proofs.Putting.{place-cons, held_put, held_is}
 use Rattle.bd_restore.proofs.Walking.{bool_cases}
@@ -121,7 +121,7 @@ flags_none entries filled is = record {
 }
 
 pub given_none : (entries : List RecipeEntry) (file : List ℕ) → AreGiven entries [] file
-given_none entries file = record { each = λ k lt found. absurd (no_record found) } where
+given_none entries file = record { each = λ k lt found. absurd (no_record found); marks = λ k lt found. absurd (no_record found) } where
   no_record : false ≡ true → ⊥
   no_record h = cc
 
@@ -148,6 +148,13 @@ whole (x ∷ xs) records file long each =
 pub all_given : (entries : List RecipeEntry) (records : List Stored) (filled : List Bool) (file : List ℕ) → length file ≡ total entries → AreFlags entries records filled → AreGiven entries records file → ((k : ℕ) → k < length filled → flag_at filled k ≡ true) → file ≡ joined entries records
 all_given entries records filled file long flags given all =
     whole entries records file long (λ k lt. given.each k lt (sym (flags.each k lt) ∙ all k (omega (arith, lt, flags.count))))
+
+-- and each of them has its mark
+pub all_marked : (entries : List RecipeEntry) (records : List Stored) (filled : List Bool) (file : List ℕ) → length file ≡ total entries → AreFlags entries records filled → AreGiven entries records file → ((k : ℕ) → k < length filled → flag_at filled k ≡ true) → HasChunks entries file
+all_marked entries records filled file long flags given all = record {
+  long = long;
+  marks = λ k lt. given.marks k lt (sym (flags.each k lt) ∙ all k (omega (arith, lt, flags.count)));
+}
 
 -- one name changed, and this is under it
 pub only_put : (old new : FileMap) (name bytes : List ℕ) → ChangesOnly name old new → finmap.get new name ≡ Some bytes → new ≡ finmap.insert old name bytes

@@ -10,6 +10,7 @@ use Rattle.bd_disk.specs.History.{History}
 use Rattle.bd_disk.specs.Trace.{ReadsOnly}
 use Rattle.bd_model.specs.Sizes.{Sizes}
 use Rattle.bd_model.specs.Extents.{places_at}
+use Rattle.bd_model.specs.Marks.{mark}
 use Rattle.bd_model.specs.Recipe.{has_mark}
 use Rattle.bd_model.specs.Records.{Stored}
 use Rattle.bd_model.specs.declared.layout.RecipeEntry.{RecipeEntry}
@@ -141,6 +142,7 @@ module _ (entries : List RecipeEntry) (seen : List Stored) (r : Stored) where
       each = λ k lt found.
           let some : is_found seen (mark_at entries k) ≡ true = same_found k lt ∙ found in
           given.each k lt some ∙ sym (same_first seen r (mark_at entries k) some);
+      marks = λ k lt found. given.marks k lt (same_found k lt ∙ found);
     }
 
   module _ (wanted : is_wanted entries seen r.mark ≡ true) where
@@ -158,8 +160,8 @@ module _ (entries : List RecipeEntry) (seen : List Stored) (r : Stored) where
           ];
     }
 
-    pub given_wanted : (file now : List ℕ) → Puts entries r.mark r.body (length entries) file now → AreGiven entries seen file → AreGiven entries (seen ++ r ∷ []) now
-    given_wanted file now puts given = record {
+    pub given_wanted : mark r.body ≡ r.mark → (file now : List ℕ) → Puts entries r.mark r.body (length entries) file now → AreGiven entries seen file → AreGiven entries (seen ++ r ∷ []) now
+    given_wanted marked file now puts given = record {
       each = λ k lt found.
           let which = bool_cases (bytes_eq r.mark (mark_at entries k)) in
           let unseen : is_found seen r.mark ≡ false = both_true (has_mark entries r.mark) (is_found seen r.mark) wanted in
@@ -168,6 +170,14 @@ module _ (entries : List RecipeEntry) (seen : List Stored) (r : Stored) where
             | inr miss ↦
                 let same = other_same seen r (mark_at entries k) miss in
                 puts.others k lt (mark_differs k miss) ∙ given.each k lt (ap (λ l. nat_lt 0 (length l)) (sym same) ∙ found) ∙ ap first_body (sym same)
+          ];
+      marks = λ k lt found.
+          let which = bool_cases (bytes_eq r.mark (mark_at entries k)) in
+          elim which [
+            | inl hit ↦ ap mark (puts.here k lt lt (mark_is k hit)) ∙ marked ∙ sym (mark_is k hit)
+            | inr miss ↦
+                ap mark (puts.others k lt (mark_differs k miss))
+                ∙ given.marks k lt (ap (λ l. nat_lt 0 (length l)) (sym (other_same seen r (mark_at entries k) miss)) ∙ found)
           ];
     }
 
@@ -199,5 +209,5 @@ module _ (s : Sizes) (entries : List RecipeEntry) (extents : List ℕ) (at : ℕ
     reads = λ seen flags. subst (λ l. ReadsOnly l a b) (sym (append-nil (header ++ body)) ∙ ap (λ w. (header ++ cond w body []) ++ []) (wanted seen flags)) reads;
   }
 
-  pub gives_wanted : ((seen : List Stored) → AreFlags entries seen filled → true ≡ is_wanted entries seen r.mark) → (file now : List ℕ) → Puts entries r.mark r.body (length entries) file now → Gives entries (spot_at extents at r ∷ []) filled file now
-  gives_wanted wanted file now puts = record { each = λ seen flags given. given_wanted entries seen r (sym (wanted seen flags)) file now puts given }
+  pub gives_wanted : ((seen : List Stored) → AreFlags entries seen filled → true ≡ is_wanted entries seen r.mark) → mark r.body ≡ r.mark → (file now : List ℕ) → Puts entries r.mark r.body (length entries) file now → Gives entries (spot_at extents at r ∷ []) filled file now
+  gives_wanted wanted marked file now puts = record { each = λ seen flags given. given_wanted entries seen r (sym (wanted seen flags)) marked file now puts given }

@@ -3,6 +3,7 @@ use Rattle.std.specs.Prelude.{◌≡◌, ◌≢◌, ℕ, ◌<◌, Bool, true, Li
 use Rattle.std.specs.FinMap as map
 use Rattle.bd_disk.specs.Images.{bytes_at}
 use Rattle.bd_model.specs.FileMap.{FileMap}
+use Rattle.bd_model.specs.Marks.{mark}
 use Rattle.bd_model.specs.declared.layout.RecipeEntry.{RecipeEntry}
 use Rattle.bd_recipe.specs.Reading.{total}
 
@@ -32,6 +33,11 @@ pub record IsTarget (entries : List RecipeEntry) (name : List ℕ) (files : File
 -- the bytes of an entry's chunk in the target
 abbrev pub chunk_at : List RecipeEntry → ℕ → List ℕ → List ℕ
 chunk_at entries k file = bytes_at (place_at entries k) (length_at entries k) file
+
+-- the file has the bytes of these entries' chunks, and each chunk has its entry's mark
+pub record HasChunks (entries : List RecipeEntry) (file : List ℕ) : Type 0 where
+  pub long : length file ≡ total entries
+  pub marks : (k : ℕ) → k < length entries → mark (chunk_at entries k file) ≡ mark_at entries k
 
 abbrev pub flag_at : List Bool → ℕ → Bool
 flag_at filled k = slice_index_or filled k false

@@ -5,6 +5,7 @@ use Rattle.bd_disk.specs.Trace.{ReadsOnly}
 use Rattle.bd_model.specs.Sizes.{Sizes}
 use Rattle.bd_model.specs.Chunks.{numbers}
 use Rattle.bd_model.specs.Extents.{owner_bytes, places_at}
+use Rattle.bd_model.specs.Marks.{mark}
 use Rattle.bd_model.specs.Recipe.{has_mark}
 use Rattle.bd_model.specs.Records.{Stored, stored_at}
 use Rattle.bd_model.specs.declared.damage.Owner.{Owner}
@@ -120,9 +121,10 @@ pub record AreFlags (entries : List RecipeEntry) (seen : List Stored) (filled : 
   pub count : length filled ≡ length entries
   pub each : (k : ℕ) → k < length entries → flag_at filled k ≡ is_found seen (mark_at entries k)
 
--- and then the body of the first such record stands at its place
+-- and then the body of the first such record stands at its place, and has its mark
 pub record AreGiven (entries : List RecipeEntry) (seen : List Stored) (file : List ℕ) : Type 0 where
   pub each : (k : ℕ) → k < length entries → IsTrue (is_found seen (mark_at entries k)) → chunk_at entries k file ≡ first_body (with_mark (mark_at entries k) seen)
+  pub marks : (k : ℕ) → k < length entries → IsTrue (is_found seen (mark_at entries k)) → mark (chunk_at entries k file) ≡ mark_at entries k
 
 -- these records were walked over, whichever were seen before
 pub record Walks (s : Sizes) (entries : List RecipeEntry) (spots : List Spot) (old_filled new_filled : List Bool) (old new : History) : Type 0 where

@@ -12,7 +12,7 @@ ghost use Rattle.bd_catalog.specs.Sound.{recipe_of, records_for};
 ghost use Rattle.bd_recipe.specs.Reading.{recipe_places, total};
 ghost use Rattle.bd_restore.specs.Faults.{FailsByDisk, FailsByTarget, IfDamaged};
 ghost use Rattle.bd_restore.specs.Met.{IsNeeded, IsSeenAfter, IsWhole, MetOn};
-ghost use Rattle.bd_restore.specs.Target.{held, IsTarget};
+ghost use Rattle.bd_restore.specs.Target.{held, HasChunks, IsTarget};
 ghost use Rattle.bd_restore.specs.Walk.{joined, spots_in, walk, walk_reads, Gives, Walks};
 
 use crate::actives::run_actives;
@@ -94,6 +94,8 @@ pub fn run_plan<D: Disk, F: Files>(
     ensures length { IfOk result (λ bytes. bytes ≡ total plan.entries) }
     // The target has, entry by entry, the body of the first record with its mark.
     ensures file { OnOk result (D.tells → F.tells → F.files files.new ≡ map.insert (F.files files.old) name.now (joined plan.entries (records_for catalog.now.found.sizes catalog.now.found.catalogue (contents (D.history disk.old)) plan.version))) }
+    // Each chunk in it has its entry's mark.
+    ensures checked { OnOk result (D.tells → F.tells → HasChunks plan.entries (held (F.files files.new) name.now)) }
     ensures places { OnOk result (D.tells → ReadsOnly (walk_reads catalog.now.found.sizes plan.entries [] (spots_in catalog.now.found.sizes (contents (D.history disk.old)) (walk catalog.now.found.catalogue plan.version))) (D.history disk.old) (D.history disk.new)) }
     // A damage is one of this restore, its bytes were read, and they break its rule.
     ensures part { IfDamaged result (λ damage. D.tells → IsOfRestore plan.version damage) }

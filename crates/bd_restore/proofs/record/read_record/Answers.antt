@@ -176,6 +176,7 @@ returns-clause-gives g c = λ told tells.
     let same : contents (g.D.Disk.history c.read_header.new.disk) ≡ image = unchanged (c.read_header.ensures.writes told) in
     let read = c.in_ok-read_body.ensures.body told in
     let given : c.read_body.new.into ≡ r.body = read.0 ∙ ap (λ i. body_at h (owner_bytes s extents i)) same ∙ st.body in
-    gives_wanted s entries extents at r c.args.filled.now (λ seen flags. sym c.if-not-wants.false ∙ c.wants.ensures seen flags ∙ ap (is_wanted entries seen) st.mark) (held (g.F.Files.files c.args.files.now) name) (held (g.F.Files.files c.put_everywhere.new.files) name)
+    let marked : mark r.body ≡ r.mark = ap mark (sym given ∙ read.0) ∙ read.1 ∙ st.mark in
+    gives_wanted s entries extents at r c.args.filled.now (λ seen flags. sym c.if-not-wants.false ∙ c.wants.ensures seen flags ∙ ap (is_wanted entries seen) st.mark) marked (held (g.F.Files.files c.args.files.now) name) (held (g.F.Files.files c.put_everywhere.new.files) name)
     (subst (λ b. Puts entries r.mark b (length entries) (held (g.F.Files.files c.args.files.now) name) (held (g.F.Files.files c.put_everywhere.new.files) name)) given
     (subst (λ m. Puts entries m c.read_body.new.into (length entries) (held (g.F.Files.files c.args.files.now) name) (held (g.F.Files.files c.put_everywhere.new.files) name)) st.mark (c.in_ok-put_everywhere.ensures.put tells)))

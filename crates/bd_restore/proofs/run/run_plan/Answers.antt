@@ -9,9 +9,9 @@ use Rattle.bd_catalog.specs.Damages.{IsOfRestore}
 use Rattle.bd_catalog.specs.Sound.{recipe_of, records_for}
 use Rattle.bd_recipe.specs.Reading.{recipe_places, total}
 use Rattle.bd_restore.specs.Met.{IsNeeded, IsSeenAfter, IsWhole, MetOn}
-use Rattle.bd_restore.specs.Target.{held, flag_at, IsTarget}
+use Rattle.bd_restore.specs.Target.{held, flag_at, HasChunks, IsTarget}
 use Rattle.bd_restore.specs.Walk.{joined, spots_in, walk, walk_reads, AreFlags, AreGiven}
-use Rattle.bd_restore.proofs.Finishing.{ok_of, flags_none, given_none, target_begun, all_given, only_put}
+use Rattle.bd_restore.proofs.Finishing.{ok_of, flags_none, given_none, target_begun, all_given, all_marked, only_put}
 use Rattle.bd_restore.proofs.Joining.{damaged_by}
 use Rattle.bd_restore.proofs.Seeing.{met_needed, met_part, met_seen, met_whole, missing_seen, missing_whole}
 use Rattle.bd_restore.proofs.WalkRecords.{walk_records}
@@ -167,3 +167,22 @@ returns-clause-file g c = λ told tells.
     c.finish.ensures.same tells ∙ put
     ∙ ap (λ es. map.insert before name (joined es records)) c.into_parts-version.ensures.entries
     ∙ ap (λ n. map.insert before name (joined plan.entries (records_for s cat image n))) c.into_parts-version.ensures.version
+
+pub returns-clause-checked : goal.returns-clause-checked
+returns-clause-checked g c = λ told tells.
+    let s = c.args.catalog.now.found.sizes in
+    let cat = c.args.catalog.now.found.catalogue in
+    let tables = c.into_parts-version.result.2 in
+    let v = c.into_parts-version.result.0 in
+    let image = contents (g.D.Disk.history c.args.disk.now) in
+    let flags : AreFlags tables [] c.deref_mut.result.now = flags_none tables c.deref_mut.result.now (c.deref_mut.ensures.value ∙ c.into_parts-version.ensures.flags ∙ ap (λ es. replicate (length es) false) (sym c.into_parts-version.ensures.entries)) in
+    let after : AreFlags tables (records_for s cat image v) c.run_walk.new.filled = subst (λ l. AreFlags tables l c.run_walk.new.filled) (walk_records s image cat v) ((c.in_ok-run_walk.ensures.walk told).flags [] flags) in
+    let filled : c.deref.result.now ≡ c.run_walk.new.filled = c.deref.ensures.value ∙ take_at c.run_walk.new.filled _ c.into_parts-version.result.3.len (c.run_walk.auto.filled ∙ c.deref_mut.ensures.len) in
+    let name = c.args.name.now in
+    let begun = g.F.Files.files c.begin.new.self in
+    let now = g.F.Files.files c.run_walk.new.files in
+    let given : AreGiven tables (records_for s cat image v) (held now name) = subst (λ l. AreGiven tables l (held now name)) (walk_records s image cat v) ((c.in_ok-run_walk.ensures.gives told tells).each [] flags (given_none tables (held begun name))) in
+    let target : IsTarget tables name now = c.in_ok-run_walk.ensures.there tells in
+    let all : (k : ℕ) → k < length c.run_walk.new.filled → flag_at c.run_walk.new.filled k ≡ true = subst (λ l. (k : ℕ) → k < length l → flag_at l k ≡ true) filled c.in_default.ensures.none in
+    let chunks : HasChunks tables (held now name) = all_marked tables (records_for s cat image v) c.run_walk.new.filled (held now name) target.long after given all in
+    subst (λ m. HasChunks c.args.plan.entries (held m name)) (sym (c.finish.ensures.same tells)) (subst (λ es. HasChunks es (held now name)) c.into_parts-version.ensures.entries chunks)
