@@ -1,4 +1,4 @@
-ghost use Rattle.std.specs.Prelude.{◌≡◌, [], ◌∷◌, ◌≤◌, length, OnOk};
+ghost use Rattle.std.specs.Prelude.{◌≡◌, ◌≢◌, [], ◌∷◌, ◌≤◌, length, OnOk, Err};
 ghost use Rattle.bd_disk.specs.History.{contents};
 ghost use Rattle.bd_disk.specs.Made.{WritesNothing};
 ghost use Rattle.bd_files.specs.Files.{ChangesOnly};
@@ -35,6 +35,7 @@ fn run_piece<D: Disk, F: Files>(
     ensures bytes { D.bytes disk.new ≡ D.bytes disk.old }
     ensures cause { FailsByDisk (D.faults disk.old) (D.faults disk.new) result }
     ensures target { FailsByTarget (F.target_faults files.old) (F.target_faults files.new) result }
+    ensures memory { result ≢ Err RestoreFault.OutOfMemory }
     ensures sources { F.source_faults files.new ≡ F.source_faults files.old }
     ensures strays { F.tells → F.strays files.new ≡ F.strays files.old }
     ensures others { F.tells → ChangesOnly name.now (F.files files.old) (F.files files.new) }
@@ -73,6 +74,7 @@ pub(crate) fn run_begun<D: Disk, F: Files>(
     ensures bytes { D.bytes disk.new ≡ D.bytes disk.old }
     ensures cause { FailsByDisk (D.faults disk.old) (D.faults disk.new) result }
     ensures target { FailsByTarget (F.target_faults files.old) (F.target_faults files.new) result }
+    ensures memory { result ≢ Err RestoreFault.OutOfMemory }
     ensures sources { F.source_faults files.new ≡ F.source_faults files.old }
     ensures strays { F.tells → F.strays files.new ≡ F.strays files.old }
     ensures others { F.tells → ChangesOnly name.now (F.files files.old) (F.files files.new) }
