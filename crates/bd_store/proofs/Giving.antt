@@ -49,7 +49,7 @@ use Rattle.bd_store.specs.Steps.{task, IsOneStep, LeadsTo, MakesStep}
 use Rattle.bd_store.specs.Stops.{IsSafeAtStops}
 use Rattle.bd_store.specs.Touches.{WalksTo}
 use Rattle.bd_store.proofs.Asking.{restore_step, same_oldest}
-use Rattle.bd_store.proofs.Assumed.{content_stands, lean_stands, length_stands, reads_stand, recipe_stands, whole_stands}
+use Rattle.bd_restore.proofs.Standing.{content_stands, lean_stands, length_stands, reads_stand, recipe_stands, whole_stands}
 
 -- where nothing is written the catalogue agrees with the disk as before
 pub agrees_quiet : (found : Found) {h0 h1 : History} → WritesNothing h0 h1 → Agrees found h0 → Agrees found h1

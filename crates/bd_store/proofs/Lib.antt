@@ -6,6 +6,5 @@ pub mod LineLemmas
 pub mod Making
 pub mod Quiet
 pub mod Refusing
-pub mod Assumed
 pub mod Asking
 pub mod Giving

@@ -14,10 +14,11 @@ ghost use Rattle.bd_gate.specs.Superblock.{is_marked};
 ghost use Rattle.bd_catalog.specs.Agreement.{Agrees};
 ghost use Rattle.bd_catalog.specs.Catalogue.{oldest_in, retained_in};
 ghost use Rattle.bd_catalog.specs.Opening.{opened};
-ghost use Rattle.bd_catalog.specs.Sound.{content};
+ghost use Rattle.bd_catalog.specs.Sound.{content, recipe_of};
 ghost use Rattle.bd_catalog.specs.Standing.{StandsFor, lines_from};
 ghost use Rattle.bd_files.specs.Files.{ChangesOnly};
 ghost use Rattle.bd_recover.specs.Answers.{AnswersFormat, MeasuresFormat, RefusesUntouched, format_refusal};
+ghost use Rattle.bd_restore.specs.Target.{held, HasChunks};
 ghost use Rattle.bd_store.specs.Causes.{counts, FailsOnlyByCount, StraysOnlyBy};
 ghost use Rattle.bd_store.specs.Naming.{NamesDamage};
 ghost use Rattle.bd_store.specs.Openings.{IsNoneOrEmpty, AnswersOpening};
@@ -222,6 +223,8 @@ impl Store {
         ensures damage { D.tells → NamesDamage self.old.found version (D.history disk.old) (D.history disk.new) result }
         // Whatever image it is: the target has what the recipe's entries find there.
         ensures file { IfRestored result (D.tells → F.tells → F.files files.new ≡ map.insert (F.files files.old) name.now (content self.old.found (contents (D.history disk.old)) version)) }
+        // Each chunk in it has the mark that the recipe says.
+        ensures checked { IfRestored result (D.tells → F.tells → HasChunks (recipe_of self.old.found.sizes self.old.found.catalogue (contents (D.history disk.old)) version) (held (F.files files.new) name.now)) }
         ensures places { IfRestored result (D.tells → WalksTo self.old.held self.old.found version (D.history disk.old) (D.history disk.new)) }
         // It is one step of the version machine.
         ensures step { D.tells → F.tells → IsOneStep (Restore version name.now) self.old.held (D.history disk.old) (D.history disk.new) (F.files files.old) (F.files files.new) result }

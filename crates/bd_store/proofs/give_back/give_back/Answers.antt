@@ -1,6 +1,9 @@
 use Rattle.std.proofs.Common.{sym, subst, Err}
+use Rattle.bd_disk.specs.History.{contents}
 use Rattle.bd_disk.proofs.Frames.{made_both}
 use Rattle.bd_model.specs.declared.command.Command.TheVariants.{Restore}
+use Rattle.bd_recipe.proofs.Holding.{holds-found}
+use Rattle.bd_restore.specs.Target.{held, HasChunks}
 use Rattle.bd_store.specs.Naming.{NamesDamage}
 use Rattle.bd_store.specs.Steps.{IsOneStep}
 use Rattle.bd_store.proofs.Giving.{reading_names, reading_one_step, restored_content, restored_one_step, restored_safe, restored_walks, walk_names, walk_one_step}
@@ -31,6 +34,12 @@ returns-in-Ok-run_plan-clause-file g c = λ told files_tell.
     restored_content c.args.catalog.now.found c.args.version (g.D.Disk.history c.args.disk.now) (c.requires.agrees told) c.requires.only c.requires.newest
     c.in-Ok.plan.entries (c.in-Ok.ensures.entries told) c.in-Ok.plan.version c.in-Ok.ensures.version (g.D.Disk.history c.plan_for.new.disk) (c.plan_for.ensures.writes told) (g.D.Disk.history c.run_plan.new.disk) (c.run_plan.ensures.writes told)
     c.args.name.now _ _ (c.in-Ok-run_plan.ensures.file told files_tell)
+
+pub returns-in-Ok-run_plan-clause-checked : goal.returns-in-Ok-run_plan-clause-checked
+returns-in-Ok-run_plan-clause-checked g c = λ told files_tell.
+    let found = c.args.catalog.now.found in
+    subst (λ es. HasChunks es (held (g.F.Files.files c.run_plan.new.files) c.args.name.now)) (holds-found found.sizes found.catalogue c.args.version (contents (g.D.Disk.history c.args.disk.now)) c.in-Ok.plan.entries (c.in-Ok.ensures.entries told)).same
+    (c.in-Ok-run_plan.ensures.checked told files_tell)
 
 pub returns-in-Ok-run_plan-clause-places : goal.returns-in-Ok-run_plan-clause-places
 returns-in-Ok-run_plan-clause-places g c = λ told held.
