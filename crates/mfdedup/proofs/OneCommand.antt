@@ -1,5 +1,5 @@
 -- One command by the clauses of its call on the store, and the put of its text, meets the headline.
-use Rattle.std.proofs.Common.{◌≡◌, ◌≢◌, ◌⊎◌, ◌∙◌, ℕ, zero, suc, ◌<◌, ◌≤◌, true, false, List, [], ◌∷◌, map, take, inl, inr, refl, sym, subst, ap, arith, Some, None, Option, Ok, Err, slice_get, get_or}
+use Rattle.std.proofs.Common.{◌≡◌, ◌≢◌, ◌⊎◌, ◌∙◌, ℕ, zero, suc, ◌<◌, ◌≤◌, List, [], ◌∷◌, map, take, inl, inr, refl, sym, subst, ap, arith, Some, None, Option, Ok, Err, slice_get, get_or}
 use Rattle.std.specs.FinMap as files_at
 use Rattle.bd_disk.specs.History.{History, clock, contents, Since}
 use Rattle.bd_disk.specs.Made.{WritesOnly, LeavesSince}

@@ -1,5 +1,5 @@
 -- What the answer of one command shows of its reads.
-use Rattle.std.proofs.Common.{◌≡◌, ◌∙◌, ℕ, true, false, List, [], sym, subst, ap, arith, Result, Ok, Err}
+use Rattle.std.proofs.Common.{◌≡◌, ◌∙◌, ℕ, true, false, [], sym, subst, ap, arith, Result, Ok, Err}
 use Rattle.std.specs.Prelude.{not, ◌==◌, ◌≤◌}
 use Rattle.std.proofs.lemmas.Bool.Decides.{nat_tests}
 use Rattle.bd_disk.specs.History.{History, clock, contents}
