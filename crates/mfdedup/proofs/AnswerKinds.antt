@@ -1,11 +1,12 @@
 -- Which answers a built command gives.
-use Rattle.std.proofs.Common.{◌≡◌, ℕ, Bool, true, false, cond, List, Option, Some, None, refl, ◌∙◌, sym, ap}
-use Rattle.std.specs.Prelude.{option_map, ◌==◌, ◌+◌, length, nat_lt}
+use Rattle.std.proofs.Common.{◌≡◌, ℕ, Bool, true, false, cond, List, Option, Some, None, refl, ◌∙◌, sym, ap, arith}
+use Rattle.std.specs.Prelude.{option_map, not, ◌==◌, ◌&&◌, ◌+◌, length, nat_le, nat_lt}
 use Rattle.std.specs.FinMap as map
+use Rattle.std.proofs.lemmas.Bool.Decides.{nat_tests}
 use Rattle.bd_disk.specs.History.{History}
 use Rattle.bd_model.specs.FileMap.{FileMap}
 use Rattle.bd_model.specs.Chunks.{chunks}
-use Rattle.bd_model.specs.History.{newest, retained}
+use Rattle.bd_model.specs.History.{newest, oldest, retained}
 use Rattle.bd_model.specs.Room.{need, counted, fresh}
 use Rattle.bd_model.specs.State.{VersionState, history, cut_of, last_number}
 use Rattle.bd_model.specs.Step.{Outcome, step, backup, unchanged, free_extents, with_version, phase_after, without_room}
@@ -14,10 +15,8 @@ use Rattle.bd_model.specs.declared.layout.Phase.{Phase}
 use Rattle.bd_model.specs.declared.answer.Answer.{Answer}
 use Rattle.bd_model.specs.declared.answer.Answer.TheVariants.{BackedUp, Restored, Expired, Arranged, Scrubbed, Listed, FullNumbers, FullVersions, FullExtents, NoVersion, NothingRetained, Formatted, Blanked, Soaked}
 use Rattle.bd_model.specs.declared.answer.VersionLine.{VersionLine}
-use Rattle.bd_model.specs.declared.command.Command.{Command}
-use Rattle.bd_model.specs.declared.command.Command.TheVariants.{Backup, Restore, Expire, Reorganise, Scrub, List as Listing}
+use Rattle.bd_model.specs.declared.command.Command.TheVariants.{Backup, Restore, List as Listing}
 use Rattle.bd_script.specs.Long.{is_long}
-use Rattle.mfdedup.specs.Built.{is_built}
 use Rattle.mfdedup.specs.Reads.{ReadsFor}
 
 -- an answer of which it is said what was read
@@ -132,10 +131,36 @@ backup-isnt f numbers versions extents done shape held st files name =
 pub backup_short : (shape : Shape) (held : ℕ) (st : VersionState) (files : FileMap) (name : List ℕ) (o : Outcome) → step shape held st files (Backup name) ≡ Some o → is_long o.answer ≡ false
 backup_short shape held st files name o e = (backup-isnt is_long refl (λ _. refl) (λ _ _ _. refl) (λ _ _ _ _ _. refl) shape held st files name).each o e
 
-pub built_unread : (shape : Shape) (held : ℕ) (st : VersionState) (files : FileMap) (command : Command) (o : Outcome) → is_built command ≡ true → step shape held st files command ≡ Some o → is_read o.answer ≡ false
-built_unread shape held st files (Backup name) o built e = (backup-isnt is_read refl (λ _. refl) (λ _ _ _. refl) (λ _ _ _ _ _. refl) shape held st files name).each o e
-built_unread shape held st files (Restore v name) o built e = absurd (cc built)
-built_unread shape held st files Expire o built e = absurd (cc built)
-built_unread shape held st files Reorganise o built e = absurd (cc built)
-built_unread shape held st files Scrub o built e = absurd (cc built)
-built_unread shape held st files Listing o built e = (isnt-one is_read _ refl).each o e
+pub backup_unread : (shape : Shape) (held : ℕ) (st : VersionState) (files : FileMap) (name : List ℕ) (o : Outcome) → step shape held st files (Backup name) ≡ Some o → is_read o.answer ≡ false
+backup_unread shape held st files name o e = (backup-isnt is_read refl (λ _. refl) (λ _ _ _. refl) (λ _ _ _ _ _. refl) shape held st files name).each o e
+
+pub list_unread : (shape : Shape) (held : ℕ) (st : VersionState) (files : FileMap) (o : Outcome) → step shape held st files Listing ≡ Some o → is_read o.answer ≡ false
+list_unread shape held st files o e = (isnt-one is_read _ refl).each o e
+
+-- ---- a restore's answers
+-- what was read is said of this answer, and it isn't that version v was given back
+abbrev pub is_read_else : ℕ → Answer → Bool
+is_read_else v (Restored given bytes) = not (given == v)
+is_read_else v (Expired given extents) = true
+is_read_else v _ = false
+
+pub is_read_else-room : (v : ℕ) (a : Answer) → is_read_else v (without_room a) ≡ is_read_else v a
+is_read_else-room v (Scrubbed report) = refl
+is_read_else-room v (Listed lines) = refl
+is_read_else-room v _ = refl
+
+restore-isnt : (f : Answer → Bool) (v : ℕ) → ((bytes : ℕ) → f (Restored v bytes) ≡ false) → ((o n : ℕ) → f (NoVersion v o n) ≡ false) → f (NothingRetained (Some v)) ≡ false →
+    (shape : Shape) (held : ℕ) (st : VersionState) (files : FileMap) (name : List ℕ) → Isnt f (step shape held st files (Restore v name))
+restore-isnt f v given missing nothing shape held st files name =
+    let h = history shape st in
+    isnt-cond f (retained h == 0) _ _ (isnt-one f _ nothing)
+    (isnt-cond f (nat_le (oldest h) v && nat_le v (newest h)) _ _ (isnt-one f _ (given _)) (isnt-one f _ (missing _ _)))
+
+pub restore_short : (shape : Shape) (held : ℕ) (st : VersionState) (files : FileMap) (v : ℕ) (name : List ℕ) (o : Outcome) → step shape held st files (Restore v name) ≡ Some o → is_long o.answer ≡ false
+restore_short shape held st files v name o e = (restore-isnt is_long v (λ _. refl) (λ _ _. refl) refl shape held st files name).each o e
+
+itself : (v : ℕ) → not (v == v) ≡ false
+itself v = grind (arith, nat_tests)
+
+pub restore_reads_own : (shape : Shape) (held : ℕ) (st : VersionState) (files : FileMap) (v : ℕ) (name : List ℕ) (o : Outcome) → step shape held st files (Restore v name) ≡ Some o → is_read_else v o.answer ≡ false
+restore_reads_own shape held st files v name o e = (restore-isnt (is_read_else v) v (λ _. itself v) (λ _ _. refl) refl shape held st files name).each o e

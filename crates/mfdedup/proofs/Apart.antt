@@ -60,7 +60,9 @@ backup-given shape st files name =
 pub near_one : (shape : Shape) (st : VersionState) (files : FileMap) (command : Command) → is_built command ≡ true → Distinct (given shape st files (unheld (command ∷ []))) → IsNear (task shape 0 st files command)
 near_one shape st files (Backup name) built apart = Near-from_Distinct (history shape (versions_with (task shape 0 st files (Backup name)) (Backup name))) (subst Distinct (sym (backup-given shape st files name)) apart)
 near_one shape st files Listing built apart = Near-from_Distinct (history shape st) (subst Distinct (append-nil (flat_map (chunks (cut_of shape)) (streams st)) ∙ sym (flat-map (chunks (cut_of shape)) (streams st))) apart)
-near_one shape st files (Restore v name) built apart = absurd (cc built)
+near_one shape st files (Restore v name) built apart =
+    let none = none-left (step shape 0 st files (Restore v name)) in
+    Near-from_Distinct (history shape st) (subst Distinct (ap (λ l. flat_map (chunks (cut_of shape)) (streams st) ++ l) none ∙ append-nil (flat_map (chunks (cut_of shape)) (streams st)) ∙ sym (flat-map (chunks (cut_of shape)) (streams st))) apart)
 near_one shape st files Expire built apart = absurd (cc built)
 near_one shape st files Reorganise built apart = absurd (cc built)
 near_one shape st files Scrub built apart = absurd (cc built)

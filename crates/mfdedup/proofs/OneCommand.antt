@@ -1,5 +1,5 @@
 -- One command by the clauses of its call on the store, and the put of its text, meets the headline.
-use Rattle.std.proofs.Common.{◌≡◌, ◌≢◌, ◌⊎◌, ◌∙◌, ℕ, zero, suc, ◌<◌, ◌≤◌, true, false, List, [], ◌∷◌, map, take, inl, inr, refl, sym, subst, ap, arith, Some, None, Option, Ok, Err, slice_get, get_or}
+use Rattle.std.proofs.Common.{◌≡◌, ◌≢◌, ◌⊎◌, ◌∙◌, ℕ, zero, suc, ◌<◌, ◌≤◌, List, [], ◌∷◌, map, take, inl, inr, refl, sym, subst, ap, arith, Some, None, Option, Ok, Err, slice_get, get_or}
 use Rattle.std.specs.FinMap as files_at
 use Rattle.bd_disk.specs.History.{History, clock, contents, Since}
 use Rattle.bd_disk.specs.Made.{WritesOnly, LeavesSince}
@@ -8,26 +8,26 @@ use Rattle.bd_model.specs.declared.shape.Shape.{Shape}
 use Rattle.bd_model.specs.declared.layout.Phase.{Phase}
 use Rattle.bd_model.specs.declared.layout.Phase.TheVariants.{Settled}
 use Rattle.bd_model.specs.declared.command.Command.{Command}
+use Rattle.bd_model.specs.declared.command.Command.TheVariants.{Restore}
 use Rattle.bd_model.specs.declared.answer.Answer.{Answer}
 use Rattle.bd_model.specs.FileMap.{FileMap}
 use Rattle.bd_model.specs.State.{VersionState}
 use Rattle.bd_model.specs.Step.{Outcome}
 use Rattle.bd_model.specs.Folds.{Point, after, outcomes, unheld}
 use Rattle.bd_catalog.specs.Standing.{Stands}
-use Rattle.bd_store.specs.Steps.{Task, task, LeadsTo, Answered, MakesStep, StandsOnEitherSide}
+use Rattle.bd_store.specs.Steps.{Task, task, LeadsTo, Answered, KeepsFiles, MakesStep, StandsOnEitherSide}
 use Rattle.bd_store.specs.Stops.{StopsOnEitherSide}
 use Rattle.bd_store.specs.declared.fault.StoreFault.{StoreFault}
 use Rattle.bd_store.specs.declared.fault.StoreFault.TheVariants.{SourceFault as StoreSource, TargetFault as StoreTarget, DiskFault as StoreDisk, Damaged as StoreDamaged, OutOfMemory as StoreMemory, Unbuilt as StoreUnbuilt}
-use Rattle.mfdedup.specs.Built.{is_built}
 use Rattle.mfdedup.specs.Course.{Course, StandsAt}
-use Rattle.mfdedup.specs.Exit.{carried_out}
+use Rattle.mfdedup.specs.Exit.{carried_out, IsHalfWritten, LeavesTarget}
 use Rattle.mfdedup.specs.Failing.{end_of}
 use Rattle.mfdedup.specs.Moments.{last_state}
 use Rattle.mfdedup.specs.Reads.{ReadsFor}
 use Rattle.mfdedup.specs.Whole.{MeetsTheHeadline}
 use Rattle.mfdedup.specs.declared.report.End.{End}
 use Rattle.mfdedup.specs.declared.report.End.TheVariants.{Done, DiskFault, OutputFault}
-use Rattle.mfdedup.proofs.AnswerKinds.{is_read, is_read-room, unread, built_unread}
+use Rattle.mfdedup.proofs.Faults.{target_or_kept}
 
 module _ (shape : Shape) (st : VersionState) (command : Command) (files files' : FileMap) (old new : History) where
   abbrev pub one : List Answer → List ℕ → End → Course
@@ -74,9 +74,9 @@ module _ (shape : Shape) (st : VersionState) (command : Command) (files files' :
   only_clock later (suc k) below = absurd (omega (arith, below))
 
   -- it was answered, and the text was put
-  pub one_done : (answer : Answer) (phase : Phase) → is_built command ≡ true → clock old ≤ clock new → WritesOnly (λ place. 64 ≤ place) old new → Answered t phase answer (contents new) files' → StopsOnEitherSide t old new (Ok answer) →
+  pub one_done : (answer : Answer) (phase : Phase) → ReadsFor shape st new (clock old) (clock new) answer → clock old ≤ clock new → WritesOnly (λ place. 64 ≤ place) old new → Answered t phase answer (contents new) files' → StopsOnEitherSide t old new (Ok answer) →
       MeetsTheHeadline shape st (clock old) (one (answer ∷ []) (clock new ∷ []) Done)
-  one_done answer phase built later writes done stops = record {
+  one_done answer phase read later writes done stops = record {
     answers = record {
       first = ap (λ a. a ∷ []) done.says ∙ sym (ap (λ (os : List Outcome). take 1 (map (λ o. o.answer) os)) (outcomes-one done.outcome done.leads));
       done = λ _. refl;
@@ -103,13 +103,28 @@ module _ (shape : Shape) (st : VersionState) (command : Command) (files files' :
     each (suc zero) below image since = (1, omega arith, omega arith, at_second (answer ∷ []) (clock new ∷ []) Done image stops.done.outcome stops.done.leads (stops.done.sure.each image (since_now new image since)))
     each (suc (suc k)) below image since = absurd (omega (arith, below))
 
-    plain : is_read answer ≡ false
-    plain = sym (is_read-room answer) ∙ ap is_read done.says ∙ built_unread shape 0 st files command done.outcome built done.leads
+    same_answer : {a b : Answer} → Some a ≡ Some b → a ≡ b
+    same_answer e = cc e
+
+    same_point : {p q : Point} → Some p ≡ Some q → p ≡ q
+    same_point e = cc e
 
     reads : (k : ℕ) → (a : Answer) → slice_get (answer ∷ []) k ≡ Some a → (p : Point) → after shape st files (unheld (command ∷ [])) k ≡ Some p →
         ReadsFor shape p.state new (get_or (clock old ∷ clock new ∷ []) k 0) (get_or (clock new ∷ []) k 0) a
-    reads zero a there p leads = unread shape p.state new _ _ a (subst (λ x. is_read x ≡ false) (cc there) plain)
+    reads zero a there p leads =
+        subst (λ (x : Answer). ReadsFor shape p.state new (clock old) (clock new) x) (same_answer there)
+        (subst (λ (q : Point). ReadsFor shape q.state new (clock old) (clock new) answer) (same_point leads) read)
     reads (suc k) a there p leads = absurd (cc there)
+
+  -- each file but a half written target is as before
+  half_or_kept : (ending : End) → LeavesTarget ending → KeepsFiles command files files' → (name : List ℕ) → IsHalfWritten (one [] [] ending) name ⊎ (files_at.get files' name ≡ files_at.get files name)
+  half_or_kept ending leaves keeps name = by_name (target_or_kept command files files' name keeps) where
+    by_name : ((v : ℕ) × (command ≡ Restore v name)) ⊎ (files_at.get files' name ≡ files_at.get files name) → IsHalfWritten (one [] [] ending) name ⊎ (files_at.get files' name ≡ files_at.get files name)
+    by_name (inl (v, e)) = inl (record { version = v; command = ap Some e; fault = leaves })
+    by_name (inr same) = inr same
+
+  all_kept : (ending : End) → files' ≡ files → (name : List ℕ) → IsHalfWritten (one [] [] ending) name ⊎ (files_at.get files' name ≡ files_at.get files name)
+  all_kept ending same name = inr (ap (λ (m : FileMap). files_at.get m name) same)
 
   abbrev no_answers : List Answer
   no_answers = []
@@ -147,9 +162,9 @@ module _ (shape : Shape) (st : VersionState) (command : Command) (files files' :
     each (suc k) below image since = absurd (omega (arith, below))
 
   -- the disk failed
-  pub one_disk : clock old ≤ clock new → WritesOnly (λ place. 64 ≤ place) old new → files' ≡ files → StandsOnEitherSide t (contents new) → LeavesSince (StandsOnEitherSide t) old new →
+  pub one_disk : clock old ≤ clock new → WritesOnly (λ place. 64 ≤ place) old new → KeepsFiles command files files' → StandsOnEitherSide t (contents new) → LeavesSince (StandsOnEitherSide t) old new →
       MeetsTheHeadline shape st (clock old) (one [] [] DiskFault)
-  one_disk later writes same stands within = record {
+  one_disk later writes keeps stands within = record {
     answers = record {
       first = refl;
       done = λ e. absurd (cc e);
@@ -161,7 +176,7 @@ module _ (shape : Shape) (st : VersionState) (command : Command) (files files' :
       stands = sides stands;
       point = start;
       leads = refl;
-      beside = λ name. inr (ap (λ (m : FileMap). files_at.get m name) same);
+      beside = half_or_kept DiskFault tt keeps;
     };
     stops = record { stops = record { in_time = only_clock later; each = each } };
     reads = record { each = nothing_read (clock old) };
@@ -175,9 +190,10 @@ module _ (shape : Shape) (st : VersionState) (command : Command) (files files' :
     each (suc k) below image since = absurd (omega (arith, below))
 
   -- an end that leaves the state
-  pub one_kept : (ending : End) → ending ≢ Done → carried_out ending 0 ≡ 0 → last_state ending 0 ≡ 0 → clock old ≤ clock new → WritesOnly (λ place. 64 ≤ place) old new → files' ≡ files → Stands shape 0 st (contents new) → LeavesSince (Stands shape 0 st) old new →
+  pub one_kept : (ending : End) → ending ≢ Done → carried_out ending 0 ≡ 0 → last_state ending 0 ≡ 0 → clock old ≤ clock new → WritesOnly (λ place. 64 ≤ place) old new →
+      ((name : List ℕ) → IsHalfWritten (one [] [] ending) name ⊎ (files_at.get files' name ≡ files_at.get files name)) → Stands shape 0 st (contents new) → LeavesSince (Stands shape 0 st) old new →
       MeetsTheHeadline shape st (clock old) (one [] [] ending)
-  one_kept ending not_done none_done last later writes same stands within = record {
+  one_kept ending not_done none_done last later writes beside stands within = record {
     answers = record {
       first = refl;
       done = λ e. absurd (not_done e);
@@ -189,7 +205,7 @@ module _ (shape : Shape) (st : VersionState) (command : Command) (files files' :
       stands = inl (subst (λ k. StandsAt shape st (one [] [] ending) k (contents new)) (sym none_done) (at_first [] [] ending (contents new) stands));
       point = start;
       leads = subst (λ k. after shape st files (unheld (command ∷ [])) k ≡ Some start) (sym none_done) refl;
-      beside = λ name. inr (ap (λ (m : FileMap). files_at.get m name) same);
+      beside = beside;
     };
     stops = record { stops = record { in_time = only_clock later; each = each } };
     reads = record { each = nothing_read (clock old) };
@@ -199,11 +215,11 @@ module _ (shape : Shape) (st : VersionState) (command : Command) (files files' :
     each (suc k) below image since = absurd (omega (arith, below))
 
   -- a fault
-  pub one_failed : (fault : StoreFault) (phase : Phase) → clock old ≤ clock new → WritesOnly (λ place. 64 ≤ place) old new → files' ≡ files → MakesStep t phase (contents new) files' (Err fault) → StopsOnEitherSide t old new (Err fault) →
+  pub one_failed : (fault : StoreFault) (phase : Phase) → clock old ≤ clock new → WritesOnly (λ place. 64 ≤ place) old new → MakesStep t phase (contents new) files' (Err fault) → StopsOnEitherSide t old new (Err fault) →
       MeetsTheHeadline shape st (clock old) (one [] [] (end_of fault))
-  one_failed StoreSource phase later writes same made stops = one_kept _ (λ e. cc e) refl refl later writes same (record { phase = Settled; so = made.stands }) stops.done
-  one_failed StoreTarget phase later writes same made stops = one_kept _ (λ e. cc e) refl refl later writes same made.stands stops.done
-  one_failed StoreDisk phase later writes same made stops = one_disk later writes same made.stands stops.within
-  one_failed (StoreDamaged damage) phase later writes same made stops = absurd made
-  one_failed StoreMemory phase later writes same made stops = one_kept _ (λ e. cc e) refl refl later writes same made.stands stops.done
-  one_failed StoreUnbuilt phase later writes same made stops = one_kept _ (λ e. cc e) refl refl later writes same made.stands stops.done
+  one_failed StoreSource phase later writes made stops = one_kept _ (λ e. cc e) refl refl later writes (all_kept _ made.beside) (record { phase = Settled; so = made.stands }) stops.done
+  one_failed StoreTarget phase later writes made stops = one_kept _ (λ e. cc e) refl refl later writes (half_or_kept _ tt made.beside) made.stands stops.done
+  one_failed StoreDisk phase later writes made stops = one_disk later writes made.beside made.stands stops.within
+  one_failed (StoreDamaged damage) phase later writes made stops = absurd made
+  one_failed StoreMemory phase later writes made stops = one_kept _ (λ e. cc e) refl refl later writes (half_or_kept _ tt made.beside) made.stands stops.done
+  one_failed StoreUnbuilt phase later writes made stops = one_kept _ (λ e. cc e) refl refl later writes (all_kept _ made.beside) made.stands stops.done

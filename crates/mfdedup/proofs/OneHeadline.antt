@@ -47,12 +47,12 @@ fault_cause StoreUnbuilt d s t o d' s' t' fails = tt
 -- a progress that ended by a fault of the store
 pub failed_progress : (shape : Shape) (st : VersionState) (command : Command) (files files' : FileMap) (old new : History) (p q : Progress) (ending : End) (fault : StoreFault) → p ≡ record q { end = ending } → ending ≡ end_of fault →
     q.commands.items ≡ command ∷ [] → q.answers.items ≡ [] → q.clocks.items ≡ [] → is_built command ≡ true → clock old ≤ clock new → WritesOnly (λ place. 64 ≤ place) old new →
-    IsOneStep command 0 old new files files' (Err fault) → IsSafeAtStops command 0 old new files (Err fault) → files' ≡ files →
+    IsOneStep command 0 old new files files' (Err fault) → IsSafeAtStops command 0 old new files (Err fault) →
     IsPromised shape st old files (tried (command ∷ []) p.answers.items) → MeetsTheHeadline shape st (clock old) (course_of p old new files files')
-failed_progress shape st command files files' old new p q ending fault e f only no_answers no_clocks built later writes step stops same =
+failed_progress shape st command files files' old new p q ending fault e f only no_answers no_clocks built later writes step stops =
     subst (λ (x : Progress). IsPromised shape st old files (tried (command ∷ []) x.answers.items) → MeetsTheHeadline shape st (clock old) (course_of x old new files files')) (sym e)
     (λ promised. subst (λ x. MeetsTheHeadline shape st (clock old) (course_of (record q { end = x }) old new files files')) (sym f)
-    (failed_meets shape st command files files' old new q.commands.items q.answers.items q.clocks.items fault only no_answers no_clocks built later writes step stops same promised))
+    (failed_meets shape st command files files' old new q.commands.items q.answers.items q.clocks.items fault only no_answers no_clocks built later writes step stops promised))
 
 pub failed_ends : (shape : Shape) (st : VersionState) (command : Command) (files files' : FileMap) (old new : History) (found : Found) (before now : AllCounts) (p q : Progress) (ending : End) (fault : StoreFault) → p ≡ record q { end = ending } → ending ≡ end_of fault →
     q.commands.items ≡ command ∷ [] → q.answers.items ≡ [] → is_built command ≡ true → Agrees found old → FaultFits found command (Err fault) → IsOneStep command 0 old new files files' (Err fault) → EndsByCount (end_of fault) before now →

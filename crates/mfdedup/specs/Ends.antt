@@ -1,7 +1,7 @@
 -- How a list of commands may end.
 use Rattle.std.specs.Prelude.{◌≡◌, ◌⊎◌, ℕ, ◌<◌, ◌≤◌, ◌≢◌, List, Option, Some, slice_get}
 use Rattle.bd_model.specs.FileMap.{FileMap}
-use Rattle.bd_model.specs.History.{newest, retained}
+use Rattle.bd_model.specs.History.{newest, oldest, retained}
 use Rattle.bd_model.specs.State.{VersionState, history, last_number}
 use Rattle.bd_model.specs.declared.shape.Shape.{Shape}
 use Rattle.bd_model.specs.declared.command.Command.{Command}
@@ -13,12 +13,24 @@ use Rattle.mfdedup.specs.declared.report.End.{End}
 use Rattle.mfdedup.specs.declared.report.End.TheVariants.{Done, SourceFault, TargetFault, DiskFault, OutputFault, OutOfMemory, Unbuilt}
 
 -- a backup into a store that retains a version and could retain one more
-pub record IsToCome (shape : Shape) (st : VersionState) (next : Option Command) : Type 0 where
+pub record BackupIsToCome (shape : Shape) (st : VersionState) (next : Option Command) : Type 0 where
   pub name : List ℕ
   pub command : next ≡ Some (Backup name)
   pub some : 0 < retained (history shape st)
   pub numbers : newest (history shape st) ≢ last_number
   pub versions : retained (history shape st) ≢ shape.retain
+
+-- a restore of a retained version beside which another one is retained
+pub record RestoreIsToCome (shape : Shape) (st : VersionState) (next : Option Command) : Type 0 where
+  pub version : ℕ
+  pub name : List ℕ
+  pub command : next ≡ Some (Restore version name)
+  pub another : 1 < retained (history shape st)
+  pub retained : (oldest (history shape st) ≤ version) × (version ≤ newest (history shape st))
+
+-- a command that is built, but not for every store
+abbrev pub IsToCome : Shape → VersionState → Option Command → Type 0
+IsToCome shape st next = BackupIsToCome shape st next ⊎ RestoreIsToCome shape st next
 
 -- the command after the last answer is one that can meet this end; no other end than these comes
 abbrev pub IsMetBy : Shape → VersionState → Option Command → End → Type 0

@@ -15,6 +15,7 @@ use Rattle.bd_recover.specs.Answers.{format_refusal}
 use Rattle.bd_recover.specs.declared.fault.FormatFault.{FormatFault}
 use Rattle.bd_recover.specs.declared.fault.FormatFault.TheVariants.{AlreadyAStore as FormatMarked, TooSmall as FormatSmall}
 use Rattle.bd_store.specs.Openings.{IsNoneOrEmpty}
+use Rattle.bd_store.specs.Steps.{KeepsFiles}
 use Rattle.mfdedup.specs.Ends.{StraysOnlyFor}
 use Rattle.mfdedup.specs.Words.{Reading, ToFormat, ToRun, ToBlank}
 use Rattle.mfdedup.specs.declared.report.End.{End}
@@ -71,8 +72,9 @@ MeetsOnDisk (ToFormat sizes) bytes ending clocks old new = ((ending ≡ OutOfMem
 MeetsOnDisk (ToRun command) bytes ending clocks old new = WritesOnly (λ place. 64 ≤ place) old new
 MeetsOnDisk reading bytes ending clocks old new = new ≡ old
 
--- and on the files: no request changes them yet but that for a blank file
+-- and on the files: a restore changes its target alone, a blank file is made, and every other request leaves them
 abbrev pub MeetsOnFiles : Reading → End → FileMap → FileMap → Type 0
+MeetsOnFiles (ToRun command) ending old new = KeepsFiles command old new
 MeetsOnFiles (ToBlank length name) ending old new = Blanks name length ending old new
 MeetsOnFiles reading ending old new = new ≡ old
 

@@ -3,9 +3,10 @@ ghost use Rattle.bd_disk.specs.Made.{WritesOnly};
 ghost use Rattle.bd_model.specs.Sizes.{disk_bytes};
 ghost use Rattle.bd_catalog.specs.Agreement.{Agrees};
 ghost use Rattle.bd_store.specs.Causes.{counts, FailsOnlyByCount, StraysOnlyBy};
-ghost use Rattle.bd_store.specs.Steps.{IsOneStep};
+ghost use Rattle.bd_store.specs.Steps.{IsOneStep, KeepsFiles};
 ghost use Rattle.bd_store.specs.Stops.{IsSafeAtStops};
-ghost use Rattle.mfdedup.specs.Built.{is_built, FaultFits, TouchesAsIts};
+ghost use Rattle.bd_store.specs.Touches.{WalksTo};
+ghost use Rattle.mfdedup.specs.Built.{is_built, FaultFits, IfRestores, TouchesAsIts};
 ghost use Rattle.mfdedup.specs.Failing.{end_of, end_of_opening};
 
 use crate::report::End;
@@ -18,7 +19,10 @@ use bd_store::{OpenFault, Store, StoreFault};
 pub fn is_built(command: &Command) -> bool
     ensures { result ≡ is_built command.now }
 {
-    matches!(command, Command::Backup { .. } | Command::List)
+    matches!(
+        command,
+        Command::Backup { .. } | Command::Restore { .. } | Command::List
+    )
 }
 
 /// Carries a command out on a store.
@@ -36,9 +40,10 @@ pub fn carry_out<D: Disk, F: Files>(
     ensures cause { FailsOnlyByCount (counts (D.faults disk.old) (F.source_faults files.old) (F.target_faults files.old)) (counts (D.faults disk.new) (F.source_faults files.new) (F.target_faults files.new)) result }
     ensures fits { FaultFits store.old.found command.now result }
     ensures strays { F.tells → StraysOnlyBy command.now (F.files files.old) (F.strays files.old) (F.strays files.new) }
-    ensures files { F.tells → F.files files.new ≡ F.files files.old }
+    ensures files { F.tells → KeepsFiles command.now (F.files files.old) (F.files files.new) }
     ensures writes { D.tells → WritesOnly (λ place. 64 ≤ place) (D.history disk.old) (D.history disk.new) }
     ensures untouched { D.tells → TouchesAsIts command.now (D.history disk.old) (D.history disk.new) }
+    ensures walks { IfRestores command.now result (λ v. D.tells → WalksTo store.old.held store.old.found v (D.history disk.old) (D.history disk.new)) }
     // It is one step of the version machine.
     ensures step { D.tells → F.tells → IsOneStep command.now store.old.held (D.history disk.old) (D.history disk.new) (F.files files.old) (F.files files.new) result }
     // A stop at any moment leaves the state before it or the one after.
@@ -46,6 +51,7 @@ pub fn carry_out<D: Disk, F: Files>(
 {
     match command {
         Command::Backup { name } => store.backup(disk, files, name),
+        Command::Restore { version, name } => store.restore(disk, files, *version, name),
         Command::List => match store.list() {
             Ok(answer) => Ok(answer),
             Err(_) => Err(StoreFault::OutOfMemory),

@@ -6,6 +6,7 @@ ghost use Rattle.bd_model.specs.State.{VersionState};
 ghost use Rattle.bd_model.specs.Texts.{texts};
 ghost use Rattle.bd_model.specs.declared.shape.Shape.{Shape};
 ghost use Rattle.bd_catalog.specs.Agreement.{Agrees};
+ghost use Rattle.bd_store.specs.Steps.{KeepsFiles};
 ghost use Rattle.mfdedup.specs.Built.{is_built};
 ghost use Rattle.mfdedup.specs.Counts.{all_counts, EndsOnlyByCount};
 ghost use Rattle.mfdedup.specs.Course.{IsPromised, tried};
@@ -56,7 +57,7 @@ pub fn session<D: Disk, F: Files, O: Sink>(
     ensures bytes { D.bytes disk.new ≡ D.bytes disk.old }
     ensures cause { EndsOnlyByCount result.end (all_counts (D.faults disk.old) (F.source_faults files.old) (F.target_faults files.old) (O.faults out.old)) (all_counts (D.faults disk.new) (F.source_faults files.new) (F.target_faults files.new) (O.faults out.new)) }
     ensures commands { result.commands.items ≡ command.now ∷ [] }
-    ensures files { F.tells → F.files files.new ≡ F.files files.old }
+    ensures files { F.tells → KeepsFiles command.now (F.files files.old) (F.files files.new) }
     ensures writes { D.tells → WritesOnly (λ place. 64 ≤ place) (D.history disk.old) (D.history disk.new) }
     ensures written { O.tells → Puts (O.faults out.old) (O.faults out.new) (O.written out.old) (O.written out.new) (texts result.answers.items) }
     ensures moments { O.tells → D.tells → O.moments out.new ≡ O.moments out.old ++ result.clocks.items }
@@ -83,7 +84,7 @@ pub fn run_command<D: Disk, F: Files, O: Sink>(
     requires built { is_built command.now ≡ true }
     ensures bytes { D.bytes disk.new ≡ D.bytes disk.old }
     ensures cause { EndsOnlyByCount result.end (all_counts (D.faults disk.old) (F.source_faults files.old) (F.target_faults files.old) (O.faults out.old)) (all_counts (D.faults disk.new) (F.source_faults files.new) (F.target_faults files.new) (O.faults out.new)) }
-    ensures files { F.tells → F.files files.new ≡ F.files files.old }
+    ensures files { F.tells → KeepsFiles command.now (F.files files.old) (F.files files.new) }
     ensures writes { D.tells → WritesOnly (λ place. 64 ≤ place) (D.history disk.old) (D.history disk.new) }
     ensures written { O.tells → Puts (O.faults out.old) (O.faults out.new) (O.written out.old) (O.written out.new) (texts result.answers.items) }
     ensures moments { O.tells → D.tells → O.moments out.new ≡ O.moments out.old ++ result.clocks.items }
@@ -112,7 +113,7 @@ fn run_asked<D: Disk, F: Files, O: Sink>(
     ensures bytes { D.bytes disk.new ≡ D.bytes disk.old }
     ensures cause { EndsOnlyByCount result.end (all_counts (D.faults disk.old) (F.source_faults files.old) (F.target_faults files.old) (O.faults out.old)) (all_counts (D.faults disk.new) (F.source_faults files.new) (F.target_faults files.new) (O.faults out.new)) }
     ensures unbuilt { (command : Asked) → commands.now.items ≡ command ∷ [] → is_built command ≡ false → (result.end ≡ Unbuilt) × ((disk.new ≡ disk.old) × (files.new ≡ files.old)) }
-    ensures files { F.tells → F.files files.new ≡ F.files files.old }
+    ensures files { F.tells → (command : Asked) → commands.now.items ≡ command ∷ [] → KeepsFiles command (F.files files.old) (F.files files.new) }
     ensures writes { D.tells → WritesOnly (λ place. 64 ≤ place) (D.history disk.old) (D.history disk.new) }
     ensures written { O.tells → Puts (O.faults out.old) (O.faults out.new) (O.written out.old) (O.written out.new) (texts result.answers.items) }
     ensures moments { O.tells → D.tells → O.moments out.new ≡ O.moments out.old ++ result.clocks.items }

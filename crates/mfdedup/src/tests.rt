@@ -1,6 +1,6 @@
 use crate::report::{End, Report};
 use crate::run::run;
-use bd_disk::{Disk, FileDisk, MemDisk};
+use bd_disk::{Disk, FileDisk, MemDisk, Touch};
 use bd_files::{Files, MemFiles, MemSink, RealFiles};
 use bd_model::{Name, Shape};
 use bd_store::Store;
@@ -88,14 +88,19 @@ fn backed_up(alloc: Global, shape: Shape, stream: &[u8]) -> Result<String, Fail>
     told(alloc, "backup it", &mut disk, &mut files)
 }
 
-// A fresh store with other bytes from a place on.
-fn altered(alloc: Global, place: usize, bytes: &[u8]) -> Result<MemDisk, Fail> {
-    let disk = formatted(alloc, shape_with(16)?)?;
+// A disk with the bytes of another, but for these from a place on.
+fn with_bytes(alloc: Global, disk: &MemDisk, place: usize, bytes: &[u8]) -> Result<MemDisk, Fail> {
     let mut image = disk.contents().to_vec(alloc)?;
     for (at, byte) in image.iter_mut().skip(place).zip(bytes.iter()) {
         *at = *byte;
     }
     Ok(MemDisk::from_bytes(alloc, &image)?)
+}
+
+// A fresh store with other bytes from a place on.
+fn altered(alloc: Global, place: usize, bytes: &[u8]) -> Result<MemDisk, Fail> {
+    let disk = formatted(alloc, shape_with(16)?)?;
+    with_bytes(alloc, &disk, place, bytes)
 }
 
 // What is said of such a store.
@@ -112,6 +117,34 @@ fn failing_at(alloc: Global, number: u64) -> Result<End, Fail> {
     let mut files = source(alloc, b"AAAABBBBCCCC")?;
     let (report, _) = call(alloc, "backup it", &mut disk, &mut files)?;
     Ok(report.end)
+}
+
+// A store whose version 1 is this stream.
+fn holding(alloc: Global, stream: &[u8]) -> Result<MemDisk, Fail> {
+    let mut disk = formatted(alloc, shape_with(16)?)?;
+    let mut files = source(alloc, stream)?;
+    let _said = told(alloc, "backup it", &mut disk, &mut files)?;
+    Ok(disk)
+}
+
+// The calls of a line on such a store, which begin with those of its opening.
+fn calls(alloc: Global, line: &str) -> Result<Vec<Touch>, Fail> {
+    let stored = holding(alloc, b"AAAABBBBCCCC")?;
+    let mut disk = MemDisk::from_bytes(alloc, stored.contents())?;
+    let _said = told(alloc, line, &mut disk, &mut MemFiles::new(alloc))?;
+    Ok(disk.trace().to_vec(alloc)?)
+}
+
+// What is said of a restore from such a store with one other byte, and then what is under `it`.
+fn damaged(alloc: Global, place: usize, byte: u8) -> Result<String, Fail> {
+    let stored = holding(alloc, b"AAAABBBBCCCC")?;
+    let mut disk = with_bytes(alloc, &stored, place, [byte].as_slice())?;
+    let mut files = source(alloc, b"untouched")?;
+    let mut said = told(alloc, "restore 1 t", &mut disk, &mut files)?;
+    let it = Name::new(alloc, "it")?;
+    let kept = files.bytes_of(&it).unwrap_or(&[]).to_vec(alloc)?;
+    said.push_str(String::from_utf8(kept)?.as_str())?;
+    Ok(said)
 }
 
 #[test]
@@ -146,10 +179,9 @@ fn commands_to_come_are_unbuilt(rt: HostRuntime) -> Result<(), Fail> {
     let alloc = rt.alloc();
     let mut disk = MemDisk::blank(alloc, 0)?;
     let mut files = MemFiles::new(alloc);
-    let lines =
-        "restore 4294967295 a\nexpire\nreorganise\nscrub\nrun a\nsoak 18446744073709551615 16";
+    let lines = "expire\nreorganise\nscrub\nrun a\nsoak 18446744073709551615 16";
     let said = told(alloc, lines, &mut disk, &mut files)?;
-    assert_eq!(rt; said.as_str(), "2 unbuilt\n".repeat(alloc, 6)?.as_str());
+    assert_eq!(rt; said.as_str(), "2 unbuilt\n".repeat(alloc, 5)?.as_str());
     assert_eq!(rt; disk.clock(), 0);
     Ok(())
 }
@@ -293,6 +325,121 @@ fn each_fault_ends_a_backup(rt: HostRuntime) -> Result<(), Fail> {
 }
 
 #[test]
+fn a_version_is_given_back(rt: HostRuntime) -> Result<(), Fail> {
+    let alloc = rt.alloc();
+    let mut disk = holding(alloc, b"AAAABBBBCCCC")?;
+    let mut files = MemFiles::new(alloc);
+    let lines = "restore 1 t\nrestore 9 t\nrestore 0 t\nrestore 01 x";
+    let said = told(alloc, lines, &mut disk, &mut files)?;
+    assert_eq!(rt;
+        said.as_str(),
+        "0 restored 1: 12 bytes\n1 no version 9: retained 1 to 1\n1 no version 0: retained 1 to 1\n2 bad number: 0\n"
+    );
+    let target = Name::new(alloc, "t")?;
+    assert_eq!(rt; files.bytes_of(&target), Some(b"AAAABBBBCCCC".as_slice()));
+    Ok(())
+}
+
+#[test]
+fn a_version_of_no_bytes_is_given_back(rt: HostRuntime) -> Result<(), Fail> {
+    let alloc = rt.alloc();
+    let mut disk = holding(alloc, b"")?;
+    let mut files = MemFiles::new(alloc);
+    let said = told(alloc, "restore 1 t", &mut disk, &mut files)?;
+    assert_eq!(rt; said.as_str(), "0 restored 1: 0 bytes\n");
+    let target = Name::new(alloc, "t")?;
+    assert_eq!(rt; files.bytes_of(&target), Some([].as_slice()));
+    Ok(())
+}
+
+#[test]
+fn a_restore_finds_its_version_or_says_so(rt: HostRuntime) -> Result<(), Fail> {
+    let alloc = rt.alloc();
+    let mut files = MemFiles::new(alloc);
+    let mut disk = formatted(alloc, shape_with(16)?)?;
+    let said = told(alloc, "restore 9 t\nrestore 0 t", &mut disk, &mut files)?;
+    assert_eq!(rt;
+        said.as_str(),
+        "1 no version 9: none retained\n1 no version 0: none retained\n"
+    );
+    // A catalogue of 157 bytes, with four versions of no bytes.
+    let four = [157u8, 0, 0, 0, 0, 0, 0, 0, 4, 0, 0, 0, 4];
+    let mut disk = altered(alloc, 73, four.as_slice())?;
+    let said = told(alloc, "restore 9 t\nrestore 4 t", &mut disk, &mut files)?;
+    assert_eq!(rt;
+        said.as_str(),
+        "1 no version 9: retained 1 to 4\n2 unbuilt\n"
+    );
+    let target = Name::new(alloc, "t")?;
+    assert_eq!(rt; files.bytes_of(&target), None);
+    Ok(())
+}
+
+#[test]
+fn a_restore_reads_its_recipe_and_each_body(rt: HostRuntime) -> Result<(), Fail> {
+    let alloc = rt.alloc();
+    let opening = calls(alloc, "list")?.len();
+    let touches = calls(alloc, "restore 1 t")?;
+    let read = |at, length| Touch::Read { at, length };
+    // The recipe in the extents 1 and 3; then header and body of each record, in the extents 0 and 2.
+    let expected = [
+        read(132_934, 64),
+        read(133_062, 56),
+        read(132_870, 36),
+        read(132_906, 4),
+        read(132_910, 24),
+        read(132_998, 12),
+        read(133_010, 4),
+        read(133_014, 36),
+        read(133_050, 4),
+    ];
+    assert_eq!(rt;
+        touches.as_slice().get(opening..),
+        Some(expected.as_slice())
+    );
+    Ok(())
+}
+
+#[test]
+fn each_damage_ends_a_restore(rt: HostRuntime) -> Result<(), Fail> {
+    let alloc = rt.alloc();
+    // A byte of the first body, of its header's length, of the first entry's length, and of the second entry's mark.
+    assert_eq!(rt;
+        damaged(alloc, 132_908, b'B')?.as_str(),
+        "3 damaged body: open 1 at 0, recorded 63c1dd951ffedf6f7fd968ad4efa39b8ed584f162f46e715114ee184f8de9201, found d23d2ba0dfd859ae27c6607f47d2ac51bfa264493000c61ebfc13d72c449d6f1\nuntouched"
+    );
+    assert_eq!(rt;
+        damaged(alloc, 132_873, 0)?.as_str(),
+        "3 damaged header: open 1 at 0, length 0, left 84\nuntouched"
+    );
+    assert_eq!(rt;
+        damaged(alloc, 132_969, 5)?.as_str(),
+        "3 damaged entry: version 1 index 0, length 5, start 1\nuntouched"
+    );
+    assert_eq!(rt;
+        damaged(alloc, 132_974, 0)?.as_str(),
+        "3 missing chunk: version 1 index 1, mark 008d8134f29b0b7b60c126f5532bc9f5d9bb73037373cf6fb872d81f1dcefdfd\nuntouched"
+    );
+    Ok(())
+}
+
+#[test]
+fn each_fault_ends_a_restore(rt: HostRuntime) -> Result<(), Fail> {
+    let alloc = rt.alloc();
+    let mut disk = holding(alloc, b"AAAABBBBCCCC")?;
+    let mut files = MemFiles::new(alloc);
+    // The second of its puts, behind its begin.
+    files.fail_target(2);
+    let said = told(alloc, "restore 1 t", &mut disk, &mut files)?;
+    assert_eq!(rt; said.as_str(), "4 target fault\n");
+    let begun = disk.trace().len() as u64;
+    disk.fail_at(begun + 6);
+    let said = told(alloc, "restore 1 t", &mut disk, &mut files)?;
+    assert_eq!(rt; said.as_str(), "3 disk fault\n");
+    Ok(())
+}
+
+#[test]
 fn a_real_file_is_a_store(rt: HostRuntime) -> Result<(), Fail> {
     let alloc = rt.alloc();
     let path = "mfdedup.disk";
@@ -302,11 +449,17 @@ fn a_real_file_is_a_store(rt: HostRuntime) -> Result<(), Fail> {
     let mut disk = FileDisk::new(file, SMALL);
     let _store = Store::format(alloc, &mut disk, shape_with(16)?)?;
     let mut files = RealFiles::new(rt);
-    let said = told(alloc, "backup mfdedup.it\nlist", &mut disk, &mut files)?;
+    let lines = "backup mfdedup.it\nlist\nrestore 1 mfdedup.back";
+    let said = told(alloc, lines, &mut disk, &mut files)?;
     assert_eq!(rt;
         said.as_str(),
-        "0 version 1: 12 bytes, 3 chunks, 3 new, need 4\n0 1 12 3 3\n1 versions\n"
+        "0 version 1: 12 bytes, 3 chunks, 3 new, need 4\n0 1 12 3 3\n1 versions\n0 restored 1: 12 bytes\n"
     );
+    assert_eq!(rt;
+        fs::read_to_string(&rt, "mfdedup.back")?.as_str(),
+        "AAAABBBBCCCC"
+    );
+    fs::remove_file(&rt, "mfdedup.back")?;
     fs::remove_file(&rt, path)?;
     fs::remove_file(&rt, "mfdedup.it")?;
     Ok(())
