@@ -13,9 +13,10 @@ mod tests;
 mod words;
 
 use bd_disk::{Disk, FileDisk, MemDisk};
-use bd_files::{RealFiles, StdSink};
+use bd_files::{FileIdentity, RealFiles, StdSink};
 use run::run;
 use std::fs::{File, Files as Folder};
+use std::io::{Seek, SeekFrom};
 use std::process::ExitCode;
 use std::{env, io};
 
@@ -37,7 +38,7 @@ fn main(rt: HostRuntime) -> ExitCode {
                 return on_no_store(rt, words);
             }
             match open(&rt, path.as_str()) {
-                Ok(mut disk) => on_disk(rt, words, &mut disk),
+                Ok(mut store) => on_disk(rt, words, &mut store.disk, Some(store.file)),
                 Err(_) => {
                     let _ = eprintln!(rt; "cannot open store");
                     ExitCode::from(3)
@@ -47,22 +48,42 @@ fn main(rt: HostRuntime) -> ExitCode {
     }
 }
 
-// The whole of a file as a disk.
-fn open<R: Folder<File = File>>(rt: &R, path: &str) -> io::Result<FileDisk> {
-    let file = File::options().read(true).write(true).open(rt, path)?;
-    let size = file.metadata()?.len();
-    Ok(FileDisk::new(file, size))
+// A disk, and which file or device it is.
+#[derive(Drop)]
+struct OpenStore {
+    disk: FileDisk,
+    file: FileIdentity,
+}
+
+// The whole of a file, or of a block device, as a disk. Of a device only its end tells the size.
+fn open<R: Folder<File = File>>(rt: &R, path: &str) -> io::Result<OpenStore> {
+    let mut opened = File::options().read(true).write(true).open(rt, path)?;
+    let file = FileIdentity::of(&opened.metadata()?);
+    let size = opened.seek(SeekFrom::End(0))?;
+    Ok(OpenStore {
+        disk: FileDisk::new(opened, size),
+        file,
+    })
 }
 
 fn on_no_store(rt: HostRuntime, words: &[String]) -> ExitCode {
     match MemDisk::blank(rt.alloc(), 0) {
-        Ok(mut disk) => on_disk(rt, words, &mut disk),
+        Ok(mut disk) => on_disk(rt, words, &mut disk, None),
         Err(_) => out_of_memory(rt),
     }
 }
 
-fn on_disk<D: Disk>(rt: HostRuntime, words: &[String], disk: &mut D) -> ExitCode {
+// The file that the store is in is no target of its own.
+fn on_disk<D: Disk>(
+    rt: HostRuntime,
+    words: &[String],
+    disk: &mut D,
+    store: Option<FileIdentity>,
+) -> ExitCode {
     let mut files = RealFiles::new(rt);
+    if let Some(file) = store {
+        files.spare(file);
+    }
     let mut out = StdSink::new(rt.stdout());
     ExitCode::from(run(rt.alloc(), words, disk, &mut files, &mut out).status)
 }
