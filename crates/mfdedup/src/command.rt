@@ -26,6 +26,7 @@ pub fn is_built(command: &Command) -> bool
 }
 
 /// Carries a command out on a store.
+#[tactic(auto, using(crate::proofs::Faults::backup_fits, crate::proofs::Faults::restore_fits))]
 pub fn carry_out<D: Disk, F: Files>(
     store: &mut Store,
     command: &Command,

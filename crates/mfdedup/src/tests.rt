@@ -109,14 +109,23 @@ fn listed(alloc: Global, place: usize, byte: u8) -> Result<String, Fail> {
     told(alloc, "list", &mut disk, &mut MemFiles::new(alloc))
 }
 
-// The end of a backup on a disk that fails at one call behind the format's.
-fn failing_at(alloc: Global, number: u64) -> Result<End, Fail> {
-    let mut disk = formatted(alloc, shape_with(16)?)?;
-    let begun = disk.trace().len() as u64;
-    disk.fail_at(begun + number % 64);
+// The end of a line on a disk with these bytes that fails at one call.
+fn failing_at(alloc: Global, line: &str, bytes: &[u8], number: u64) -> Result<End, Fail> {
+    let mut disk = MemDisk::from_bytes(alloc, bytes)?;
+    disk.fail_at(number);
     let mut files = source(alloc, b"AAAABBBBCCCC")?;
-    let (report, _) = call(alloc, "backup it", &mut disk, &mut files)?;
+    let (report, _) = call(alloc, line, &mut disk, &mut files)?;
     Ok(report.end)
+}
+
+// At how many calls of a line a fault of the disk ends it.
+fn disk_faults(alloc: Global, line: &str, bytes: &[u8]) -> Result<u64, Fail> {
+    for number in 0..64 {
+        if failing_at(alloc, line, bytes, number)? != End::DiskFault {
+            return Ok(number);
+        }
+    }
+    Ok(64)
 }
 
 // A store whose version 1 is this stream.
@@ -311,16 +320,11 @@ fn each_fault_ends_a_backup(rt: HostRuntime) -> Result<(), Fail> {
     assert_eq!(rt; report.end, End::OutputFault);
     assert_eq!(rt; report.status, 4);
     assert_eq!(rt; report.answers.len(), 0);
-    let mut faults = 0;
-    for number in 0..64 {
-        let end = failing_at(alloc, number)?;
-        if end == End::Done {
-            faults = number;
-            break;
-        }
-        assert_eq!(rt; end, End::DiskFault);
-    }
+    let fresh = formatted(alloc, shape_with(16)?)?;
+    let faults = disk_faults(alloc, "backup it", fresh.contents())?;
     assert!(rt; faults > 3);
+    let end = failing_at(alloc, "backup it", fresh.contents(), faults)?;
+    assert_eq!(rt; end, End::Done);
     Ok(())
 }
 
@@ -432,10 +436,13 @@ fn each_fault_ends_a_restore(rt: HostRuntime) -> Result<(), Fail> {
     files.fail_target(2);
     let said = told(alloc, "restore 1 t", &mut disk, &mut files)?;
     assert_eq!(rt; said.as_str(), "4 target fault\n");
-    let begun = disk.trace().len() as u64;
-    disk.fail_at(begun + 6);
-    let said = told(alloc, "restore 1 t", &mut disk, &mut files)?;
-    assert_eq!(rt; said.as_str(), "3 disk fault\n");
+    // Nine reads behind the opening.
+    let stored = holding(alloc, b"AAAABBBBCCCC")?;
+    let opening = disk_faults(alloc, "list", stored.contents())?;
+    let faults = disk_faults(alloc, "restore 1 t", stored.contents())?;
+    assert_eq!(rt; faults.saturating_sub(opening), 9);
+    let end = failing_at(alloc, "restore 1 t", stored.contents(), faults)?;
+    assert_eq!(rt; end, End::Done);
     Ok(())
 }
 

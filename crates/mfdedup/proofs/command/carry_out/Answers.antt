@@ -3,8 +3,6 @@ use Rattle.bd_store.specs.Steps.{IsOneStep}
 use Rattle.bd_store.specs.Stops.{IsSafeAtStops}
 use Rattle.bd_store.specs.declared.fault.StoreFault.TheVariants.{OutOfMemory}
 use Rattle.bd_store.proofs.Quiet.{safe_untouched}
-use Rattle.mfdedup.specs.Built.{FaultFits}
-use Rattle.mfdedup.proofs.Faults.{backup_fits, restore_fits}
 use Rattle.mfdedup.proofs.Listing.{listed_step, listed_stops}
 use Rattle.mfdedup.proofs.command.carry_out.Goals as goal
 
@@ -20,9 +18,3 @@ returns-in-Ok-clause-stops g c = λ told files_tell.
 
 pub returns-in-Err-clause-stops : goal.returns-in-Err-clause-stops
 returns-in-Err-clause-stops g c = λ told files_tell. safe_untouched c.args.command.now c.args.store.now.held (g.D.Disk.history c.args.disk.now) (g.F.Files.files c.args.files.now) OutOfMemory
-
-pub returns-in-Backup-clause-fits : goal.returns-in-Backup-clause-fits
-returns-in-Backup-clause-fits g c = subst (λ k. FaultFits c.args.store.now.found k c.backup.result) (sym c.in-Backup.is) (backup_fits c.args.store.now.found c.in-Backup.name c.backup.result c.backup.ensures.numbers)
-
-pub returns-in-Restore-clause-fits : goal.returns-in-Restore-clause-fits
-returns-in-Restore-clause-fits g c = subst (λ k. FaultFits c.args.store.now.found k c.restore.result) (sym c.in-Restore.is) (restore_fits c.args.store.now.found c.in-Restore.version c.in-Restore.name c.restore.result c.restore.ensures.numbers)
