@@ -12,7 +12,7 @@ returns-in-Ok-clause-strays g c = λ files_tell. strays_one (c.in-Ok.ensures.str
 pub returns-in-Ok-clause-headline : goal.returns-in-Ok-clause-headline
 returns-in-Ok-clause-headline g c = λ told files_tell shape st promised.
     let noted = c.note_answer.ensures.noted in
-    answered_meets shape st c.args.command.now _ _ _ _ c.note_answer.result.commands.items c.note_answer.result.answers.items c.note_answer.result.clocks.items c.note_answer.result.end c.in-Ok.answer noted.0 c.args.store.now.found
+    answered_meets shape st c.args.command.now (g.F.Files.files c.args.files.now) (g.F.Files.files c.carry_out.new.files) (g.D.Disk.history c.args.disk.now) (g.D.Disk.history c.carry_out.new.disk) c.note_answer.result.commands.items c.note_answer.result.answers.items c.note_answer.result.clocks.items c.note_answer.result.end c.in-Ok.answer noted.0 c.args.store.now.found
     (c.note_answer.ensures.commands ∙ c.requires.command) c.requires.built (later (c.in-Ok.ensures.writes told)) (c.in-Ok.ensures.writes told)
     (rw c.requires.free at (c.in-Ok.ensures.step told files_tell)) (rw c.requires.free at (c.in-Ok.ensures.stops told files_tell)) (c.in-Ok.ensures.untouched told) (c.in-Ok.ensures.files files_tell) (c.requires.agrees told)
     (restores_told c.args.command.now (Ok c.in-Ok.answer) (λ v. WalksTo 0 c.args.store.now.found v (g.D.Disk.history c.args.disk.now) (g.D.Disk.history c.carry_out.new.disk)) told (rw c.requires.free at c.in-Ok.ensures.walks)) (noted.1.0 told) noted.1.1 promised
@@ -22,10 +22,10 @@ returns-in-Err-clause-strays g c = λ files_tell. strays_one (c.in-Err.ensures.s
 
 pub returns-in-Err-clause-headline : goal.returns-in-Err-clause-headline
 returns-in-Err-clause-headline g c = λ told files_tell shape st promised.
-    failed_progress shape st c.args.command.now _ _ _ _ c.ending.result c.args.progress c.end_of.result c.in-Err.fault c.ending.ensures c.end_of.ensures c.requires.command c.requires.answers c.requires.clocks c.requires.built
+    failed_progress shape st c.args.command.now (g.F.Files.files c.args.files.now) (g.F.Files.files c.carry_out.new.files) (g.D.Disk.history c.args.disk.now) (g.D.Disk.history c.carry_out.new.disk) c.ending.result c.args.progress c.end_of.result c.in-Err.fault c.ending.ensures c.end_of.ensures c.requires.command c.requires.answers c.requires.clocks c.requires.built
     (later (c.in-Err.ensures.writes told)) (c.in-Err.ensures.writes told) (rw c.requires.free at (c.in-Err.ensures.step told files_tell)) (rw c.requires.free at (c.in-Err.ensures.stops told files_tell)) promised
 
 pub returns-in-Err-clause-ends : goal.returns-in-Err-clause-ends
 returns-in-Err-clause-ends g c = λ told files_tell shape st promised.
-    failed_ends shape st c.args.command.now _ _ _ _ c.args.store.now.found _ _ c.ending.result c.args.progress c.end_of.result c.in-Err.fault c.ending.ensures c.end_of.ensures c.requires.command c.requires.answers c.requires.built
+    failed_ends shape st c.args.command.now (g.F.Files.files c.args.files.now) (g.F.Files.files c.carry_out.new.files) (g.D.Disk.history c.args.disk.now) (g.D.Disk.history c.carry_out.new.disk) c.args.store.now.found _ _ c.ending.result c.args.progress c.end_of.result c.in-Err.fault c.ending.ensures c.end_of.ensures c.requires.command c.requires.answers c.requires.built
     (c.requires.agrees told) c.in-Err.ensures.fits (rw c.requires.free at (c.in-Err.ensures.step told files_tell)) (fault_cause c.in-Err.fault _ _ _ _ _ _ _ c.in-Err.ensures.cause) promised
