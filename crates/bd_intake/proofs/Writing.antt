@@ -3,7 +3,6 @@ use Rattle.std.proofs.Common.{◌≡◌, ℕ, ◌+◌, ◌*◌, ◌/◌, ◌%◌
 use Rattle.std.specs.Prelude.{Contains}
 use Rattle.std.proofs.lemmas.List.{append-nil, take-append-le, map-append}
 use Rattle.std.proofs.lemmas.Grind.{flat_map-append}
-use Rattle.std.proofs.lemmas.List.Sums.{sum_by-append}
 use Rattle.std.proofs.lemmas.List.Elements.{Contains-append_left, Contains-append_right}
 use Rattle.bd_disk.specs.History.{History, contents}
 use Rattle.bd_disk.specs.Images.{overwritten}
@@ -13,12 +12,11 @@ use Rattle.bd_disk.proofs.Frames.{writes_wider, same_contents}
 use Rattle.bd_model.specs.Extents.{owner_bytes, extent_bytes}
 use Rattle.bd_model.specs.Laws.{entries_in}
 use Rattle.bd_model.specs.Marks.{mark}
-use Rattle.bd_model.specs.Layout.{record_bytes}
 use Rattle.bd_model.specs.Records.{four, record_of, records_of, spelled_entry, spelled_recipe}
 use Rattle.bd_model.specs.Sizes.{Sizes, extent_place, disk_bytes}
 use Rattle.bd_model.specs.declared.layout.RecipeEntry.{RecipeEntry}
 use Rattle.bd_model.specs.declared.mark.Mark.{Mark}
-use Rattle.bd_model.proofs.RecordLemmas.{length-mark, length-record, length-records}
+use Rattle.bd_model.proofs.RecordLemmas.{length-mark, length-record}
 use Rattle.bd_category.specs.Records.{record_with}
 use Rattle.bd_extio.specs.Ranges.{AreExtents, InOwner}
 use Rattle.bd_extio.proofs.Places.{length-owner_bytes}

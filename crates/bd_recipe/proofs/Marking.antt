@@ -1,8 +1,6 @@
 -- Entries that are found by their mark.
 use Rattle.std.proofs.Common.{◌≡◌, ℕ, suc, ◌+◌, ◌-◌, ◌≤◌, ◌<◌, ◌≢◌, ◌↔◌, true, false, cond, ◌||◌, List, [], ◌∷◌, length, length-drop, drop, set, get_or, get_or-set_same, get_or-set_other, refl, sym, ◌∙◌, ap, arith, subst, unwrap_or, Some, None, IfSome, is_some, IsNone, ⊎_elim, option_map, nat_lt, ltb-true}
 use Rattle.std.proofs.lemmas.Bool.{cases_eq}
-use Rattle.std.proofs.lemmas.Bool.Decides.{same_from_decides, Decides-like}
-use Rattle.std.proofs.lemmas.Slice.Eq.{bytes_eq-Decides}
 use Rattle.std.proofs.lemmas.List.{drop_more, get_or_default}
 use Rattle.std.specs.Prelude.{Option}
 use Rattle.std.specs.Str.{bytes_eq}

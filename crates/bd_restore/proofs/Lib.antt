@@ -1,7 +1,7 @@
 mod Answering
 mod Cuts
 mod Finishing
-mod Joining
+pub mod Joining
 mod Marks
 mod Meeting
 mod Putting

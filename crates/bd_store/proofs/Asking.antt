@@ -1,7 +1,7 @@
 -- Which version a restore is asked for: what its step answers by the numbers, over any state for which the contents stand.
 use Rattle.std.proofs.Common.{◌≡◌, ◌⊎◌, inl, inr, ⊎_elim, ℕ, ◌<◌, ◌≤◌, false, cond, ◌&&◌, List, sym, ◌∙◌, ap, arith, nat_le, le-leb, eq-eqb, Option, Some}
 use Rattle.std.proofs.lemmas.Bool.{and_from, and_left, and_right, lt-leb, ne_eqb}
-use Rattle.bd_disk.specs.History.{History as Moment, contents}
+use Rattle.bd_disk.specs.History.{History as Moment}
 use Rattle.bd_model.specs.FileMap.{FileMap}
 use Rattle.bd_model.specs.declared.shape.Shape.{Shape}
 use Rattle.bd_model.specs.declared.answer.Answer.TheVariants.{NoVersion, NothingRetained}

@@ -15,7 +15,7 @@ use Rattle.bd_catalog.specs.Standing.{StandsFor}
 use Rattle.bd_catalog.specs.Walks.{restore_reads, IsLean}
 use Rattle.bd_recipe.specs.Reading.{length_in}
 use Rattle.bd_store.specs.declared.fault.StoreFault.{StoreFault}
-use Rattle.bd_store.specs.declared.fault.StoreFault.TheVariants.{DiskFault, SourceFault, Unbuilt, TargetFault}
+use Rattle.bd_store.specs.declared.fault.StoreFault.TheVariants.{DiskFault, SourceFault, Damaged, Unbuilt, TargetFault}
 
 abbrev pub numbers_used_up : Found → Bool
 numbers_used_up found = found.catalogue.newest == last_number
@@ -28,13 +28,14 @@ abbrev pub is_unbuilt : Found → Bool
 is_unbuilt found = not (numbers_used_up found || versions_used_up found) && nat_lt 0 (retained_in found.catalogue)
 
 -- Where numbers or versions are used up, or the backup is still to come, exactly that is answered; else none of these is.
--- A backup has no target that could fail.
+-- A backup has no target that could fail, and a first one reads nothing that could be damaged.
 abbrev pub AnswersByNumbers : Found → Result Answer StoreFault → Type 0
 AnswersByNumbers found (Ok FullNumbers) = numbers_used_up found ≡ true
 AnswersByNumbers found (Ok (FullVersions retained)) = (numbers_used_up found ≡ false) × (versions_used_up found ≡ true) × (retained ≡ found.sizes.retain)
 AnswersByNumbers found (Ok answer) = (numbers_used_up found || versions_used_up found ≡ false) × (is_unbuilt found ≡ false)
 AnswersByNumbers found (Err Unbuilt) = is_unbuilt found ≡ true
 AnswersByNumbers found (Err TargetFault) = ⊥
+AnswersByNumbers found (Err (Damaged damage)) = ⊥
 AnswersByNumbers found (Err fault) = (numbers_used_up found || versions_used_up found ≡ false) × (is_unbuilt found ≡ false)
 
 -- whether the version of this number is retained
@@ -82,10 +83,11 @@ BackupReads old new (Err Unbuilt) = TouchesNothing old new
 BackupReads old new (Err DiskFault) = Unit {0}
 BackupReads old new result = ReadsOnly [] old new
 
--- no answer that goes by numbers, and no fault of a target
+-- no answer that goes by numbers, no fault of a target, and no damage
 abbrev pub AnswersFirst : Result Answer StoreFault → Type 0
 AnswersFirst (Ok FullNumbers) = ⊥
 AnswersFirst (Ok (FullVersions retained)) = ⊥
 AnswersFirst (Err Unbuilt) = ⊥
 AnswersFirst (Err TargetFault) = ⊥
+AnswersFirst (Err (Damaged damage)) = ⊥
 AnswersFirst result = Unit {0}

@@ -20,7 +20,7 @@ backup_fits found name (Ok answer) answers = tt
 backup_fits found name (Err SourceFault) answers = (name, refl)
 backup_fits found name (Err TargetFault) answers = absurd answers
 backup_fits found name (Err DiskFault) answers = tt
-backup_fits found name (Err (Damaged damage)) answers = tt
+backup_fits found name (Err (Damaged damage)) answers = absurd answers
 backup_fits found name (Err OutOfMemory) answers = tt
 backup_fits found name (Err Unbuilt) answers = answers
 
@@ -29,7 +29,7 @@ restore_fits found v name (Ok answer) answers = tt
 restore_fits found v name (Err SourceFault) answers = absurd answers
 restore_fits found v name (Err TargetFault) answers = (v, name, refl)
 restore_fits found v name (Err DiskFault) answers = tt
-restore_fits found v name (Err (Damaged damage)) answers = tt
+restore_fits found v name (Err (Damaged damage)) answers = (v, name, refl)
 restore_fits found v name (Err OutOfMemory) answers = tt
 restore_fits found v name (Err Unbuilt) answers = answers
 

@@ -8,7 +8,7 @@ use Rattle.bd_model.specs.declared.command.Command.TheVariants.{Backup, Restore,
 use Rattle.bd_catalog.specs.Opening.{Found}
 use Rattle.bd_store.specs.Touches.{is_unbuilt, restore_is_unbuilt, IfRestored}
 use Rattle.bd_store.specs.declared.fault.StoreFault.{StoreFault}
-use Rattle.bd_store.specs.declared.fault.StoreFault.TheVariants.{SourceFault, TargetFault, Unbuilt}
+use Rattle.bd_store.specs.declared.fault.StoreFault.TheVariants.{SourceFault, TargetFault, Damaged, Unbuilt}
 
 -- whether a command is built; the others are still to come
 abbrev pub is_built : Command → Bool
@@ -33,9 +33,10 @@ IsUnbuiltFor found (Backup name) = is_unbuilt found ≡ true
 IsUnbuiltFor found (Restore v name) = restore_is_unbuilt found v ≡ true
 IsUnbuiltFor found command = ⊥
 
--- which command can meet a fault: a source that fails belongs to a backup, and a target that fails to a restore
+-- which command can meet a fault: a source that fails belongs to a backup, a target that fails and damage to a restore
 abbrev pub FaultFits : Found → Command → Result Answer StoreFault → Type 0
 FaultFits found command (Err SourceFault) = (name : List ℕ) × (command ≡ Backup name)
 FaultFits found command (Err TargetFault) = (v : ℕ) × (name : List ℕ) × (command ≡ Restore v name)
+FaultFits found command (Err (Damaged damage)) = (v : ℕ) × (name : List ℕ) × (command ≡ Restore v name)
 FaultFits found command (Err Unbuilt) = IsUnbuiltFor found command
 FaultFits found command result = Unit {0}

@@ -14,3 +14,5 @@ pub mod Telling
 pub mod Failing
 pub mod Built
 pub mod Requests
+pub mod Fits
+pub mod Naming

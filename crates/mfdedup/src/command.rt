@@ -1,8 +1,10 @@
-ghost use Rattle.std.specs.Prelude.{◌≡◌, ◌≤◌, false, true, IfOk, Ok, Err};
+ghost use Rattle.std.specs.Prelude.{ℕ, List, ◌≡◌, ◌≤◌, false, true, IfOk, Ok, Err};
 ghost use Rattle.bd_disk.specs.Made.{WritesOnly};
 ghost use Rattle.bd_model.specs.Sizes.{disk_bytes};
 ghost use Rattle.bd_catalog.specs.Agreement.{Agrees};
 ghost use Rattle.bd_store.specs.Causes.{counts, FailsOnlyByCount, StraysOnlyBy};
+ghost use Rattle.bd_store.specs.Naming.{NamesDamage};
+ghost use Rattle.bd_model.specs.declared.command.Command.TheVariants.{Restore};
 ghost use Rattle.bd_store.specs.Steps.{IsOneStep, KeepsFiles};
 ghost use Rattle.bd_store.specs.Stops.{IsSafeAtStops};
 ghost use Rattle.bd_store.specs.Touches.{WalksTo};
@@ -44,6 +46,7 @@ pub fn carry_out<D: Disk, F: Files>(
     ensures files { F.tells → KeepsFiles command.now (F.files files.old) (F.files files.new) }
     ensures writes { D.tells → WritesOnly (λ place. 64 ≤ place) (D.history disk.old) (D.history disk.new) }
     ensures untouched { D.tells → TouchesAsIts command.now (D.history disk.old) (D.history disk.new) }
+    ensures damage { D.tells → (v : ℕ) → (name : List ℕ) → command.now ≡ Restore v name → NamesDamage store.old.found v (D.history disk.old) (D.history disk.new) result }
     ensures walks { IfRestores command.now result (λ v. D.tells → WalksTo store.old.held store.old.found v (D.history disk.old) (D.history disk.new)) }
     // It is one step of the version machine.
     ensures step { D.tells → F.tells → IsOneStep command.now store.old.held (D.history disk.old) (D.history disk.new) (F.files files.old) (F.files files.new) result }

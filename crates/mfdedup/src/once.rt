@@ -4,7 +4,8 @@ ghost use Rattle.bd_disk.specs.Calls.{HasCause};
 ghost use Rattle.bd_files.specs.Files.{ChangesOnly};
 ghost use Rattle.bd_model.specs.Texts.{texts};
 ghost use Rattle.mfdedup.specs.Counts.{all_counts, EndsOnlyByCount};
-ghost use Rattle.mfdedup.specs.Requests.{Blanks, Formats};
+ghost use Rattle.mfdedup.specs.Fits.{IsOfFormat};
+ghost use Rattle.mfdedup.specs.Requests.{Blanks, EndsBlank, Formats};
 ghost use Rattle.mfdedup.specs.Failing.{end_of_format};
 ghost use Rattle.mfdedup.specs.Whole.{Puts};
 
@@ -24,6 +25,7 @@ pub fn format<D: Disk, O: Sink>(alloc: Global, shape: Shape, disk: &mut D, out: 
     ensures cause { (sources : ℕ) → (targets : ℕ) → EndsOnlyByCount result.end (all_counts (D.faults disk.old) sources targets (O.faults out.old)) (all_counts (D.faults disk.new) sources targets (O.faults out.new)) }
     ensures written { O.tells → Puts (O.faults out.old) (O.faults out.new) (O.written out.old) (O.written out.new) (texts result.answers.items) }
     ensures moments { O.tells → D.tells → O.moments out.new ≡ O.moments out.old ++ result.clocks.items }
+    ensures ends { IsOfFormat result.end }
     ensures format { D.tells → Formats shape (D.bytes disk.old) result.end result.clocks.items (D.history disk.old) (D.history disk.new) }
 {
     match Progress::alone(alloc) {
@@ -61,6 +63,7 @@ pub fn blank<D: Disk, F: Files, O: Sink>(
     ensures written { O.tells → Puts (O.faults out.old) (O.faults out.new) (O.written out.old) (O.written out.new) (texts result.answers.items) }
     ensures moments { O.tells → D.tells → O.moments out.new ≡ O.moments out.old ++ result.clocks.items }
     ensures strays { F.tells → F.strays files.new ≡ F.strays files.old }
+    ensures ends { EndsBlank result.end }
     ensures blank { F.tells → Blanks name.now length result.end (F.files files.old) (F.files files.new) }
 {
     match Progress::alone(alloc) {

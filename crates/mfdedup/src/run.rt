@@ -1,18 +1,21 @@
 ghost use Rattle.std.specs.Prelude.{◌≡◌, ◌⊎◌, ◌≤◌, ◌++◌, [], ◌∷◌, ℕ, List, true, false, map, string_bytes, Some};
-ghost use Rattle.bd_disk.specs.History.{History, clock};
+ghost use Rattle.bd_disk.specs.History.{History, clock, contents};
 ghost use Rattle.bd_disk.specs.Made.{WritesOnly};
 ghost use Rattle.bd_model.specs.Sizes.{disk_bytes};
 ghost use Rattle.bd_model.specs.State.{VersionState};
 ghost use Rattle.bd_model.specs.Texts.{texts};
 ghost use Rattle.bd_model.specs.declared.shape.Shape.{Shape};
 ghost use Rattle.bd_catalog.specs.Agreement.{Agrees};
+ghost use Rattle.bd_catalog.specs.Opening.{opened};
 ghost use Rattle.bd_store.specs.Steps.{KeepsFiles};
 ghost use Rattle.mfdedup.specs.Built.{is_built};
 ghost use Rattle.mfdedup.specs.Counts.{all_counts, EndsOnlyByCount};
 ghost use Rattle.mfdedup.specs.Course.{IsPromised, tried};
 ghost use Rattle.mfdedup.specs.Ends.{EndsWell, StraysOnlyFor};
-ghost use Rattle.mfdedup.specs.Headline.{IsTheHeadline, course_of, end_by_words, progress_of};
+ghost use Rattle.mfdedup.specs.Fits.{FitsWords, IsOfCommand, IsOfOpening, OpensBy};
+ghost use Rattle.mfdedup.specs.Headline.{IsTheHeadline, commands_asked, course_of, end_by_words, progress_of};
 ghost use Rattle.mfdedup.specs.Moments.{NotedBy};
+ghost use Rattle.mfdedup.specs.Naming.{NamesDamage, NamesDamageOn};
 ghost use Rattle.mfdedup.specs.Requests.{MeetsOnDisk, MeetsOnFiles, StraysOnlyByWords};
 ghost use Rattle.mfdedup.specs.Statuses.{end_text, status_of};
 ghost use Rattle.mfdedup.specs.Whole.{MeetsTheHeadline, Puts};
@@ -64,6 +67,8 @@ pub fn session<D: Disk, F: Files, O: Sink>(
     ensures strays { F.tells → StraysOnlyFor (command.now ∷ []) (F.files files.new) (F.strays files.old) (F.strays files.new) }
     // Over an honest disk, while no two different chunks given have one mark.
     ensures headline { D.tells → F.tells → (shape : Shape) → (st : VersionState) → IsPromised shape st (D.history disk.old) (F.files files.old) (tried (command.now ∷ []) result.answers.items) → MeetsTheHeadline shape st (clock (D.history disk.old)) (course_of result (D.history disk.old) (D.history disk.new) (F.files files.old) (F.files files.new)) }
+    ensures fits { IsOfCommand command.now result.end }
+    ensures damage { D.tells → NamesDamageOn store.old.found command.now result.end (D.history disk.old) (D.history disk.new) }
     ensures ends { D.tells → F.tells → (shape : Shape) → (st : VersionState) → IsPromised shape st (D.history disk.old) (F.files files.old) (tried (command.now ∷ []) result.answers.items) → EndsWell shape st (course_of result (D.history disk.old) (D.history disk.new) (F.files files.old) (F.files files.new)) (all_counts (D.faults disk.old) (F.source_faults files.old) (F.target_faults files.old) (O.faults out.old)) (all_counts (D.faults disk.new) (F.source_faults files.new) (F.target_faults files.new) (O.faults out.new)) }
 {
     match carry_out(store, command, disk, files) {
@@ -89,6 +94,9 @@ pub fn run_command<D: Disk, F: Files, O: Sink>(
     ensures written { O.tells → Puts (O.faults out.old) (O.faults out.new) (O.written out.old) (O.written out.new) (texts result.answers.items) }
     ensures moments { O.tells → D.tells → O.moments out.new ≡ O.moments out.old ++ result.clocks.items }
     ensures strays { F.tells → StraysOnlyFor (command.now ∷ []) (F.files files.new) (F.strays files.old) (F.strays files.new) }
+    ensures fits { IsOfOpening result.end ⊎ IsOfCommand command.now result.end }
+    ensures opening { D.tells → OpensBy (opened (contents (D.history disk.old))) result.end }
+    ensures damage { D.tells → NamesDamage (ToRun command.now) result.end (D.history disk.old) (D.history disk.new) }
     // Over an honest disk, while no two different chunks given have one mark.
     ensures headline { D.tells → F.tells → IsTheHeadline (ToRun command.now) result (all_counts (D.faults disk.old) (F.source_faults files.old) (F.target_faults files.old) (O.faults out.old)) (all_counts (D.faults disk.new) (F.source_faults files.new) (F.target_faults files.new) (O.faults out.new)) (D.history disk.old) (D.history disk.new) (F.files files.old) (F.files files.new) }
 {
@@ -118,6 +126,9 @@ fn run_asked<D: Disk, F: Files, O: Sink>(
     ensures written { O.tells → Puts (O.faults out.old) (O.faults out.new) (O.written out.old) (O.written out.new) (texts result.answers.items) }
     ensures moments { O.tells → D.tells → O.moments out.new ≡ O.moments out.old ++ result.clocks.items }
     ensures strays { F.tells → (command : Asked) → commands.now.items ≡ command ∷ [] → StraysOnlyFor (command ∷ []) (F.files files.new) (F.strays files.old) (F.strays files.new) }
+    ensures fits { (command : Asked) → commands.now.items ≡ command ∷ [] → FitsWords (ToRun command) result.end }
+    ensures opening { D.tells → (command : Asked) → commands.now.items ≡ command ∷ [] → is_built command ≡ true → OpensBy (opened (contents (D.history disk.old))) result.end }
+    ensures damage { D.tells → (command : Asked) → commands.now.items ≡ command ∷ [] → NamesDamage (ToRun command) result.end (D.history disk.old) (D.history disk.new) }
     ensures headline { D.tells → F.tells → (command : Asked) → commands.now.items ≡ command ∷ [] → IsTheHeadline (ToRun command) result (all_counts (D.faults disk.old) (F.source_faults files.old) (F.target_faults files.old) (O.faults out.old)) (all_counts (D.faults disk.new) (F.source_faults files.new) (F.target_faults files.new) (O.faults out.new)) (D.history disk.old) (D.history disk.new) (F.files files.old) (F.files files.new) }
 {
     match commands.get(0) {
@@ -149,6 +160,9 @@ fn act<D: Disk, F: Files, O: Sink>(
     ensures disk { D.tells → (reading : Reading) → AsksFor reading (Some request.now) → MeetsOnDisk reading (D.bytes disk.old) result.end result.clocks.items (D.history disk.old) (D.history disk.new) }
     ensures files { F.tells → (reading : Reading) → AsksFor reading (Some request.now) → MeetsOnFiles reading result.end (F.files files.old) (F.files files.new) }
     ensures strays { F.tells → (reading : Reading) → AsksFor reading (Some request.now) → StraysOnlyByWords reading (F.files files.new) (F.strays files.old) (F.strays files.new) }
+    ensures fits { (reading : Reading) → AsksFor reading (Some request.now) → FitsWords reading result.end }
+    ensures opening { D.tells → (reading : Reading) → AsksFor reading (Some request.now) → (commands : List Asked) → commands_asked reading ≡ Some commands → OpensBy (opened (contents (D.history disk.old))) result.end }
+    ensures damage { D.tells → (reading : Reading) → AsksFor reading (Some request.now) → NamesDamage reading result.end (D.history disk.old) (D.history disk.new) }
     ensures headline { D.tells → F.tells → (reading : Reading) → AsksFor reading (Some request.now) → IsTheHeadline reading result (all_counts (D.faults disk.old) (F.source_faults files.old) (F.target_faults files.old) (O.faults out.old)) (all_counts (D.faults disk.new) (F.source_faults files.new) (F.target_faults files.new) (O.faults out.new)) (D.history disk.old) (D.history disk.new) (F.files files.old) (F.files files.new) }
 {
     match request {
@@ -206,6 +220,12 @@ pub fn run<D: Disk, F: Files, O: Sink>(
     ensures disk { D.tells → MeetsOnDisk (reading (map string_bytes words.now)) (D.bytes disk.old) result.end result.clocks.items (D.history disk.old) (D.history disk.new) }
     ensures files { F.tells → MeetsOnFiles (reading (map string_bytes words.now)) result.end (F.files files.old) (F.files files.new) }
     ensures strays { F.tells → StraysOnlyByWords (reading (map string_bytes words.now)) (F.files files.new) (F.strays files.old) (F.strays files.new) }
+    // Over whatever disk, files and sink: the end is one that the words bring, or that comes of what they ask for.
+    ensures fits { (result.end ≡ OutOfMemory) ⊎ FitsWords (reading (map string_bytes words.now)) result.end }
+    // Where commands are asked for, no store is found exactly where the contents are none.
+    ensures opening { D.tells → (commands : List Asked) → commands_asked (reading (map string_bytes words.now)) ≡ Some commands → (result.end ≡ OutOfMemory) ⊎ OpensBy (opened (contents (D.history disk.old))) result.end }
+    // A damage was read, and breaks its rule.
+    ensures damage { D.tells → NamesDamage (reading (map string_bytes words.now)) result.end (D.history disk.old) (D.history disk.new) }
     // Over an honest disk, while no two different chunks given have one mark.
     ensures headline { D.tells → F.tells → IsTheHeadline (reading (map string_bytes words.now)) (progress_of result) (all_counts (D.faults disk.old) (F.source_faults files.old) (F.target_faults files.old) (O.faults out.old)) (all_counts (D.faults disk.new) (F.source_faults files.new) (F.target_faults files.new) (O.faults out.new)) (D.history disk.old) (D.history disk.new) (F.files files.old) (F.files files.new) }
 {

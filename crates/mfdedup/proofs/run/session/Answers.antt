@@ -1,6 +1,10 @@
-use Rattle.std.proofs.Common.{◌∙◌, Ok}
+use Rattle.std.proofs.Common.{◌∙◌, Ok, sym, ap, subst}
 use Rattle.bd_disk.proofs.Frames.{later}
 use Rattle.bd_store.specs.Touches.{WalksTo}
+use Rattle.mfdedup.specs.Fits.{IsOfCommand}
+use Rattle.mfdedup.specs.Naming.{NamesDamageOn}
+use Rattle.mfdedup.specs.declared.progress.Progress.{Progress}
+use Rattle.mfdedup.proofs.Fitting.{by_answer, fault_ends, fault_damages}
 use Rattle.mfdedup.proofs.OneRun.{answered_meets, strays_one}
 use Rattle.mfdedup.proofs.OneHeadline.{failed_progress, failed_ends, fault_cause}
 use Rattle.mfdedup.proofs.Restoring.{restores_told}
@@ -29,3 +33,22 @@ pub returns-in-Err-clause-ends : goal.returns-in-Err-clause-ends
 returns-in-Err-clause-ends g c = λ told files_tell shape st promised.
     failed_ends shape st c.args.command.now (g.F.Files.files c.args.files.now) (g.F.Files.files c.carry_out.new.files) (g.D.Disk.history c.args.disk.now) (g.D.Disk.history c.carry_out.new.disk) c.args.store.now.found _ _ c.ending.result c.args.progress c.end_of.result c.in-Err.fault c.ending.ensures c.end_of.ensures c.requires.command c.requires.answers c.requires.built
     (c.requires.agrees told) c.in-Err.ensures.fits (rw c.requires.free at (c.in-Err.ensures.step told files_tell)) (fault_cause c.in-Err.fault _ _ _ _ _ _ _ c.in-Err.ensures.cause) promised
+
+pub returns-in-Ok-clause-fits : goal.returns-in-Ok-clause-fits
+returns-in-Ok-clause-fits g c =
+    let noted = c.note_answer.ensures.noted in
+    by_answer (IsOfCommand c.args.command.now) tt tt tt c.in-Ok.answer noted.0 c.note_answer.result.end c.note_answer.result.answers.items c.note_answer.result.clocks.items noted.1.1
+
+pub returns-in-Ok-clause-damage : goal.returns-in-Ok-clause-damage
+returns-in-Ok-clause-damage g c = λ told.
+    let noted = c.note_answer.ensures.noted in
+    by_answer (λ e. NamesDamageOn c.args.store.now.found c.args.command.now e (g.D.Disk.history c.args.disk.now) (g.D.Disk.history c.carry_out.new.disk)) tt tt tt c.in-Ok.answer noted.0 c.note_answer.result.end c.note_answer.result.answers.items c.note_answer.result.clocks.items noted.1.1
+
+pub returns-in-Err-clause-fits : goal.returns-in-Err-clause-fits
+returns-in-Err-clause-fits g c =
+    subst (IsOfCommand c.args.command.now) (sym (ap (λ (p : Progress). p.end) c.ending.ensures ∙ c.end_of.ensures)) (fault_ends c.args.store.now.found c.args.command.now c.in-Err.fault c.in-Err.ensures.fits)
+
+pub returns-in-Err-clause-damage : goal.returns-in-Err-clause-damage
+returns-in-Err-clause-damage g c = λ told.
+    subst (λ e. NamesDamageOn c.args.store.now.found c.args.command.now e (g.D.Disk.history c.args.disk.now) (g.D.Disk.history c.carry_out.new.disk)) (sym (ap (λ (p : Progress). p.end) c.ending.ensures ∙ c.end_of.ensures))
+    (fault_damages c.args.store.now.found c.args.command.now c.in-Err.fault _ _ c.in-Err.ensures.fits (c.in-Err.ensures.damage told))
