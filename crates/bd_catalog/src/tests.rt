@@ -39,39 +39,82 @@ fn is_catalogue(alloc: Global, retain: u32, bytes: &[u8]) -> Result<bool, Fail> 
     Ok(found.is_some())
 }
 
+/// Base, newest, how many versions are retained, and the phase.
+fn numbers_of(catalog: &Catalog) -> (u32, u32, u32, Phase) {
+    (
+        catalog.base(),
+        catalog.newest(),
+        catalog.retained(),
+        catalog.phase(),
+    )
+}
+
+/// Length, chunks, fresh chunks and extents of a version.
+fn version_of(
+    alloc: Global,
+    catalog: &Catalog,
+    number: u32,
+) -> Result<Option<(u64, u64, u64, Vec<u32>)>, Fail> {
+    match catalog.version(number) {
+        Some(row) => {
+            let extents = row.recipe.numbers().to_vec(alloc)?;
+            Ok(Some((row.length, row.chunks, row.fresh, extents)))
+        }
+        None => Ok(None),
+    }
+}
+
+/// The number of rows, and the extents of a closed volume.
+fn volume_of(
+    alloc: Global,
+    catalog: &Catalog,
+    number: u32,
+) -> Result<Option<(usize, Vec<u32>)>, Fail> {
+    match catalog.volume(number) {
+        Some(volume) => {
+            let extents = volume.extents.numbers().to_vec(alloc)?;
+            Ok(Some((volume.rows.len(), extents)))
+        }
+        None => Ok(None),
+    }
+}
+
+/// The bytes that it is written as, into a buffer of other bytes, and the byte behind them.
+fn written(alloc: Global, catalog: &Catalog) -> Result<(Vec<u8>, Option<u8>), Fail> {
+    let shape = catalog.shape();
+    let mut buffer = vec![in alloc; 0xaau8; shape.payload_room() as usize]?;
+    let count = catalog.encode(&mut buffer);
+    let behind = buffer.get(count).copied();
+    buffer.truncate(count);
+    Ok((buffer, behind))
+}
+
+fn has_room(catalog: &mut Catalog) -> bool {
+    catalog.reserve().is_ok()
+}
+
 #[test]
 fn three_versions_decode_and_encode_back(rt: HostRuntime) -> Result<(), Fail> {
     let alloc = rt.alloc();
-    let shape = shape_for(4)?;
-    let found = Catalog::decode(alloc, shape, &THREE)?;
+    let found = Catalog::decode(alloc, shape_for(4)?, &THREE)?;
     let Some(mut catalog) = found else {
         return Ok(assert!(rt; false, "the bytes spell a catalogue"));
     };
-    assert_eq!(rt; catalog.reserve().is_ok(), true);
-    assert_eq!(rt; catalog.shape(), shape);
-    assert_eq!(rt; catalog.base(), 0);
-    assert_eq!(rt; catalog.newest(), 3);
-    assert_eq!(rt; catalog.retained(), 3);
-    assert_eq!(rt; catalog.phase(), Phase::Waiting { cursor: 3 });
-    if let Some(row) = catalog.version(3) {
-        assert_eq!(rt; (row.length, row.chunks, row.fresh), (5, 2, 1));
-        assert_eq!(rt; row.recipe.numbers(), [3u32, 4].as_slice());
-    }
-    assert_eq!(rt; catalog.version(0).is_some(), false);
-    assert_eq!(rt; catalog.version(4).is_some(), false);
-    if let Some(volume) = catalog.volume(2) {
-        assert_eq!(rt; volume.rows.len(), 2);
-        assert_eq!(rt; volume.extents.numbers(), [6u32, 7].as_slice());
-    }
-    assert_eq!(rt; catalog.volume(3).is_some(), false);
-    assert_eq!(rt; catalog.actives().len(), 1);
-
-    let mut buffer = vec![in alloc; 0xaau8; shape.payload_room() as usize]?;
-    let count = catalog.encode(&mut buffer);
-    assert_eq!(rt; count, 241);
-    assert_eq!(rt; buffer.get(241).copied(), Some(0xaa));
-    buffer.truncate(count);
-    assert_eq!(rt; buffer.as_slice(), THREE.as_slice());
+    assert!(rt; has_room(&mut catalog));
+    assert_eq!(rt;
+        numbers_of(&catalog),
+        (0, 3, 3, Phase::Waiting { cursor: 3 })
+    );
+    let third = version_of(alloc, &catalog, 3)?;
+    assert_eq!(rt; third, Some((5, 2, 1, vec![in alloc; 3u32, 4]?)));
+    assert!(rt; version_of(alloc, &catalog, 0)?.is_none());
+    assert!(rt; version_of(alloc, &catalog, 4)?.is_none());
+    let second = volume_of(alloc, &catalog, 2)?;
+    assert_eq!(rt; second, Some((2, vec![in alloc; 6u32, 7]?)));
+    assert!(rt; volume_of(alloc, &catalog, 3)?.is_none());
+    let (bytes, behind) = written(alloc, &catalog)?;
+    assert_eq!(rt; bytes.as_slice(), THREE.as_slice());
+    assert_eq!(rt; behind, Some(0xaa));
     Ok(())
 }
 
