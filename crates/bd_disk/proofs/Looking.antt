@@ -1,6 +1,7 @@
 -- Where a run of calls reads.
-use Rattle.std.proofs.Common.{◌≡◌, ℕ, zero, suc, ◌+◌, List, [], ◌∷◌, ◌++◌, Some, None, sym, ◌∙◌, ap, subst, arith}
+use Rattle.std.proofs.Common.{◌≡◌, ⊎_elim, ℕ, zero, suc, ◌+◌, ◌<◌, ◌≤◌, List, [], ◌∷◌, ◌++◌, Some, None, sym, ◌∙◌, ap, subst, arith}
 use Rattle.std.proofs.lemmas.List.{append_cancel_left}
+use Rattle.std.proofs.lemmas.Bool.{cases_lt}
 use Rattle.std.specs.List.{AllByRecursion}
 use Rattle.bd_disk.specs.Images.{InRange}
 use Rattle.bd_disk.specs.History.{Call, Put, Flush, Idle, History}
@@ -56,3 +57,41 @@ pub reads_within : {Places : ℕ → Type 0} {places : List ℕ} {a b : History}
 reads_within {Places} {places} {a} {b} f g =
     let same : part a f.calls ≡ places = append_cancel_left (reads a) _ _ (sym (reads_on a f.calls) ∙ ap reads (sym f.so) ∙ g.so) in
     subst (AllByRecursion Places) same (all-part Places a f.calls f.each)
+
+-- ---- back from what was read
+
+from-upward : (P : ℕ → Type 0) (at n : ℕ) → AllByRecursion P (upward at n) → (place : ℕ) → InRange at n place → P place
+unfolding upward
+from-upward P at zero all place r = absurd (omega (arith, r.0, r.1))
+from-upward P at (suc n) all place r =
+    ⊎_elim
+    (λ (past : at < place). from-upward P (at + 1) n all.1 place (omega (arith, past), omega (arith, r.1)))
+    (λ (here : place ≤ at). subst P (omega (arith, here, r.0)) all.0)
+    (cases_lt at place)
+
+from-places : (P : ℕ → Type 0) (call : Call) → AllByRecursion P (places_of (shown call)) → Looks P call
+from-places P (Put at bytes) all = tt
+from-places P Flush all = tt
+from-places P (Idle None) all = tt
+from-places P (Idle (Some (Read at n))) all = from-upward P at n all
+from-places P (Idle (Some (Write at n))) all = tt
+from-places P (Idle (Some Sync)) all = tt
+
+all-first : (P : ℕ → Type 0) (xs ys : List ℕ) → AllByRecursion P (xs ++ ys) → AllByRecursion P xs
+all-first P [] ys all = tt
+all-first P (x ∷ xs) ys all = (all.0, all-first P xs ys all.1)
+
+all-last : (P : ℕ → Type 0) (xs ys : List ℕ) → AllByRecursion P (xs ++ ys) → AllByRecursion P ys
+all-last P [] ys all = all
+all-last P (x ∷ xs) ys all = all-last P xs ys all.1
+
+from-part : (P : ℕ → Type 0) (h : History) (calls : List Call) → AllByRecursion P (part h calls) → AllByRecursion (Looks P) calls
+unfolding part
+from-part P h [] all = tt
+from-part P h (call ∷ calls) all = (from-places P call (all-last P (part h calls) (places_of (shown call)) all), from-part P h calls (all-first P (part h calls) (places_of (shown call)) all))
+
+-- a run looks where the places lie that it reads
+pub looks_from : (Places : ℕ → Type 0) {places : List ℕ} {a b : History} → AllByRecursion Places places → ReadsOnly places a b → LooksOnlyAt Places a b
+looks_from Places {places} {a} {b} all f =
+    let same : part a f.made.calls ≡ places = append_cancel_left (reads a) _ _ (sym (reads_on a f.made.calls) ∙ ap reads (sym f.made.so) ∙ f.so) in
+    record { calls = f.made.calls; so = f.made.so; each = from-part Places a f.made.calls (subst (AllByRecursion Places) (sym same) all) }

@@ -1,9 +1,8 @@
-ghost use Rattle.std.specs.Prelude.{◌≡◌, ◌≤◌, [], length, OnOk};
+ghost use Rattle.std.specs.Prelude.{◌≡◌, ◌≤◌, length, OnOk};
 ghost use Rattle.bd_disk.specs.Calls.{HasCause};
 ghost use Rattle.bd_disk.specs.History.{contents};
 ghost use Rattle.bd_disk.specs.Images.{overwritten};
-ghost use Rattle.bd_disk.specs.Looks.{LooksOnlyAt};
-ghost use Rattle.bd_disk.specs.Made.{WritesNothing, WritesOnly};
+ghost use Rattle.bd_disk.specs.Runs.{Reads, Writes};
 ghost use Rattle.bd_disk.specs.Trace.{ReadsOnly};
 ghost use Rattle.bd_model.specs.Sizes.{sizes_of, disk_bytes};
 ghost use Rattle.bd_model.specs.Extents.{owner_bytes, places_at};
@@ -13,7 +12,7 @@ use crate::piece::piece_at;
 use bd_disk::{Disk, Failed};
 use bd_model::Shape;
 
-/// Reads the bytes of an owner of these extents from `at` on, with one call of the disk for each extent that they cross.
+/// Reads the bytes of an owner of these extents from `at` on.
 pub fn read_at<D: Disk>(
     disk: &mut D,
     shape: &Shape,
@@ -24,10 +23,8 @@ pub fn read_at<D: Disk>(
     requires room { disk_bytes (sizes_of shape.now) ≤ D.bytes disk.old }
     requires numbers { AreExtents (sizes_of shape.now) extents.now }
     requires range { IsWithin (sizes_of shape.now) extents.now at (length into.old) }
-    ensures bytes { D.bytes disk.new ≡ D.bytes disk.old }
+    ensures disk { Reads D.Disk (InOwner (sizes_of shape.now) extents.now at (length into.old)) disk.old disk.new }
     ensures cause { HasCause (D.faults disk.old) (D.faults disk.new) result }
-    ensures writes { D.tells → WritesNothing (D.history disk.old) (D.history disk.new) }
-    ensures looks { D.tells → LooksOnlyAt (InOwner (sizes_of shape.now) extents.now at (length into.old)) (D.history disk.old) (D.history disk.new) }
     ensures read { OnOk result (D.tells → into.new ≡ owner_range (sizes_of shape.now) extents.now at (length into.old) (contents (D.history disk.old))) }
     ensures places { OnOk result (D.tells → ReadsOnly (places_at (sizes_of shape.now) extents.now at (length into.old)) (D.history disk.old) (D.history disk.new)) }
 {
@@ -41,7 +38,7 @@ pub fn read_at<D: Disk>(
     Ok(())
 }
 
-/// Writes the bytes of an owner of these extents from `at` on, with one call of the disk for each extent that they cross.
+/// Writes the bytes of an owner of these extents from `at` on.
 pub fn write_at<D: Disk>(
     disk: &mut D,
     shape: &Shape,
@@ -52,12 +49,9 @@ pub fn write_at<D: Disk>(
     requires room { disk_bytes (sizes_of shape.now) ≤ D.bytes disk.old }
     requires numbers { AreExtents (sizes_of shape.now) extents.now }
     requires range { IsWithin (sizes_of shape.now) extents.now at (length from.now) }
-    ensures bytes { D.bytes disk.new ≡ D.bytes disk.old }
+    ensures disk { Writes D.Disk (InOwner (sizes_of shape.now) extents.now at (length from.now)) disk.old disk.new }
     ensures cause { HasCause (D.faults disk.old) (D.faults disk.new) result }
-    ensures writes { D.tells → WritesOnly (InOwner (sizes_of shape.now) extents.now at (length from.now)) (D.history disk.old) (D.history disk.new) }
     ensures written { OnOk result (D.tells → owner_bytes (sizes_of shape.now) extents.now (contents (D.history disk.new)) ≡ overwritten (owner_bytes (sizes_of shape.now) extents.now (contents (D.history disk.old))) at from.now) }
-    // It reads nothing.
-    ensures places { D.tells → ReadsOnly [] (D.history disk.old) (D.history disk.new) }
 {
     let mut done = 0;
     while done < from.len() {

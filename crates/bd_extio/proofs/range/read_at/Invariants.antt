@@ -1,7 +1,6 @@
 use Rattle.std.proofs.Common.{◌≡◌, ◌-◌, ◌≤◌, length, take}
 use Rattle.bd_disk.specs.History.{contents}
-use Rattle.bd_disk.specs.Looks.{LooksOnlyAt}
-use Rattle.bd_disk.specs.Made.{WritesNothing}
+use Rattle.bd_disk.specs.Runs.{Reads}
 use Rattle.bd_disk.specs.Trace.{ReadsOnly}
 use Rattle.bd_model.specs.Sizes.{sizes_of}
 use Rattle.bd_model.specs.Extents.{places_at}
@@ -10,11 +9,9 @@ use Rattle.bd_extio.proofs.range.read_at.Given as goal
 
 abbrev pub invariant-loop-done : goal.invariant-loop-done
 invariant-loop-done g l = record {
-  bytes : g.D.Disk.bytes l.disk ≡ g.D.Disk.bytes l.fn.disk;
+  disk : Reads g.D.Disk (InOwner (sizes_of l.shape) l.extents l.at (length l.initial.into)) l.fn.disk l.disk;
   faults : g.D.Disk.faults l.disk ≡ g.D.Disk.faults l.fn.disk;
   within : l.done ≤ length l.into;
-  writes : g.D.Disk.tells → WritesNothing (g.D.Disk.history l.fn.disk) (g.D.Disk.history l.disk);
-  looks : g.D.Disk.tells → LooksOnlyAt (InOwner (sizes_of l.shape) l.extents l.at (length l.initial.into)) (g.D.Disk.history l.fn.disk) (g.D.Disk.history l.disk);
   taken : g.D.Disk.tells → take l.done l.into ≡ owner_range (sizes_of l.shape) l.extents l.at l.done (contents (g.D.Disk.history l.fn.disk));
   places : g.D.Disk.tells → ReadsOnly (places_at (sizes_of l.shape) l.extents l.at l.done) (g.D.Disk.history l.fn.disk) (g.D.Disk.history l.disk);
 }

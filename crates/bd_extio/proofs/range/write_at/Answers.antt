@@ -2,30 +2,26 @@ use Rattle.std.proofs.Common.{◌≡◌, ◌+◌, ◌-◌, ◌*◌, ◌%◌, ◌
 use Rattle.bd_disk.specs.History.{contents}
 use Rattle.bd_disk.specs.Images.{bytes_at, overwritten}
 use Rattle.bd_disk.proofs.Agreeing.{length-bytes_at}
-use Rattle.bd_disk.proofs.Frames.{made_none, made_both, writes_wider}
-use Rattle.bd_disk.proofs.Traces.{reads_none, reads_both, write_reads}
+use Rattle.bd_disk.proofs.RunLemmas.{both_writes, no_writes, wider_writes, write_once}
 use Rattle.bd_model.specs.Sizes.{sizes_of, disk_bytes}
 use Rattle.bd_model.specs.Extents.{owner_bytes}
-use Rattle.bd_extio.proofs.Failing.{failed_reads}
 use Rattle.bd_extio.proofs.Places.{range_small}
 use Rattle.bd_extio.proofs.Ranges.{overwritten-none, write_more, piece_in_owner}
 use Rattle.bd_extio.proofs.range.write_at.Goals as goal
 
 pub loop-done-init : goal.loop-done-init
 loop-done-init g c = record {
-  bytes = refl;
+  disk = no_writes;
   faults = refl;
   within = omega arith;
-  writes = λ told. made_none _ _;
   written = λ told. sym (overwritten-none (owner_bytes (sizes_of c.args.shape.now) c.args.extents.now (contents (g.D.Disk.history c.args.disk.now))) c.args.at);
-  places = λ told. reads_none _;
 }
 
 pub overflow_add-at : goal.overflow_add-at
 overflow_add-at g c = omega (arith, range_small (sizes_of c.args.shape.now) c.args.extents.now c.requires.numbers (omega arith) (omega arith), c.requires.range)
 
-pub returns-in_err-write-clause-writes : goal.returns-in_err-write-clause-writes
-returns-in_err-write-clause-writes g c = λ told.
+pub returns-in_err-write-clause-disk : goal.returns-in_err-write-clause-disk
+returns-in_err-write-clause-disk g c =
     let s = sizes_of c.args.shape.now in
     let done = c.loop-done.done in
     let n = c.piece_at-piece.result.length in
@@ -33,10 +29,9 @@ returns-in_err-write-clause-writes g c = λ told.
     let inside : (c.args.at + done) % s.extent + n ≤ s.extent = omega (arith, c.piece_at-piece.ensures.length) in
     let start = c.piece_at-piece.ensures.place in
     let long : length (bytes_at done (done + n - done) c.args.from.now) ≡ n = omega (arith, length-bytes_at done (done + n - done) c.args.from.now) in
-    made_both (c.loop-done.invariant.writes told) (writes_wider _ (λ place r. piece_in_owner s c.args.extents.now (omega arith) c.args.at done n (length c.args.from.now) place within inside (omega (arith, r.0, start), omega (arith, r.1, start, long))) (c.write.ensures.writes told))
-
-pub returns-in_err-write-clause-places : goal.returns-in_err-write-clause-places
-returns-in_err-write-clause-places g c = λ told. reads_both (c.loop-done.invariant.places told) (failed_reads (c.in_err-write.ensures.err told))
+    both_writes c.loop-done.invariant.disk
+    (wider_writes _ (λ place r. piece_in_owner s c.args.extents.now (omega arith) c.args.at done n (length c.args.from.now) place within inside (omega (arith, r.0, start), omega (arith, r.1, start, long)))
+    (write_once g.D.Disk _ _ c.write.result c.write.ensures.bytes c.write.ensures.ok c.write.ensures.err c.write.ensures.writes))
 
 pub loop-done-preserved : goal.loop-done-preserved
 loop-done-preserved g c =
@@ -53,17 +48,18 @@ loop-done-preserved g c =
     let count : done + n - done ≡ n = omega arith in
     let long : length (bytes_at done (done + n - done) c.args.from.now) ≡ n = omega (arith, length-bytes_at done (done + n - done) c.args.from.now) in
     record {
-      bytes = c.write.ensures.bytes ∙ c.loop-done.invariant.bytes;
+      disk =
+          both_writes c.loop-done.invariant.disk
+          (wider_writes _ (λ place r. piece_in_owner s extents some at done n (length c.args.from.now) place within inside (omega (arith, r.0, start), omega (arith, r.1, start, long)))
+          (write_once g.D.Disk _ _ c.write.result c.write.ensures.bytes c.write.ensures.ok c.write.ensures.err c.write.ensures.writes));
       faults = c.in_ok-write.ensures.cause.kept ∙ c.loop-done.invariant.faults;
       within = within;
-      writes = λ told. made_both (c.loop-done.invariant.writes told) (writes_wider _ (λ place r. piece_in_owner s extents some at done n (length c.args.from.now) place within inside (omega (arith, r.0, start), omega (arith, r.1, start, long))) (c.write.ensures.writes told));
       written = λ told.
           let image = contents (g.D.Disk.history c.args.disk.now) in
           let now = contents (g.D.Disk.history c.loop-done.disk) in
           let room : disk_bytes s ≤ length image = omega (arith, g.met.D.Disk.sized told c.args.disk.now, c.requires.room) in
-          let same : length now ≡ length image = omega (arith, g.met.D.Disk.sized told c.args.disk.now, g.met.D.Disk.sized told c.loop-done.disk, c.loop-done.invariant.bytes) in
+          let same : length now ≡ length image = omega (arith, g.met.D.Disk.sized told c.args.disk.now, g.met.D.Disk.sized told c.loop-done.disk, c.loop-done.invariant.disk.bytes) in
           ap (λ h. owner_bytes s extents (contents h)) (c.in_ok-write.ensures.ok told).so
           ∙ (λ i. owner_bytes s extents (overwritten now (start i) (bytes_at done (count i) c.args.from.now)))
           ∙ write_more s extents some image now room same c.requires.numbers at done n c.args.from.now c.piece_at-piece.ensures.some within c.requires.range inside (c.loop-done.invariant.written told);
-      places = λ told. reads_both (c.loop-done.invariant.places told) (write_reads (c.in_ok-write.ensures.ok told));
     }

@@ -1,7 +1,7 @@
--- A write that failed read nothing.
+-- A write or a sync that failed read nothing.
 use Rattle.std.proofs.Common.{◌≡◌, ℕ, List, [], ◌++◌, length, refl, ap, subst, ◌∙◌, ⊎_elim, Option, Some, None}
 use Rattle.bd_disk.specs.declared.touch.Touch.{Touch}
-use Rattle.bd_disk.specs.declared.touch.Touch.TheVariants.{Write}
+use Rattle.bd_disk.specs.declared.touch.Touch.TheVariants.{Write, Sync}
 use Rattle.bd_disk.specs.History.{History, Call, Put, Idle}
 use Rattle.bd_disk.specs.Calls.{Done, Fails, IsIdle, IsTorn}
 use Rattle.bd_disk.specs.Made.{Touches}
@@ -22,5 +22,15 @@ torn_reads at n call {a} {b} torn done =
     idle)
     torn
 
-pub failed_reads : {at n : ℕ} {a b : History} → Fails (IsTorn at n (Write at n)) a b → ReadsOnly [] a b
-failed_reads {at} {n} {a} {b} fails = ⊎_elim (λ f. torn_reads at n f.0 f.1 f.2) (λ f. reads_same f.1) fails
+pub failed_write_reads : {at n : ℕ} {a b : History} → Fails (IsTorn at n (Write at n)) a b → ReadsOnly [] a b
+failed_write_reads {at} {n} {a} {b} fails = ⊎_elim (λ f. torn_reads at n f.0 f.1 f.2) (λ f. reads_same f.1) fails
+
+pub failed_sync_reads : {a b : History} → Fails (IsIdle Sync) a b → ReadsOnly [] a b
+failed_sync_reads {a} {b} fails =
+    ⊎_elim
+    (λ (f : (call : Call) × IsIdle Sync call × Done call a b). ⊎_elim
+    (λ e. idle_reads (Some Sync) refl tt (subst (λ k. Done k a b) e f.2))
+    (λ e. idle_reads None refl tt (subst (λ k. Done k a b) e f.2))
+    f.1)
+    (λ f. reads_same f.1)
+    fails
