@@ -1,4 +1,4 @@
-ghost use Rattle.std.specs.Prelude.{◌≡◌, ℕ, ◌+◌, ◌-◌, ◌^◌, ◌<◌, ◌≤◌, min, Bool, List, [], ◌∷◌, ◌++◌, length, take, drop, true, false, Option, Some, None, IfOk, IfSome, IfNone, IsTrue, IsFalse, vec_len};
+ghost use Rattle.std.specs.Prelude.{◌≡◌, ℕ, ◌+◌, ◌-◌, ◌^◌, ◌<◌, ◌≤◌, min, Bool, List, [], ◌∷◌, ◌++◌, length, take, drop, true, false, Option, Some, None, IfOk, IfNone, MatchOption, IsTrue, IsFalse, vec_len};
 ghost use Rattle.bd_model.specs.Chunks.{Cut, chunks};
 ghost use Rattle.bd_model.specs.State.{cut_of};
 ghost use Rattle.bd_gear.specs.Chunking.{given, next_len};
@@ -75,11 +75,11 @@ impl Chunker {
         })
     }
 
-    /// Appends the first of these bytes, as many as there is room for, and gives their number. There is room for at least
-    /// half of `ROOM` once `next_length` gives None.
+    /// Appends the first of these bytes, as many as there is room for, and gives their number: it holds up to 131,072
+    /// bytes (`ROOM`), and fewer than half of that once `next_length` gave None.
     pub fn feed(&mut self, bytes: &[u8]) -> usize
         requires { IsFalse self.old.finished }
-        ensures count { result ≡ min (length bytes.now) (ROOM - length self.old.held) }
+        ensures count { result ≡ min (length bytes.now) (131072 - length self.old.held) }
         ensures appended { self.new ≡ record self.old { held = self.old.held ++ take result bytes.now } }
         ensures fed { (cut : Cut) (s : List ℕ) (taken : List (List ℕ)) → HasFed cut s taken self.old
             → HasFed cut (s ++ take result bytes.now) taken self.new }
@@ -100,9 +100,7 @@ impl Chunker {
             → result ≡ next_len cut s (place_after taken) self.old.finished }
         ensures ended { IfNone result (IsTrue self.old.finished → (cut : Cut) (s : List ℕ) (taken : List (List ℕ))
             → HasFed cut s taken self.old → taken ≡ chunks cut s) }
-        ensures within { IfSome result (λ n. (1 ≤ n) × (n ≤ length self.old.held)) }
-        ensures short { IfNone result (length self.old.held < self.old.cut.most) }
-
+        ensures sized { MatchOption result (length self.old.held < 65536) (λ n. (1 ≤ n) × (n ≤ length self.old.held)) }
         ensures given { given self.new ≡ result }
         ensures cut { self.new.cut ≡ self.old.cut }
         ensures held { self.new.held ≡ self.old.held }
