@@ -10,6 +10,3 @@ mod store;
 pub use bd_recover::{FormatFault, OpenFault};
 pub use fault::StoreFault;
 pub use store::Store;
-
-#[cfg(test)]
-mod tests;

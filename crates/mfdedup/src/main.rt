@@ -8,8 +8,6 @@ mod report;
 mod run;
 mod status;
 mod telling;
-#[cfg(test)]
-mod tests;
 mod words;
 
 use bd_disk::{Disk, FileDisk, MemDisk};
