@@ -15,7 +15,7 @@ use Rattle.bd_model.specs.Laws.{rows_with, grown, ArrangesOne, SameLayout, OneSt
 use Rattle.bd_model.proofs.ListLemmas.{filter-numbers}
 use Rattle.bd_model.proofs.HistoryLemmas.{newest-grown}
 use Rattle.bd_model.proofs.LayoutLemmas.{closed_volume-step, open_category-waiting, open_category-arranged, open_category-fresh}
-use Rattle.bd_model.proofs.RowLemmas.{no_chunks, rows-step, rows_over, rows_over-same, recorded_as-numbers, one_more}
+use Rattle.bd_model.proofs.RowLemmas.{no_chunks, rows-step, rows-end, rows_over, rows_over-same, recorded_as-numbers, one_more}
 
 none_some : (n : ℕ) → None ≡ Some n → ⊥
 none_some n e = cc
@@ -60,6 +60,7 @@ module _ (h : History) (w : List (List ℕ)) where
   arranges_one i low high some = record {
     volume = closed_volume-step h w i (omega arith) high;
     rows_grow = rows-step h w i (omega arith) high some;
+    rows_end = rows-end h w i;
     before = open_category-waiting h w i i (omega arith) high;
     category = open_category-arranged h w (i + 1) i (omega arith) high;
     other_categories = λ k other. ap (λ t. living next k (cond t (newest next) (max k (newest next - 1)))) (one_more k i other);

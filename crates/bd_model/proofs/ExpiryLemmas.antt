@@ -4,13 +4,13 @@ use Rattle.std.proofs.lemmas.Bool.{ne_eqb}
 use Rattle.std.proofs.lemmas.List.Sums.{sum_by-cons}
 use Rattle.std.specs.List.{flat_map}
 use Rattle.bd_model.specs.declared.layout.Phase.{Phase}
-use Rattle.bd_model.specs.declared.layout.Phase.TheVariants.{Settled}
+use Rattle.bd_model.specs.declared.layout.Phase.TheVariants.{Settled, Waiting}
 use Rattle.bd_model.specs.Chunks.{numbers}
 use Rattle.bd_model.specs.History.{History, version, newest, oldest, retained}
 use Rattle.bd_model.specs.Category.{category}
 use Rattle.bd_model.specs.State.{history}
 use Rattle.bd_model.specs.Layout.{closed_volume, open_category, is_arranged, is_closed, record_bytes}
-use Rattle.bd_model.specs.Room.{up, owned, recipe_bytes}
+use Rattle.bd_model.specs.Room.{up, owned, recipe_bytes, reserve_left}
 use Rattle.bd_model.specs.Step.{dropped_extents}
 use Rattle.bd_model.specs.Laws.{given_up, TakesOnlyTheOldest, ExpiryTakesOnlyTheOldest}
 use Rattle.bd_model.proofs.ListLemmas.{numbers-cons, numbers-none, filter-same}
@@ -40,11 +40,17 @@ oldest_volume h phase more =
     let full : (p : Phase) (i : ℕ) → is_closed h p (oldest h) i ≡ true = λ p i k. closed k || (nat_eq (oldest h + 1) (newest h) && is_arranged p i) in
     ap (flat_map (λ i. category h i (oldest h))) (filter-same (λ i. full phase i ∙ sym (full Settled i)) refl)
 
+reserve_left-given_up : (extent : ℕ) (h : History) (phase : Phase) → reserve_left extent (given_up h) phase ≡ reserve_left extent h phase
+unfolding reserve_left
+reserve_left-given_up extent h Settled = refl
+reserve_left-given_up extent h (Waiting cursor) = refl
+
 takes : (h : History) (phase : Phase) → 2 ≤ retained h → closed_volume h phase (oldest h) ≡ closed_volume h Settled (oldest h) → TakesOnlyTheOldest h phase
 takes h phase more same =
     let next : oldest (given_up h) ≡ oldest h + 1 = omega arith in
     record {
       extents = λ extent. owned-given_up extent h phase more same;
+      reserve = λ extent. reserve_left-given_up extent h phase;
       oldest_next = next;
       recipes = λ v. refl;
       volumes = λ j. refl;
@@ -69,13 +75,13 @@ expiry_takes_only_the_oldest = record {
   waiting = λ h phase more. takes h phase (omega arith) (oldest_volume h phase more);
   state = λ shape s more.
       let other : nat_eq (s.expired + 1) (length s.versions) ≡ false = ne_eqb _ _ (λ e. absurd (omega (arith, length-history shape s))) in
-      ap (λ t. history shape (cond t (record { base = s.base + length s.versions; versions = []; expired = 0 }) (record s { expired = s.expired + 1 }))) other;
+      ap (λ t. history shape (cond t (record s { base = s.base + length s.versions; versions = []; expired = 0 }) (record s { expired = s.expired + 1 }))) other;
   answer = λ extent h more.
       let other : nat_eq (retained h) 1 ≡ false = ne_eqb _ _ (λ e. absurd (omega arith)) in
       ap (λ t. cond t (owned extent h Settled) (dropped_extents extent h (oldest h))) other;
   last_answer = λ extent h one. ap (λ t. cond t (owned extent h Settled) (dropped_extents extent h (oldest h))) (eq-eqb (retained h) 1 one);
   last_state = λ shape s extent one.
       let last : nat_eq (s.expired + 1) (length s.versions) ≡ true = eq-eqb _ _ (omega (arith, length-history shape s)) in
-      ap (λ t. owned extent (history shape (cond t (record { base = s.base + length s.versions; versions = []; expired = 0 }) (record s { expired = s.expired + 1 }))) Settled) last
+      ap (λ t. owned extent (history shape (cond t (record s { base = s.base + length s.versions; versions = []; expired = 0 }) (record s { expired = s.expired + 1 }))) Settled) last
       ∙ nothing_owned extent (s.base + length s.versions);
 }

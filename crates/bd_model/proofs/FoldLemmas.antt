@@ -5,7 +5,7 @@ use Rattle.bd_model.specs.FileMap.{FileMap}
 use Rattle.bd_model.specs.Folds.{HeldCommand, Point, outcomes, after}
 use Rattle.bd_model.specs.State.{VersionState, IsState}
 use Rattle.bd_model.specs.Step.{Outcome, step}
-use Rattle.bd_model.specs.Laws.{Keeps, StatesStayLegal}
+use Rattle.bd_model.specs.CommandLaws.{Keeps, StatesStayLegal}
 use Rattle.bd_model.proofs.StepLemmas.{keeps, IsPhase-step}
 
 module _ (shape : Shape) (Holds : VersionState → FileMap → List HeldCommand → Type 0)

@@ -16,7 +16,7 @@ use Rattle.bd_model.specs.Marks.{Distinct}
 use Rattle.bd_model.specs.Room.{counted, need, fresh}
 use Rattle.bd_model.specs.State.{Version, VersionState, history, cut_of, last_number}
 use Rattle.bd_model.specs.Step.{Outcome, unchanged, restore, backup, free_extents, with_version, drop_oldest, expired_extents, step}
-use Rattle.bd_model.specs.Laws.{GivenChunksStayApart}
+use Rattle.bd_model.specs.CommandLaws.{GivenChunksStayApart}
 use Rattle.bd_model.proofs.ChunkListLemmas.{contains-append}
 use Rattle.bd_model.proofs.FoldLemmas.{along}
 use Rattle.bd_model.proofs.NeedLemmas.{contains-flatten}
@@ -104,7 +104,7 @@ module _ (shape : Shape) where
   leaves held s files Expire =
       let h = history shape s in
       elim (nat_eq (retained h) 0)
-      as (λ t. IfSome (cond t (Some (unchanged s files (NothingRetained None))) (Some (record { answer = Expired (oldest h) (expired_extents shape.extent h); state = drop_oldest s; files = files }))) (Leaves s [])) [
+      as (λ t. IfSome (cond t (Some (unchanged s files (NothingRetained None))) (Some (record (unchanged s files (Expired (oldest h) (expired_extents shape.extent h))) { state = drop_oldest s }))) (Leaves s [])) [
         | true ↦ in_left (all_chunks s.versions) []
         | false ↦
             elim (nat_eq (s.expired + 1) (length s.versions))

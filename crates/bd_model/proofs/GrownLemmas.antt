@@ -124,5 +124,5 @@ lines_stay = record {
   own = line-own;
   expired = λ shape s v more.
       let other : nat_eq (s.expired + 1) (length s.versions) ≡ false = ne_eqb _ _ (λ e. absurd (omega (arith, length-history shape s))) in
-      ap (λ t. let rest : VersionState = cond t (record { base = s.base + length s.versions; versions = []; expired = 0 }) (record s { expired = s.expired + 1 }) in version_line rest (history shape rest) v) other;
+      ap (λ t. let rest : VersionState = cond t (record s { base = s.base + length s.versions; versions = []; expired = 0 }) (record s { expired = s.expired + 1 }) in version_line rest (history shape rest) v) other;
 }

@@ -20,12 +20,22 @@ use Rattle.bd_model.proofs.RoomLemmas.{up-zero, need-reserve_left, owned-grown, 
 use Rattle.bd_model.proofs.CountedLemmas.{counted-above}
 use Rattle.bd_model.proofs.FromRecipesLemmas.{counted_of-above}
 
+-- what a filter drops nothing of stays whole
+kept_all : (w cs : List (List ℕ)) → filter (λ c. not (contains w c)) cs ≡ [] → filter (contains w) cs ≡ cs
+kept_all w [] none = refl
+kept_all w (c ∷ cs) none =
+    elim (contains w c) as (λ t. cond (not t) (c ∷ filter (λ d. not (contains w d)) cs) (filter (λ d. not (contains w d)) cs) ≡ [] → cond t (c ∷ filter (contains w) cs) (filter (contains w) cs) ≡ c ∷ cs) [
+      | true ↦ λ rest. ap (λ ds. c ∷ ds) (kept_all w cs rest)
+      | false ↦ λ some. absurd (cc some)
+    ] none
+
 pub a_new_version_splits_the_categories : ANewVersionSplitsTheCategories
 a_new_version_splits_the_categories = record {
   earlier = category-earlier;
   ended = λ h w i le. category-archived h w i le ∙ ap (filter (λ c. not (contains w c))) (category-newest h i);
   lived_on = λ h w i le. category-kept h w i le ∙ ap (filter (contains w)) (category-newest h i);
   begun = category-fresh;
+  untouched = λ h w i none. kept_all w (open_category h Settled i) none;
 }
 
 pub closed_volumes_grow : ClosedVolumesGrow

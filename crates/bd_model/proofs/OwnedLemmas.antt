@@ -93,7 +93,7 @@ module _ (shape : Shape) where
   fits held s files Expire is fit =
       let h = history shape s in
       elim (nat_eq (retained h) 0)
-      as (λ t. nat_eq (retained h) 0 ≡ t → IfSome (cond t (Some (unchanged s files (NothingRetained None))) (Some (record { answer = Expired (oldest h) (expired_extents shape.extent h); state = drop_oldest s; files = files }))) (λ o. Fits o.state)) [
+      as (λ t. nat_eq (retained h) 0 ≡ t → IfSome (cond t (Some (unchanged s files (NothingRetained None))) (Some (record (unchanged s files (Expired (oldest h) (expired_extents shape.extent h))) { state = drop_oldest s }))) (λ o. Fits o.state)) [
         | true ↦ λ e. fit
         | false ↦ λ e. fits-dropped s (eqb-false _ _ e) fit
       ] refl

@@ -1,10 +1,11 @@
 -- How the rows of the newest closed volume grow.
-use Rattle.std.proofs.Common.{◌≡◌, ◌≢◌, ℕ, zero, suc, ◌+◌, ◌-◌, ◌<◌, ◌≤◌, max, Bool, true, false, cond, not, ◌||◌, ◌&&◌, List, [], ◌∷◌, ◌++◌, refl, sym, ◌∙◌, ap, arith, filter, map, length, length-append, nat_lt, nat_eq, lt-ltb, le-ltb, eq-eqb, ◌⊎◌, inl, inr, ⊎_elim, sum_by}
+use Rattle.std.proofs.Common.{◌≡◌, ◌≢◌, ℕ, zero, suc, ◌+◌, ◌-◌, ◌<◌, ◌≤◌, max, Bool, true, false, cond, not, ◌||◌, ◌&&◌, List, [], ◌∷◌, ◌++◌, refl, sym, ◌∙◌, ap, arith, filter, map, length, length-append, nat_lt, nat_eq, lt-ltb, le-ltb, eq-eqb, ◌⊎◌, inl, inr, ⊎_elim, subst, sum_by}
 use Rattle.std.proofs.lemmas.Bool.{ne_eqb, cases_lt, eqb-true, eqb-false, false≢true, ltb-true, ltb-false}
 use Rattle.std.proofs.lemmas.List.{append-nil}
+use Rattle.std.proofs.lemmas.List.Elements.{All-nil, All-cons}
 use Rattle.std.proofs.lemmas.List.Sums.{sum_by-append, sum_by-cons}
 use Rattle.std.proofs.lemmas.Grind.{flat_map-append}
-use Rattle.std.specs.List.{flat_map, list_all, range_with_len}
+use Rattle.std.specs.List.{All, flat_map, list_all, range_with_len}
 use Rattle.bd_model.specs.Chunks.{numbers}
 use Rattle.bd_model.specs.History.{History, newest, oldest, contains}
 use Rattle.bd_model.specs.Category.{category}
@@ -14,7 +15,7 @@ use Rattle.bd_model.specs.Layout.{recorded_as, row_chunks, row_of, rows, record_
 use Rattle.bd_model.specs.Room.{archived}
 use Rattle.bd_model.proofs.LayoutLemmas.{closed_volume-rows, row_chunks-merged, row_chunks-later}
 use Rattle.bd_model.specs.declared.layout.Phase.{Phase}
-use Rattle.bd_model.specs.Laws.{given_up, rows_from, RowsDescribeTheVolume, row_with, rows_with}
+use Rattle.bd_model.specs.Laws.{given_up, rows_from, RowsDescribeTheVolume, row_with, rows_with, rows_more}
 use Rattle.bd_model.proofs.ListLemmas.{sum_by-flat_map, left_and, right_and, filter-same, filter-numbers, filter-numbers_none, filter-below, numbers-split, numbers-cons, numbers-none, numbers-suc}
 use Rattle.bd_model.proofs.HistoryLemmas.{grown, newest-grown}
 use Rattle.bd_model.proofs.CategoryLemmas.{category-archived, category-newest}
@@ -94,6 +95,23 @@ rows_over-all p f a (suc n) passes =
 rows_over-below : (f : ℕ → List (List ℕ)) (r a n : ℕ) → a + n ≤ r → has_no r (rows_over f (range_with_len a n)) ≡ true
 rows_over-below f r a n le = rows_over-all (λ v. not (nat_eq v r)) f a n (λ v low high. ap not (ne_eqb v r (λ e. absurd (omega arith))))
 
+-- where no start above `top` has chunks, no row has such a start
+rows_over-end : (f : ℕ → List (List ℕ)) (top a n : ℕ) → ((v : ℕ) → top < v → v < a + n → f v ≡ []) → All (λ row. row.start ≤ top) (rows_over f (range_with_len a n))
+rows_over-end f top a zero none = All-nil (λ row. row.start ≤ top)
+rows_over-end f top a (suc n) none =
+    let rest = rows_over f (range_with_len (a + 1) n) in
+    let tail = rows_over-end f top (a + 1) n (λ v above below. none v above (omega arith)) in
+    ⊎_elim
+    (λ past. ap_all (λ k. cond (nat_lt 0 (length (none a past (omega arith) k))) (row_of a (none a past (omega arith) k) ∷ rest) rest) tail)
+    (λ low. elim (nat_lt 0 (length (f a))) as (λ t. All (λ row. row.start ≤ top) (cond t (row_of a (f a) ∷ rest) rest)) [
+      | true ↦ All-cons (λ row. row.start ≤ top) (row_of a (f a)) rest low tail
+      | false ↦ tail
+    ])
+    (cases_lt top a)
+  where
+    ap_all : {xs ys : List CategoryRow} → xs ≡ ys → All (λ row. row.start ≤ top) ys → All (λ row. row.start ≤ top) xs
+    ap_all same each = subst (λ rs. All (λ row. row.start ≤ top) rs) (sym same) each
+
 -- where only the last start that has chunks gets more, the rows get them
 rows_over-more : (f g : ℕ → List (List ℕ)) (a r b : ℕ) (more : List (List ℕ)) → 1 ≤ a → a ≤ r → r ≤ b →
     ((v : ℕ) → a ≤ v → v ≤ b → v ≢ r → g v ≡ f v) → g r ≡ f r ++ more → ((v : ℕ) → r < v → v ≤ b → f v ≡ []) →
@@ -157,6 +175,11 @@ starts-rows_over f (x ∷ xs) =
       | false ↦ starts-rows_over f xs
     ]
 
+rows_with-by_number : (r : ℕ) (c : List ℕ) (cs : List (List ℕ)) (rows : List CategoryRow) → rows_with r (c ∷ cs) rows ≡ rows_more r (length (c ∷ cs)) (record_bytes (c ∷ cs)) rows
+rows_with-by_number r c cs [] = refl
+rows_with-by_number r c cs (row ∷ []) = refl
+rows_with-by_number r c cs (row ∷ second ∷ rows) = ap (λ rs. row ∷ rs) (rows_with-by_number r c cs (second ∷ rows))
+
 pub rows_describe_the_volume : RowsDescribeTheVolume
 rows_describe_the_volume = record {
   chunks = λ h phase j le.
@@ -166,6 +189,7 @@ rows_describe_the_volume = record {
       sum_by-rows_over (λ row. row.bytes) record_bytes (row_chunks h phase j) (λ r cs. refl) refl (numbers (oldest h) j)
       ∙ sym (sum_by-flat_map (λ c. 36 + length c) (row_chunks h phase j) (numbers (oldest h) j)) ∙ ap record_bytes (sym (closed_volume-rows h phase j le));
   starts = λ h phase j. starts-rows_over (row_chunks h phase j) (numbers (oldest h) j);
+  by_number = rows_with-by_number;
 }
 
 -- rows from r on stay
@@ -257,6 +281,17 @@ module _ (h : History) (w : List (List ℕ)) where
         | false ↦ λ e. let other : k ≢ oldest h = eqb-false k (oldest h) e in inr (omega arith, refl)
       ] refl
 
+  -- behind the starts before the cursor no start has chunks
+  row_chunks-none : (cursor v : ℕ) → oldest h < v → cursor ≤ v → row_chunks (grown h w) (Waiting cursor) (newest h) v ≡ []
+  row_chunks-none cursor v above past =
+      row_chunks-waiting cursor v
+      ∙ ap (flat_map cats) (filter-numbers_none _ (least v) v (λ x from to. le-ltb x cursor (⊎_elim (λ l. omega arith) (λ l. omega arith) (least_is v (omega arith)))))
+
+  pub rows-end : (cursor : ℕ) → All (λ row. row.start ≤ max (cursor - 1) (oldest h)) (rows (grown h w) (Waiting cursor) (newest h))
+  rows-end cursor =
+      rows_over-end (row_chunks (grown h w) (Waiting cursor) (newest h)) (max (cursor - 1) (oldest h)) (oldest h) (newest h + 1 - oldest h)
+      (λ v above below. row_chunks-none cursor v (omega arith) (omega arith))
+
   -- what is archived of the category i goes into the row of its recorded start
   pub rows-step : (i : ℕ) → h.base < i → i ≤ newest h → h.expired < length h.versions →
       rows (grown h w) (Waiting (i + 1)) (newest h) ≡ rows_with (max i (oldest h)) (archived h w i) (rows (grown h w) (Waiting i) (newest h))
@@ -277,7 +312,7 @@ module _ (h : History) (w : List (List ℕ)) where
       ∙ ap (flat_map cats) (filter-numbers _ _ (least v) v (λ x from to. one_more x i (λ e. ⊎_elim (λ l. other (omega arith)) (λ l. other (omega arith)) (least_is v above))))
       ∙ sym (row_chunks-waiting i v))
       (after ∙ ap (λ cs. cs ++ archived h w i) (sym before))
-      (λ v above below. row_chunks-waiting i v ∙ ap (flat_map cats) (filter-numbers_none _ (least v) v (λ x from to. le-ltb x i (⊎_elim (λ l. omega arith) (λ l. omega arith) (least_is v (omega arith))))))
+      (λ v above below. row_chunks-none i v (omega arith) (omega arith))
     where
       grows : (a r : ℕ) → 1 ≤ a → a ≤ i → i ≤ r → filter (λ x. nat_lt x (i + 1)) (numbers a r) ≡ numbers a (i - 1) ++ i ∷ []
       grows a r one from to =

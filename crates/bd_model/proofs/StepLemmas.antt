@@ -16,7 +16,8 @@ use Rattle.bd_model.specs.FileMap.{FileMap}
 use Rattle.bd_model.specs.State.{VersionState, IsState, IsPhase, history, streams, cut_of, last_number, Version}
 use Rattle.bd_model.specs.Layout.{open_category}
 use Rattle.bd_model.specs.Room.{counted, need, fresh}
-use Rattle.bd_model.specs.Laws.{Keeps, BackupsGrowTheHistory, grown}
+use Rattle.bd_model.specs.CommandLaws.{Keeps}
+use Rattle.bd_model.specs.Laws.{BackupsGrowTheHistory, grown}
 use Rattle.std.proofs.lemmas.Option.{IfSome_then}
 use Rattle.bd_model.specs.Step.{unchanged, restore, expired_extents, step, backup, free_extents, drop_oldest, with_version, next_start, phase_after_step}
 use Rattle.bd_model.proofs.ListLemmas.{IfSome-find_range_with_len}
@@ -123,7 +124,7 @@ module _ (shape : Shape) where
   keeps held s files Expire is =
       let h = history shape s in
       elim (nat_eq (retained h) 0)
-      as (λ t. nat_eq (retained h) 0 ≡ t → IfSome (cond t (Some (unchanged s files (NothingRetained None))) (Some (record { answer = Expired (oldest h) (expired_extents shape.extent h); state = drop_oldest s; files = files }))) (Keeps shape s)) [
+      as (λ t. nat_eq (retained h) 0 ≡ t → IfSome (cond t (Some (unchanged s files (NothingRetained None))) (Some (record (unchanged s files (Expired (oldest h) (expired_extents shape.extent h))) { state = drop_oldest s }))) (Keeps shape s)) [
         | true ↦ λ e. record { state = is; phase = λ phase k. k }
         | false ↦ λ e. let some : retained h ≢ 0 = eqb-false _ _ e in record { state = IsState-dropped s is (omega (arith, length-history s)); phase = IsPhase-dropped s }
       ] refl

@@ -37,10 +37,13 @@ pub record Point : Type 0 where
   pub state : VersionState
   pub files : FileMap
 
+-- what an outcome leaves
+abbrev pub point_of : Outcome → Point
+point_of o = record { state = o.state; files = o.files }
+
 -- the first is where it begins, the one of number k is where the first k commands lead
 abbrev pub points : Shape → VersionState → FileMap → List HeldCommand → List Point
-points shape s files commands =
-    record { state = s; files = files } ∷ map (λ o. record { state = o.state; files = o.files }) (outcomes shape s files commands)
+points shape s files commands = record { state = s; files = files } ∷ map point_of (outcomes shape s files commands)
 
 -- where the first k commands lead
 abbrev pub after : Shape → VersionState → FileMap → List HeldCommand → ℕ → Option Point

@@ -1,5 +1,5 @@
 -- What holds of the definitions, in the words of the subject. Each law stands on a function of its own.
-use Rattle.std.specs.Prelude.{◌≡◌, ◌≢◌, ◌↔◌, ℕ, zero, suc, ◌+◌, ◌-◌, ◌*◌, ◌%◌, ◌^◌, ◌<◌, ◌≤◌, max, ◌&&◌, List, [], ◌∷◌, ◌++◌, length, map, filter, flat_map, sum_by, take, drop, fold, slice_index, slice_range, nat_lt, ◌==◌, if◌then◌else◌, Some, None, IfSome, IsTrue}
+use Rattle.std.specs.Prelude.{◌≡◌, ◌≢◌, ◌↔◌, ℕ, zero, suc, ◌+◌, ◌-◌, ◌*◌, ◌%◌, ◌^◌, ◌<◌, ◌≤◌, max, ◌&&◌, List, [], ◌∷◌, ◌++◌, length, map, filter, flat_map, sum_by, take, drop, fold, slice_index, slice_range, nat_lt, ◌==◌, if◌then◌else◌, Some, None, IfSome, IsTrue, not, All}
 use Rattle.std.specs.Str.{bytes_eq}
 use Rattle.std.specs.List.{concat}
 use Rattle.bd_model.specs.declared.shape.Shape.{Shape}
@@ -15,7 +15,7 @@ use Rattle.bd_model.specs.History.{History, version, contains, distinct, newest,
 use Rattle.bd_model.specs.Category.{category}
 use Rattle.bd_model.specs.Layout.{record_bytes, row_of, rows, row_chunks, closed_volume, open_category, arranged_to, is_arranged}
 use Rattle.bd_model.specs.Marks.{mark, Distinct, Near}
-use Rattle.bd_model.specs.Recipe.{recipe, start_of}
+use Rattle.bd_model.specs.Recipe.{recipe, start_of, has_mark}
 use Rattle.bd_model.specs.Room.{up, owned, recipe_bytes, fresh, kept, archived, lacks_some, need, counted, reserve_left, need_of, counted_of}
 use Rattle.bd_model.specs.State.{VersionState, IsState, IsPhase, history, cut_of}
 use Rattle.bd_model.specs.Step.{Outcome, with_version, version_line, step, drop_oldest, dropped_extents, expired_extents, phase_after, next_start, phase_after_step}
@@ -76,12 +76,13 @@ abbrev pub given_up : History → History
 given_up h = record h { expired = h.expired + 1 }
 
 -- A new version leaves the categories that ended before the newest one. Of each that lived to it, what the new one lacks
--- ends there, and the rest lives on; what the newest lacks begins.
+-- ends there, and the rest lives on; what the newest lacks begins. Where nothing ends, the open category is as before.
 pub record ANewVersionSplitsTheCategories : Type 0 where
   pub earlier : (h : History) (w : List (List ℕ)) (i j : ℕ) → i ≤ newest h → j < newest h → category (grown h w) i j ≡ category h i j
   pub ended : (h : History) (w : List (List ℕ)) (i : ℕ) → i ≤ newest h → category (grown h w) i (newest h) ≡ archived h w i
   pub lived_on : (h : History) (w : List (List ℕ)) (i : ℕ) → i ≤ newest h → category (grown h w) i (newest h + 1) ≡ kept h w i
   pub begun : (h : History) (w : List (List ℕ)) → category (grown h w) (newest h + 1) (newest h + 1) ≡ fresh h w
+  pub untouched : (h : History) (w : List (List ℕ)) (i : ℕ) → archived h w i ≡ [] → kept h w i ≡ open_category h Settled i
 
 -- the chunk lies once in the category from its start in version v to `last`, and in no other one whose run goes through v
 pub record LiesInOneCategory (h : History) (v : ℕ) (c : List ℕ) : Type 0 where
@@ -109,6 +110,15 @@ entries_in old v chunks = map (λ c. record { mark = record { 0 = mark c }; leng
 pub record RecipesStay : Type 0 where
   pub earlier : (h : History) (w : List (List ℕ)) (v : ℕ) → v ≤ newest h → recipe (grown h w) v ≡ recipe h v
   pub own : (h : History) (w : List (List ℕ)) → Distinct (version h (newest h) ++ w) → recipe (grown h w) (newest h + 1) ≡ entries_in (recipe h (newest h)) (newest h + 1) w
+
+-- Where marks tell the chunks of the newest version and a new one apart, the newest recipe tells which of the new chunks
+-- are fresh, and the new recipe which chunks of an open category are used on. Marks that tell neighbouring versions apart
+-- did so before the newest one came.
+pub record MarksTellChunksApart : Type 0 where
+  pub is_fresh : (h : History) (w : List (List ℕ)) → Distinct (version h (newest h) ++ w) → filter (λ c. not (has_mark (recipe h (newest h)) (mark c))) (distinct w) ≡ fresh h w
+  pub is_used : (h : History) (w : List (List ℕ)) (i : ℕ) (c : List ℕ) → i ≤ newest h → Distinct (version h (newest h) ++ w) → IsTrue (contains (open_category h Settled i) c) →
+      has_mark (recipe (grown h w) (newest h + 1)) (mark c) ≡ contains w c
+  pub before : (h : History) (w : List (List ℕ)) → Near (grown h w) → Near h
 
 -- The line of a version in a list stays at a backup and at an expiry, and that of a new version has what the backup answers.
 pub record LinesStay : Type 0 where
@@ -144,12 +154,22 @@ rows_with r chunks [] = row_of r chunks ∷ []
 rows_with r chunks (row ∷ []) = if row.start == r then row_with row chunks ∷ [] else row ∷ row_of r chunks ∷ []
 rows_with r chunks (row ∷ rows) = row ∷ rows_with r chunks rows
 
+-- the rows after so many chunks and bytes of the recorded start r came behind theirs
+abbrev pub rows_more : ℕ → ℕ → ℕ → List CategoryRow → List CategoryRow
+rows_more r chunks bytes [] = record { start = r; chunks = chunks; bytes = bytes } ∷ []
+rows_more r chunks bytes (row ∷ []) =
+    if row.start == r
+    then record row { chunks = row.chunks + chunks; bytes = row.bytes + bytes } ∷ []
+    else row ∷ record { start = r; chunks = chunks; bytes = bytes } ∷ []
+rows_more r chunks bytes (row ∷ second ∷ rows) = row ∷ rows_more r chunks bytes (second ∷ rows)
+
 -- The rows of a closed volume count its chunks and the bytes of its records. There is one for each recorded start that
--- has chunks, in ascending order.
+-- has chunks, in ascending order. Of chunks that come behind, rows have to know only how many they are and their bytes.
 pub record RowsDescribeTheVolume : Type 0 where
   pub chunks : (h : History) (phase : Phase) (j : ℕ) → oldest h ≤ j → sum_by (λ row. row.chunks) (rows h phase j) ≡ length (closed_volume h phase j)
   pub bytes : (h : History) (phase : Phase) (j : ℕ) → oldest h ≤ j → sum_by (λ row. row.bytes) (rows h phase j) ≡ record_bytes (closed_volume h phase j)
   pub starts : (h : History) (phase : Phase) (j : ℕ) → map (λ row. row.start) (rows h phase j) ≡ filter (λ r. nat_lt 0 (length (row_chunks h phase j r))) (numbers (oldest h) j)
+  pub by_number : (r : ℕ) (c : List ℕ) (cs : List (List ℕ)) (rows : List CategoryRow) → rows_with r (c ∷ cs) rows ≡ rows_more r (length (c ∷ cs)) (record_bytes (c ∷ cs)) rows
 
 -- the rows where r becomes the oldest version: a first row of a lower start gets this one, and takes in a row that has it
 abbrev pub rows_from : ℕ → List CategoryRow → List CategoryRow
@@ -160,10 +180,11 @@ rows_from r (row ∷ second ∷ rows) =
     then record { start = r; chunks = row.chunks + second.chunks; bytes = row.bytes + second.bytes } ∷ rows
     else record row { start = max r row.start } ∷ second ∷ rows
 
--- one step of arranging the version of the chunks w, that of start i
+-- one step of arranging the version of the chunks w, that of start i; the rows before it end before that start
 pub record ArrangesOne (h : History) (w : List (List ℕ)) (i : ℕ) : Type 0 where
   pub volume : closed_volume (grown h w) (Waiting (i + 1)) (newest h) ≡ closed_volume (grown h w) (Waiting i) (newest h) ++ archived h w i
   pub rows_grow : rows (grown h w) (Waiting (i + 1)) (newest h) ≡ rows_with (max i (oldest h)) (archived h w i) (rows (grown h w) (Waiting i) (newest h))
+  pub rows_end : All (λ row. row.start ≤ max (i - 1) (oldest h)) (rows (grown h w) (Waiting i) (newest h))
   pub before : open_category (grown h w) (Waiting i) i ≡ open_category h Settled i
   pub category : open_category (grown h w) (Waiting (i + 1)) i ≡ kept h w i
   pub other_categories : (k : ℕ) → k ≢ i → open_category (grown h w) (Waiting (i + 1)) k ≡ open_category (grown h w) (Waiting i) k
@@ -190,6 +211,7 @@ pub record OneStepOfArranging : Type 0 where
 -- first two recorded starts become one
 pub record TakesOnlyTheOldest (h : History) (phase : Phase) : Type 0 where
   pub extents : (extent : ℕ) → owned extent h phase ≡ dropped_extents extent h (oldest h) + owned extent (given_up h) phase
+  pub reserve : (extent : ℕ) → reserve_left extent (given_up h) phase ≡ reserve_left extent h phase
   pub oldest_next : oldest (given_up h) ≡ oldest h + 1
   pub recipes : (v : ℕ) → recipe (given_up h) v ≡ recipe h v
   pub volumes : (j : ℕ) → closed_volume (given_up h) phase j ≡ closed_volume h phase j
@@ -281,26 +303,3 @@ pub record RecipesGiveTheCounts : Type 0 where
 -- Where marks tell all chunks of a history apart, they tell those of each two versions in a row apart.
 abbrev pub DistinctMarksAreNear : Type 0
 DistinctMarksAreNear = (h : History) → Distinct (flat_map (λ v. v) h.versions) → Near h
-
--- Where marks tell apart the chunks of what a state keeps and commands read, they do so for the state's versions, for its
--- newest version with what the first command reads, and for the other commands in what the first leaves; so too after any
--- number of them.
-pub record GivenChunksStayApart : Type 0 where
-  pub versions : (shape : Shape) (s : VersionState) (files : FileMap) (commands : List HeldCommand) → Distinct (given shape s files commands) → Distinct (flat_map (λ v. v) (history shape s).versions)
-  pub first : (shape : Shape) (s : VersionState) (files : FileMap) (c : HeldCommand) (commands : List HeldCommand) → Distinct (given shape s files (c ∷ commands)) →
-      Distinct (version (history shape s) (newest (history shape s)) ++ chunks_read shape s files c.command)
-  pub others : (shape : Shape) (s : VersionState) (files : FileMap) (c : HeldCommand) (commands : List HeldCommand) (o : Outcome) → step shape c.held s files c.command ≡ Some o →
-      Distinct (given shape s files (c ∷ commands)) → Distinct (given shape o.state o.files commands)
-  pub all : (shape : Shape) (s : VersionState) (files : FileMap) (commands : List HeldCommand) (k : ℕ) (p : Point) → after shape s files commands k ≡ Some p →
-      Distinct (given shape s files commands) → Distinct (given shape p.state p.files (drop k commands))
-
--- the state that a command leaves is legal, and every phase that was legal before it leads to one that is
-pub record Keeps (shape : Shape) (s : VersionState) (o : Outcome) : Type 0 where
-  pub state : IsState o.state
-  pub phase : (phase : Phase) → IsPhase (history shape s) phase → IsPhase (history shape o.state) (phase_after o.state phase o.answer)
-
--- A command on a legal state leaves one, with a legal phase, and so do any number of them; so does a step of arranging.
-pub record StatesStayLegal : Type 0 where
-  pub command : (shape : Shape) (held : ℕ) (s : VersionState) (files : FileMap) (command : Command) → IsState s → IfSome (step shape held s files command) (Keeps shape s)
-  pub all : (shape : Shape) (s : VersionState) (files : FileMap) (commands : List HeldCommand) (k : ℕ) (p : Point) → after shape s files commands k ≡ Some p → IsState s → IsState p.state
-  pub arranging : (h : History) (phase : Phase) → IsPhase h phase → IsPhase h (phase_after_step h phase)

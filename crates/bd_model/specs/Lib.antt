@@ -1,5 +1,6 @@
 pub mod Category
 pub mod Chunks
+pub mod CommandLaws
 pub mod Extents
 pub mod FileMap
 pub mod Folds

@@ -53,15 +53,12 @@ backed_up shape held s stream =
 abbrev pub backup : Shape → ℕ → VersionState → FileMap → List ℕ → Outcome
 backup shape held s files stream =
     let result = backed_up shape held s stream in
-    record { answer = result.0; state = result.1; files = files }
+    record (unchanged s files result.0) { state = result.1 }
 
 -- the named file holds the version afterwards
 abbrev pub restore : VersionState → FileMap → ℕ → List ℕ → Outcome
-restore s files v name = record {
-  answer = Restored v (length (stream_of s v));
-  state = s;
-  files = map.insert files name (stream_of s v);
-}
+restore s files v name =
+    record (unchanged s files (Restored v (length (stream_of s v)))) { files = map.insert files name (stream_of s v) }
 
 -- the extents that dropping version v frees: those of its closed volume and of its recipe
 abbrev pub dropped_extents : ℕ → History → ℕ → ℕ
@@ -75,7 +72,7 @@ expired_extents extent h = if retained h == 1 then owned extent h Settled else d
 abbrev pub drop_oldest : VersionState → VersionState
 drop_oldest s =
     if s.expired + 1 == length s.versions
-    then record { base = s.base + length s.versions; versions = []; expired = 0 }
+    then record s { base = s.base + length s.versions; versions = []; expired = 0 }
     else record s { expired = s.expired + 1 }
 
 -- the number of records that a settled store keeps
@@ -124,7 +121,7 @@ step shape held s files (Restore v name) =
 step shape held s files Expire =
     let h = history shape s in
     if retained h == 0 then Some (unchanged s files (NothingRetained None)) else
-    Some (record { answer = Expired (oldest h) (expired_extents shape.extent h); state = drop_oldest s; files = files })
+    Some (record (unchanged s files (Expired (oldest h) (expired_extents shape.extent h))) { state = drop_oldest s })
 step shape held s files Reorganise =
     Some (unchanged s files (Arranged (owned shape.extent (history shape s) Settled) (free_extents shape held s)))
 step shape held s files Scrub = Some (unchanged s files (Scrubbed (scrub_report (history shape s))))

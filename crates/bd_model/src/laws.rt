@@ -1,6 +1,7 @@
 //! What holds of the definitions. Each law is the contract of a function with nothing to do.
 
-ghost use Rattle.bd_model.specs.Laws.{ABackupLeavesItsReserve, ANewVersionSplitsTheCategories, ARestoreFindsEachChunkOnce, AVersionUsesAFront, BackupsGrowTheHistory, ChunksAreWithinBounds, ChunksJoinedAreTheStream, ClosedVolumesGrow, DecidedChunksStay, DistinctMarksAreNear, EachChunkLiesInOneCategory, ExpiryTakesOnlyTheOldest, GivenChunksStayApart, LinesStay, OneStepOfArranging, RecipesGiveTheCounts, RecipesStay, RefusalIsExact, RoomSuffices, RowsDescribeTheVolume, StatesStayLegal, TheHashRolls};
+ghost use Rattle.bd_model.specs.CommandLaws.{CommandsLeadOn, GivenChunksStayApart, StatesStayLegal};
+ghost use Rattle.bd_model.specs.Laws.{ABackupLeavesItsReserve, ANewVersionSplitsTheCategories, ARestoreFindsEachChunkOnce, AVersionUsesAFront, BackupsGrowTheHistory, ChunksAreWithinBounds, ChunksJoinedAreTheStream, ClosedVolumesGrow, DecidedChunksStay, DistinctMarksAreNear, EachChunkLiesInOneCategory, ExpiryTakesOnlyTheOldest, LinesStay, MarksTellChunksApart, OneStepOfArranging, RecipesGiveTheCounts, RecipesStay, RefusalIsExact, RoomSuffices, RowsDescribeTheVolume, TheHashRolls};
 
 /// The chunks of a stream, joined together, are the stream.
 pub fn chunks_joined_are_the_stream()
@@ -41,6 +42,11 @@ pub fn closed_volumes_grow()
 /// A new version leaves the recipes, and its own takes its starts from that of the version before.
 pub fn recipes_stay()
     ensures { RecipesStay }
+{}
+
+/// Where marks tell the chunks of neighbouring versions apart, recipes tell which chunks are fresh and which are used on.
+pub fn marks_tell_chunks_apart()
+    ensures { MarksTellChunksApart }
 {}
 
 /// A backup and an expiry leave the lines of the other versions, and a new version's line has what its backup answers.
@@ -103,6 +109,11 @@ pub fn recipes_give_the_counts()
 /// Where marks tell all chunks apart, they tell those of neighbouring versions apart.
 pub fn distinct_marks_are_near()
     ensures { DistinctMarksAreNear }
+{}
+
+/// Where the first commands of a list lead doesn't depend on those that follow, and the next command leads on from there.
+pub fn commands_lead_on()
+    ensures { CommandsLeadOn }
 {}
 
 /// Where marks tell all chunks apart that a store keeps and commands read, they do so at each of the commands.
