@@ -1,7 +1,6 @@
 -- Where the commands of a list lead.
 use Rattle.std.proofs.Common.{◌≡◌, ℕ, zero, suc, ◌+◌, ◌≤◌, arith, List, [], ◌∷◌, ◌++◌, refl, sym, ◌∙◌, ap, subst, map, take, Some, None, Option, slice_get}
 use Rattle.bd_model.specs.declared.shape.Shape.{Shape}
-use Rattle.bd_model.specs.declared.answer.Answer.{Answer}
 use Rattle.bd_model.specs.FileMap.{FileMap}
 use Rattle.bd_model.specs.CommandLaws.{CommandsLeadOn}
 use Rattle.bd_model.specs.Folds.{HeldCommand, Point, point_of, outcomes, after, answers_of}

@@ -1,5 +1,5 @@
 -- What holds of the definitions, in the words of the subject. Each law stands on a function of its own.
-use Rattle.std.specs.Prelude.{◌≡◌, ◌≢◌, ◌↔◌, ℕ, zero, suc, ◌+◌, ◌-◌, ◌*◌, ◌%◌, ◌^◌, ◌<◌, ◌≤◌, max, ◌&&◌, List, [], ◌∷◌, ◌++◌, length, map, filter, flat_map, sum_by, take, drop, fold, slice_index, slice_range, nat_lt, ◌==◌, if◌then◌else◌, Some, None, IfSome, IsTrue, not, All}
+use Rattle.std.specs.Prelude.{◌≡◌, ◌≢◌, ◌↔◌, ℕ, zero, suc, ◌+◌, ◌-◌, ◌*◌, ◌%◌, ◌^◌, ◌<◌, ◌≤◌, max, ◌&&◌, List, [], ◌∷◌, ◌++◌, length, map, filter, flat_map, sum_by, take, fold, slice_index, slice_range, nat_lt, ◌==◌, if◌then◌else◌, Some, None, IfSome, IsTrue, not, All}
 use Rattle.std.specs.Str.{bytes_eq}
 use Rattle.std.specs.List.{concat}
 use Rattle.bd_model.specs.declared.shape.Shape.{Shape}
@@ -10,15 +10,14 @@ use Rattle.bd_model.specs.declared.layout.Phase.{Phase}
 use Rattle.bd_model.specs.declared.layout.Phase.TheVariants.{Settled, Waiting}
 use Rattle.bd_model.specs.Chunks.{Cut, numbers, gear, window_hash, chunk_len, is_decided, chunks_after, chunks}
 use Rattle.bd_model.specs.FileMap.{FileMap}
-use Rattle.bd_model.specs.Folds.{HeldCommand, Point, after, chunks_read, given}
 use Rattle.bd_model.specs.History.{History, version, contains, distinct, newest, oldest, retained}
 use Rattle.bd_model.specs.Category.{category}
 use Rattle.bd_model.specs.Layout.{record_bytes, row_of, rows, row_chunks, closed_volume, open_category, arranged_to, is_arranged}
 use Rattle.bd_model.specs.Marks.{mark, Distinct, Near}
 use Rattle.bd_model.specs.Recipe.{recipe, start_of, has_mark}
 use Rattle.bd_model.specs.Room.{up, owned, recipe_bytes, fresh, kept, archived, lacks_some, need, counted, reserve_left, need_of, counted_of}
-use Rattle.bd_model.specs.State.{VersionState, IsState, IsPhase, history, cut_of}
-use Rattle.bd_model.specs.Step.{Outcome, with_version, version_line, step, drop_oldest, dropped_extents, expired_extents, phase_after, next_start, phase_after_step}
+use Rattle.bd_model.specs.State.{VersionState, IsState, history, cut_of}
+use Rattle.bd_model.specs.Step.{with_version, version_line, step, drop_oldest, dropped_extents, expired_extents, next_start}
 
 -- the least chunk has a byte, and is no longer than the longest
 abbrev pub IsCut : Cut → Type 0
