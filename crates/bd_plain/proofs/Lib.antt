@@ -1,5 +1,4 @@
 pub mod PlainCutLemmas
 mod PlainLemmas
-mod PlainRecipeLemmas
 mod PlainRoomLemmas
 mod PlainStateLemmas

@@ -1,10 +1,10 @@
 -- The plain program's lists, one element on.
-use Rattle.std.proofs.Common.{map, flat_map, filter, nat_lt, ◌≡◌, ℕ, ◌+◌, ◌<◌, Bool, true, false, cond, ◌||◌, List, [], ◌∷◌, ◌++◌, refl, sym, ◌∙◌, ap, take, get_or, length, ◌-◌, ◌≤◌, suc, arith, ◌&&◌}
+use Rattle.std.proofs.Common.{map, flat_map, ◌≡◌, ℕ, ◌+◌, ◌<◌, Bool, true, false, cond, ◌||◌, List, [], ◌∷◌, ◌++◌, refl, sym, ◌∙◌, ap, take, get_or, length, ◌-◌, ◌≤◌, suc, arith, ◌&&◌}
 use Rattle.std.specs.List.{list_any, list_all, range_with_len}
 use Rattle.std.proofs.lemmas.Bool.{false_from_ne_true, false≢true}
 use Rattle.std.proofs.lemmas.List.Folds.{list_all-append}
 use Rattle.std.proofs.lemmas.List.Sums.{AllPass-from_list_all}
-use Rattle.std.proofs.lemmas.List.FromFn.{length-range_with_len, get_or-range_with_len, filter_of_map_range_with_len_more}
+use Rattle.std.proofs.lemmas.List.FromFn.{length-range_with_len, get_or-range_with_len}
 use Rattle.std.specs.Str.{bytes_eq}
 use Rattle.std.specs.Prelude.{Vec}
 use Rattle.std.proofs.lemmas.List.{map_more, append-nil, map-append}
@@ -13,8 +13,7 @@ use Rattle.bd_model.specs.Chunks.{numbers}
 use Rattle.bd_model.specs.History.{contains, distinct}
 use Rattle.bd_model.proofs.ListLemmas.{range_with_len-suc}
 use Rattle.bd_model.proofs.ChunkListLemmas.{contains-distinct, distinct-push}
-use Rattle.bd_model.specs.declared.layout.CategoryRow.{CategoryRow}
-use Rattle.bd_plain.specs.Seen.{as_chunks, push_new, pushed_row, capped_row}
+use Rattle.bd_plain.specs.Seen.{as_chunks, push_new}
 
 pub contains-as_chunks : {Z : Type 0} (chunks : List (Vec ℕ Z)) (chunk : List ℕ) → contains (as_chunks chunks) chunk ≡ list_any (λ c. bytes_eq chunk c.items) chunks
 contains-as_chunks [] chunk = refl
@@ -70,23 +69,6 @@ flat_map_range f a i found part le before here =
 pub list_any-as_chunks : {Z : Type 0} (p : List ℕ → Bool) (chunks : List (Vec ℕ Z)) → list_any p (as_chunks chunks) ≡ list_any (λ c. p c.items) chunks
 list_any-as_chunks p [] = refl
 list_any-as_chunks p (c ∷ chunks) = ap (λ t. p c.items || t) (list_any-as_chunks p chunks)
-
--- one row more
-pub rows_range : (f : ℕ → CategoryRow) (a r : ℕ) (found : List CategoryRow) (row : CategoryRow) → a ≤ r →
-    found ≡ map capped_row (filter (λ x. nat_lt 0 x.chunks) (map f (range_with_len a (r - a)))) → row ≡ capped_row (f r) →
-    pushed_row found row ≡ map capped_row (filter (λ x. nat_lt 0 x.chunks) (map f (range_with_len a (r + 1 - a))))
-rows_range f a r found row le before here =
-    let some : CategoryRow → Bool = λ x. nat_lt 0 x.chunks in
-    let front = filter some (map f (range_with_len a (r - a))) in
-    let count : r + 1 - a ≡ (r - a) + 1 = omega arith in
-    let place : a + (r - a) ≡ r = omega arith in
-    (λ k. pushed_row (before k) (here k))
-    ∙ elim (some (f r)) as (λ t. cond t (map capped_row front ++ capped_row (f r) ∷ []) (map capped_row front) ≡ map capped_row (front ++ cond t (f r ∷ []) [])) [
-      | true ↦ sym (map-append capped_row front (f r ∷ []))
-      | false ↦ ap (map capped_row) (sym (append-nil front))
-    ]
-    ∙ ap (map capped_row) (sym (filter_of_map_range_with_len_more some f a (r - a) r place))
-    ∙ ap (λ n. map capped_row (filter some (map f (range_with_len a n)))) (sym count)
 
 pub map_range : {X : Type 0} (f : ℕ → X) (a i : ℕ) (found : List X) (x : X) → a ≤ i → found ≡ map f (range_with_len a (i - a)) → x ≡ f i →
     found ++ x ∷ [] ≡ map f (range_with_len a (i + 1 - a))

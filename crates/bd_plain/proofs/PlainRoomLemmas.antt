@@ -3,13 +3,13 @@ use Rattle.std.proofs.Common.{◌≡◌, ℕ, ◌+◌, ◌-◌, ◌<◌, ◌≤�
 use Rattle.std.specs.List.{range_with_len, flat_map}
 use Rattle.std.proofs.lemmas.List.Sums.{sum_by_push}
 use Rattle.bd_model.specs.Chunks.{numbers}
-use Rattle.bd_model.specs.History.{History, version, newest}
+use Rattle.bd_model.specs.History.{History, newest}
 use Rattle.bd_model.specs.Layout.{open_category, record_bytes}
-use Rattle.bd_model.specs.Room.{up, kept, lacks_some, archived, need, counted, running, reserve_left}
+use Rattle.bd_model.specs.Room.{up, kept, lacks_some, archived, need, counted, running}
 use Rattle.std.specs.Prelude.{Vec}
 use Rattle.std.proofs.lemmas.List.{take-map}
-use Rattle.bd_plain.specs.Seen.{as_chunks, capped, kept_extents, running_extents, growth_left, waiting_extents}
-use Rattle.bd_model.specs.declared.layout.Phase.TheVariants.{Settled, Waiting}
+use Rattle.bd_plain.specs.Seen.{as_chunks, capped, kept_extents, running_extents}
+use Rattle.bd_model.specs.declared.layout.Phase.TheVariants.{Settled}
 use Rattle.bd_model.proofs.ListLemmas.{sum_by-filter}
 use Rattle.bd_plain.proofs.PlainLemmas.{range_more}
 
@@ -70,18 +70,3 @@ running-take extent h chunks n = ap (running_extents extent h) (sym (take-map (�
 -- a number of 64 bits stays
 pub capped_small : (n m : ℕ) → n ≤ 18446744073709551615 → n ≡ m → n ≡ capped m
 capped_small n m small is = omega arith
-
--- what arranging has still to take, as a sum over all starts from the cursor on
-pub reserve_left-parts : (extent : ℕ) (h : History) (cursor : ℕ) →
-    reserve_left extent h (Waiting cursor) ≡ growth_left extent h (Waiting cursor) + sum_by (waiting_extents extent h (Waiting cursor)) (numbers cursor (newest h - 1))
-unfolding reserve_left
-reserve_left-parts extent h cursor =
-    ap (λ n. growth_left extent h (Waiting cursor) + n)
-    (sum_by-filter (λ i. up extent (record_bytes (open_category h Settled i))) (λ i. lacks_some (version h (newest h)) (open_category h (Waiting cursor) i)) (numbers cursor (newest h - 1)))
-
-pub reserve_left-settled : (extent : ℕ) (h : History) → reserve_left extent h Settled ≡ 0
-unfolding reserve_left
-reserve_left-settled extent h = refl
-
-pub sum_two : (a b first second two : ℕ) → first ≡ capped a → second ≡ capped b → two ≡ min (first + second) 18446744073709551615 → two ≡ capped (a + b)
-sum_two a b first second two is_a is_b is_two = omega arith

@@ -1,16 +1,14 @@
 -- The lists of the plain program as the definitions see them.
-use Rattle.std.specs.Prelude.{ℕ, ◌+◌, ◌-◌, Bool, ◌&&◌, min, List, [], ◌∷◌, ◌++◌, map, filter, flat_map, nat_lt, Vec, if◌then◌else◌}
-use Rattle.bd_model.specs.History.{History, version, newest, contains}
+use Rattle.std.specs.Prelude.{ℕ, ◌+◌, Bool, ◌&&◌, min, List, [], ◌∷◌, ◌++◌, map, filter, flat_map, Vec, if◌then◌else◌}
+use Rattle.bd_model.specs.History.{History, contains}
 use Rattle.bd_model.specs.State.{VersionState}
 use Rattle.bd_model.specs.Category.{begins, lasts, category}
-use Rattle.bd_model.specs.Layout.{is_closed, closed_volume, open_category, record_bytes}
+use Rattle.bd_model.specs.Layout.{is_closed, open_category, record_bytes}
 use Rattle.bd_model.specs.Room.{up, recipe_bytes, fresh, kept, lacks_some}
 use Rattle.bd_model.specs.declared.layout.Phase.TheVariants.{Settled}
 use Rattle.bd_model.specs.declared.layout.Phase.{Phase}
 use Rattle.bd_model.specs.declared.answer.Answer.{Answer}
 use Rattle.bd_model.specs.declared.answer.Answer.TheVariants.{BackedUp, Expired, Arranged, Scrubbed, FullExtents}
-use Rattle.bd_model.specs.declared.layout.CategoryRow.{CategoryRow}
-use Rattle.bd_model.specs.declared.layout.RecipeEntry.{RecipeEntry}
 use Rattle.bd_plain.specs.declared.history.PlainHistory.{PlainHistory}
 
 -- chunks as lists of bytes
@@ -40,18 +38,6 @@ capped n = min n 18446744073709551615
 abbrev pub closed_parts : History → Phase → ℕ → List ℕ → List (List ℕ)
 closed_parts h phase j starts = flat_map (λ i. category h i j) (filter (is_closed h phase j) starts)
 
--- the rows with one more, if it has a chunk
-abbrev pub pushed_row : List CategoryRow → CategoryRow → List CategoryRow
-pushed_row rows row = if nat_lt 0 row.chunks then rows ++ row ∷ [] else rows
-
--- the same row, with its bytes in 64 bits
-abbrev pub capped_row : CategoryRow → CategoryRow
-capped_row row = record row { bytes = capped row.bytes }
-
--- the same entry, with its length in 32 bits
-abbrev pub capped_entry : RecipeEntry → RecipeEntry
-capped_entry entry = record entry { length = min entry.length 4294967295 }
-
 -- what these chunks alone need for the fresh category and the recipe
 abbrev pub running_extents : ℕ → History → List (List ℕ) → ℕ
 running_extents extent h chunks = up extent (record_bytes (fresh h chunks)) + up extent (recipe_bytes chunks)
@@ -60,16 +46,6 @@ running_extents extent h chunks = up extent (record_bytes (fresh h chunks)) + up
 abbrev pub kept_extents : ℕ → History → List (List ℕ) → ℕ → ℕ
 kept_extents extent h chunks i =
     if lacks_some chunks (open_category h Settled i) then up extent (record_bytes (kept h chunks i)) else 0
-
--- the extents by which the closed volume before the newest version will grow
-abbrev pub growth_left : ℕ → History → Phase → ℕ
-growth_left extent h phase =
-    up extent (record_bytes (closed_volume h Settled (newest h - 1))) - up extent (record_bytes (closed_volume h phase (newest h - 1)))
-
--- what arranging keeps of the open category i, if it archives some of it
-abbrev pub waiting_extents : ℕ → History → Phase → ℕ → ℕ
-waiting_extents extent h phase i =
-    if lacks_some (version h (newest h)) (open_category h phase i) then up extent (record_bytes (open_category h Settled i)) else 0
 
 -- the state with these streams
 abbrev pub state_from : ℕ → List (List ℕ) → ℕ → VersionState

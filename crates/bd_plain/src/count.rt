@@ -23,7 +23,12 @@ pub(super) fn count(chunks: &[Vec<u8>]) -> u64
 
 impl PlainHistory {
     /// The extents that no owner has and no reader holds, of a settled store.
-    pub fn free_extents(&self, alloc: Global, shape: &Shape, held: u64) -> Result<u32, OutOfMemory>
+    pub(super) fn free_extents(
+        &self,
+        alloc: Global,
+        shape: &Shape,
+        held: u64,
+    ) -> Result<u32, OutOfMemory>
         ensures { IfOk result (λ n. n ≡ shape.now.extents - owned shape.now.extent (history_of self.now) Settled - held) }
     {
         let owned = self.owned(alloc, shape, Phase::Settled)?;
@@ -44,7 +49,7 @@ impl PlainHistory {
     }
 
     /// The extents that giving up the oldest version frees; from 2^64 - 1 on, that number.
-    pub fn expired_extents(&self, alloc: Global, shape: &Shape) -> Result<u64, OutOfMemory>
+    pub(super) fn expired_extents(&self, alloc: Global, shape: &Shape) -> Result<u64, OutOfMemory>
         ensures { IfOk result (λ n. n ≡ capped (expired_extents shape.now.extent (history_of self.now))) }
     {
         if self.retained() == 1 {
@@ -78,7 +83,7 @@ impl PlainHistory {
     }
 
     /// The number of records that a settled store keeps; from 2^64 - 1 on, that number.
-    pub fn record_count(&self, alloc: Global) -> Result<u64, OutOfMemory>
+    pub(super) fn record_count(&self, alloc: Global) -> Result<u64, OutOfMemory>
         ensures { IfOk result (λ n. n ≡ capped (record_count (history_of self.now))) }
     {
         let newest = self.newest();
@@ -99,7 +104,7 @@ impl PlainHistory {
     }
 
     /// The number of recipe entries; from 2^64 - 1 on, that number.
-    pub fn entry_count(&self) -> u64
+    pub(super) fn entry_count(&self) -> u64
         ensures { result ≡ capped (entry_count (history_of self.now)) }
     {
         self.entries_between(self.oldest(), self.newest())

@@ -1,4 +1,4 @@
-ghost use Rattle.std.specs.Prelude.{◌≡◌, ◌↔◌, ◌+◌, ◌<◌, ◌≤◌, ◌^◌, IfOk, IsSome, IfSome, vec_len};
+ghost use Rattle.std.specs.Prelude.{◌≡◌, ◌+◌, ◌<◌, ◌≤◌, ◌^◌, IfOk, vec_len};
 
 use crate::lists::{contains, distinct, push_copy};
 use std::alloc::{AllocError as OutOfMemory, Global};
@@ -6,7 +6,7 @@ use std::alloc::{AllocError as OutOfMemory, Global};
 /// The versions backed up since a store was last empty, each as the list of its chunks, oldest first. The first has the
 /// number `base + 1`, and the first `expired` of them are given up.
 #[derive(Drop)]
-pub struct PlainHistory {
+pub(super) struct PlainHistory {
     base: u32,
     versions: Vec<Vec<Vec<u8>>>,
     expired: u32,
@@ -17,17 +17,6 @@ impl PlainHistory {
     ghost use Rattle.bd_model.specs.History.{version, newest, oldest, retained};
     ghost use Rattle.bd_model.specs.Category.{begins, lasts, ends, living, category};
     ghost use Rattle.bd_plain.specs.Seen.{as_chunks, as_versions, history_of, lives};
-
-    /// None exactly where some version would have a number above 4,294,967,295.
-    pub fn new(base: u32, versions: Vec<Vec<Vec<u8>>>, expired: u32) -> Option<PlainHistory>
-        ensures numbered { IsSome result ↔ (base + vec_len versions ≤ 4294967295) }
-        ensures fields { IfSome result (λ h. history_of h ≡ record { base = base; versions = as_versions versions.items; expired = expired }) }
-    {
-        if versions.len() > u32::MAX as usize - base as usize {
-            return None;
-        }
-        Some(PlainHistory::numbered(base, versions, expired))
-    }
 
     pub(super) fn numbered(base: u32, versions: Vec<Vec<Vec<u8>>>, expired: u32) -> PlainHistory
         requires { base + vec_len versions ≤ 4294967295 }
@@ -48,7 +37,7 @@ impl PlainHistory {
     }
 
     /// The number of the version that was backed up last.
-    pub fn newest(&self) -> u64
+    pub(super) fn newest(&self) -> u64
         ensures value { result ≡ newest (history_of self.now) }
         ensures numbered { result ≤ 4294967295 }
     {
@@ -56,7 +45,7 @@ impl PlainHistory {
     }
 
     /// The number of the oldest version that isn't given up.
-    pub fn oldest(&self) -> u64
+    pub(super) fn oldest(&self) -> u64
         ensures value { result ≡ oldest (history_of self.now) }
         ensures bounded { result ≤ 8589934591 }
     {
@@ -64,14 +53,14 @@ impl PlainHistory {
     }
 
     /// How many versions aren't given up.
-    pub fn retained(&self) -> u64
+    pub(super) fn retained(&self) -> u64
         ensures { result ≡ retained (history_of self.now) }
     {
         (self.versions.len() as u64).saturating_sub(u64::from(self.expired))
     }
 
     /// The chunks of the version of this number; none where there is no such version.
-    pub fn version(&self, v: u64) -> &[Vec<u8>]
+    pub(super) fn version(&self, v: u64) -> &[Vec<u8>]
         ensures { as_chunks result.now ≡ version (history_of self.now) v }
     {
         let place = v.saturating_sub(u64::from(self.base));
@@ -135,7 +124,12 @@ impl PlainHistory {
     }
 
     /// The different chunks of version i that live from version i to version j and no longer.
-    pub fn category(&self, alloc: Global, i: u64, j: u64) -> Result<Vec<Vec<u8>>, OutOfMemory>
+    pub(super) fn category(
+        &self,
+        alloc: Global,
+        i: u64,
+        j: u64,
+    ) -> Result<Vec<Vec<u8>>, OutOfMemory>
         requires { j + 1 < 2 ^ 64 }
         ensures { IfOk result (λ v. as_chunks v.items ≡ category (history_of self.now) i j) }
     {

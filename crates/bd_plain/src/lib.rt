@@ -1,5 +1,5 @@
-//! The definitions as a plain, slow program over lists in memory, for tests to compare with. A sum that is more than
-//! 64 bits can say is answered as the greatest number of 64 bits.
+//! The chunks of a stream and one step of the version machine as plain, slow programs over lists in memory, for tests
+//! to compare with. A sum that is more than 64 bits can say is answered as the greatest number of 64 bits.
 #![tactic(auto)]
 
 mod count;
@@ -8,18 +8,11 @@ mod history;
 mod layout;
 mod lists;
 mod machine;
-mod recipe;
 mod room;
 mod state;
-
-pub use cut::chunks;
-pub use history::PlainHistory;
-pub use layout::record_bytes;
-pub use lists::{contains, distinct};
-pub use machine::{PlainOutcome, step};
-pub use recipe::mark;
-pub use room::{recipe_extents, record_extents};
-pub use state::PlainState;
-
 #[cfg(test)]
 mod tests;
+
+pub use cut::chunks;
+pub use machine::{PlainOutcome, step};
+pub use state::PlainState;

@@ -8,7 +8,7 @@ ghost use Rattle.bd_plain.specs.Seen.{as_chunks, push_new};
 use std::alloc::{AllocError as OutOfMemory, Global};
 
 /// Whether the chunk is one of these.
-pub fn contains(chunks: &[Vec<u8>], chunk: &[u8]) -> bool
+pub(super) fn contains(chunks: &[Vec<u8>], chunk: &[u8]) -> bool
     ensures { result ≡ contains (as_chunks chunks.now) chunk.now }
 {
     is_any(chunks, chunk)
@@ -44,7 +44,7 @@ fn push_new(alloc: Global, found: &mut Vec<Vec<u8>>, chunk: &[u8]) -> Result<(),
 }
 
 /// The different chunks, in the order of their first occurrence.
-pub fn distinct(alloc: Global, chunks: &[Vec<u8>]) -> Result<Vec<Vec<u8>>, OutOfMemory>
+pub(super) fn distinct(alloc: Global, chunks: &[Vec<u8>]) -> Result<Vec<Vec<u8>>, OutOfMemory>
     ensures { IfOk result (λ v. as_chunks v.items ≡ distinct (as_chunks chunks.now)) }
 {
     let mut found: Vec<Vec<u8>> = Vec::new(alloc);

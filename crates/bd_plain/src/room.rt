@@ -2,8 +2,8 @@ ghost use Rattle.std.specs.Prelude.{◌≡◌, ◌+◌, ◌<◌, ◌≤◌, ◌^
 ghost use Rattle.bd_model.specs.Chunks.{numbers};
 ghost use Rattle.bd_model.specs.History.{version};
 ghost use Rattle.bd_model.specs.Layout.{closed_volume, open_category, record_bytes};
-ghost use Rattle.bd_model.specs.Room.{up, recipe_bytes, owned, fresh, kept, archived, need, counted, reserve_left};
-ghost use Rattle.bd_plain.specs.Seen.{as_chunks, history_of, capped, running_extents, kept_extents, growth_left, waiting_extents};
+ghost use Rattle.bd_model.specs.Room.{up, recipe_bytes, owned, fresh, kept, archived, need, counted};
+ghost use Rattle.bd_plain.specs.Seen.{as_chunks, history_of, capped, running_extents, kept_extents};
 ghost use Rattle.bd_model.specs.declared.layout.Phase.TheVariants.{Settled};
 
 use crate::history::PlainHistory;
@@ -27,14 +27,14 @@ fn up(shape: &Shape, bytes: u128) -> u128
 }
 
 /// The extents of the records of these chunks; from 2^64 - 1 on, that number.
-pub fn record_extents(shape: &Shape, chunks: &[Vec<u8>]) -> u64
+pub(super) fn record_extents(shape: &Shape, chunks: &[Vec<u8>]) -> u64
     ensures { result ≡ capped (up shape.now.extent (record_bytes (as_chunks chunks.now))) }
 {
     capped(up(shape, record_bytes(chunks)))
 }
 
 /// The extents of the recipe of these chunks; from 2^64 - 1 on, that number.
-pub fn recipe_extents(shape: &Shape, chunks: &[Vec<u8>]) -> u64
+pub(super) fn recipe_extents(shape: &Shape, chunks: &[Vec<u8>]) -> u64
     ensures { result ≡ capped (up shape.now.extent (recipe_bytes (as_chunks chunks.now))) }
 {
     capped(up(shape, 40 * chunks.len() as u128))
@@ -91,7 +91,12 @@ impl PlainHistory {
     }
 
     /// The extents that are owned; from 2^64 - 1 on, that number.
-    pub fn owned(&self, alloc: Global, shape: &Shape, phase: Phase) -> Result<u64, OutOfMemory>
+    pub(super) fn owned(
+        &self,
+        alloc: Global,
+        shape: &Shape,
+        phase: Phase,
+    ) -> Result<u64, OutOfMemory>
         ensures { IfOk result (λ n. n ≡ capped (owned shape.now.extent (history_of self.now) phase)) }
     {
         let newest = self.newest();
@@ -103,7 +108,11 @@ impl PlainHistory {
     }
 
     /// The different chunks of the list that the newest version lacks.
-    pub fn fresh(&self, alloc: Global, chunks: &[Vec<u8>]) -> Result<Vec<Vec<u8>>, OutOfMemory>
+    pub(super) fn fresh(
+        &self,
+        alloc: Global,
+        chunks: &[Vec<u8>],
+    ) -> Result<Vec<Vec<u8>>, OutOfMemory>
         ensures { IfOk result (λ v. as_chunks v.items ≡ fresh (history_of self.now) (as_chunks chunks.now)) }
     {
         let different = distinct(alloc, chunks)?;
@@ -198,7 +207,12 @@ impl PlainHistory {
     }
 
     /// The extents that a backup of a stream of these chunks needs; from 2^64 - 1 on, that number.
-    pub fn need(&self, alloc: Global, shape: &Shape, chunks: &[Vec<u8>]) -> Result<u64, OutOfMemory>
+    pub(super) fn need(
+        &self,
+        alloc: Global,
+        shape: &Shape,
+        chunks: &[Vec<u8>],
+    ) -> Result<u64, OutOfMemory>
         ensures { IfOk result (λ n. n ≡ capped (need shape.now.extent (history_of self.now) (as_chunks chunks.now))) }
     {
         let running = self.running(alloc, shape, chunks)?;
@@ -214,7 +228,7 @@ impl PlainHistory {
     }
 
     /// The number that a refusal names where so many extents are free; from 2^64 - 1 on, that number.
-    pub fn counted(
+    pub(super) fn counted(
         &self,
         alloc: Global,
         shape: &Shape,
@@ -230,77 +244,5 @@ impl PlainHistory {
             }
         }
         self.need(alloc, shape, chunks)
-    }
-
-    /// The extents by which the closed volume before the newest version will grow.
-    fn growth_left(&self, alloc: Global, shape: &Shape, phase: Phase) -> Result<u64, OutOfMemory>
-        ensures { IfOk result (λ n. n ≡ capped (growth_left shape.now.extent (history_of self.now) phase)) }
-    {
-        let last = self.newest().saturating_sub(1);
-        let settled = self.closed_volume(alloc, Phase::Settled, last)?;
-        let arranged = self.closed_volume(alloc, phase, last)?;
-        let missing = up(shape, record_bytes(&settled)).saturating_sub(up(
-            shape,
-            record_bytes(&arranged),
-        ));
-        Ok(capped(missing))
-    }
-
-    /// The extents of what will be kept of the open category i, if something of it will be archived.
-    fn waiting_extents(
-        &self,
-        alloc: Global,
-        shape: &Shape,
-        phase: Phase,
-        i: u64,
-    ) -> Result<u64, OutOfMemory>
-        requires { i + 1 < 2 ^ 64 }
-        ensures { IfOk result (λ n. n ≡ capped (waiting_extents shape.now.extent (history_of self.now) phase i)) }
-    {
-        let open = self.open_category(alloc, phase, i)?;
-        if !lacks_some(self.version(self.newest()), &open) {
-            return Ok(0);
-        }
-        let kept = self.open_category(alloc, Phase::Settled, i)?;
-        Ok(record_extents(shape, &kept))
-    }
-
-    fn all_waiting(
-        &self,
-        alloc: Global,
-        shape: &Shape,
-        phase: Phase,
-        from: u64,
-        to: u64,
-    ) -> Result<u64, OutOfMemory>
-        requires { to + 1 < 2 ^ 64 }
-        ensures { IfOk result (λ n. n ≡ capped (sum_by (waiting_extents shape.now.extent (history_of self.now) phase) (numbers from to))) }
-    {
-        let mut total: u64 = 0;
-        for i in from..to + 1 {
-            let part = self.waiting_extents(alloc, shape, phase, i)?;
-            total = total.saturating_add(part);
-        }
-        Ok(total)
-    }
-
-    /// The extents that arranging has still to take; from 2^64 - 1 on, that number.
-    pub fn reserve_left(
-        &self,
-        alloc: Global,
-        shape: &Shape,
-        phase: Phase,
-    ) -> Result<u64, OutOfMemory>
-        ensures { IfOk result (λ n. n ≡ capped (reserve_left shape.now.extent (history_of self.now) phase)) }
-    {
-        match phase {
-            Phase::Settled => Ok(0),
-            Phase::Waiting { cursor } => {
-                let growth = self.growth_left(alloc, shape, phase)?;
-                let last = self.newest().saturating_sub(1);
-                let kept = self.all_waiting(alloc, shape, phase, u64::from(cursor), last)?;
-                Ok(growth.saturating_add(kept))
-            }
-        }
     }
 }

@@ -1,4 +1,4 @@
-ghost use Rattle.std.specs.Prelude.{◌≡◌, ◌↔◌, ◌+◌, ◌<◌, ◌≤◌, ◌-◌, [], ◌∷◌, IfOk, IfSome, IsSome, slice_index_or, length, vec_len};
+ghost use Rattle.std.specs.Prelude.{◌≡◌, ◌+◌, ◌<◌, ◌≤◌, ◌-◌, [], ◌∷◌, IfOk, slice_index_or, length, vec_len};
 
 use crate::cut::chunks;
 use crate::history::PlainHistory;
@@ -20,7 +20,7 @@ impl PlainState {
     ghost use Rattle.bd_model.specs.History.{retained};
     ghost use Rattle.bd_model.specs.State.{empty, history, stream_of};
     ghost use Rattle.bd_model.specs.Step.{with_version, drop_oldest};
-    ghost use Rattle.bd_plain.specs.Seen.{as_chunks, as_versions, history_of, state_from};
+    ghost use Rattle.bd_plain.specs.Seen.{as_chunks, history_of};
     ghost use Rattle.bd_plain.specs.SeenState.{state_of};
 
     /// The state of a store into which nothing was ever backed up.
@@ -34,23 +34,8 @@ impl PlainState {
         }
     }
 
-    /// None exactly where some version would have a number above 4,294,967,295.
-    pub fn new(base: u32, streams: Vec<Vec<u8>>, expired: u32) -> Option<PlainState>
-        ensures numbered { IsSome result ↔ (base + vec_len streams ≤ 4294967295) }
-        ensures fields { IfSome result (λ s. state_of s ≡ state_from base (as_chunks streams.items) expired) }
-    {
-        if streams.len() > u32::MAX as usize - base as usize {
-            return None;
-        }
-        Some(PlainState {
-            base,
-            streams,
-            expired,
-        })
-    }
-
     /// The number of the version that was backed up last.
-    pub(crate) fn newest(&self) -> u64
+    pub(super) fn newest(&self) -> u64
         ensures value { result ≡ (state_of self.now).base + length (state_of self.now).versions }
         ensures numbered { result ≡ self.now.base + vec_len self.now.streams }
     {
@@ -58,7 +43,7 @@ impl PlainState {
     }
 
     /// The bytes of the version of this number; none where there is no such version.
-    pub fn stream(&self, v: u64) -> &[u8]
+    pub(super) fn stream(&self, v: u64) -> &[u8]
         ensures { result.now ≡ stream_of (state_of self.now) v }
     {
         self.bytes_of(v)
@@ -78,7 +63,7 @@ impl PlainState {
     }
 
     /// The same versions, each as the list of its chunks.
-    pub fn history(&self, alloc: Global, shape: &Shape) -> Result<PlainHistory, OutOfMemory>
+    pub(super) fn history(&self, alloc: Global, shape: &Shape) -> Result<PlainHistory, OutOfMemory>
         ensures { IfOk result (λ h. history_of h ≡ history shape.now (state_of self.now)) }
     {
         let mut versions: Vec<Vec<Vec<u8>>> = Vec::new(alloc);
@@ -99,7 +84,7 @@ impl PlainState {
     }
 
     /// A copy with its own memory.
-    pub fn copy(&self, alloc: Global) -> Result<PlainState, OutOfMemory>
+    pub(super) fn copy(&self, alloc: Global) -> Result<PlainState, OutOfMemory>
         ensures { IfOk result (λ s. state_of s ≡ state_of self.now) }
     {
         let streams = self.copy_of_streams(alloc)?;

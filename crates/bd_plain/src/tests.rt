@@ -1,3 +1,2 @@
 mod chunks;
-mod layout;
 mod worked;
