@@ -1,11 +1,11 @@
 -- The definitions on small histories, computed.
-use Rattle.std.proofs.Common.{◌≡◌, ◌≤◌, ℕ, List, [], ◌∷◌, ◌++◌, refl, ◌∙◌, ap, map, length}
+use Rattle.std.proofs.Common.{◌≡◌, ◌≤◌, ℕ, List, [], ◌∷◌, ◌++◌, refl, ◌∙◌, ap, map}
 use Rattle.bd_model.specs.History.{History}
 use Rattle.bd_model.specs.Category.{category}
 use Rattle.bd_model.specs.Layout.{closed_volume, open_category, rows, row_of}
 use Rattle.bd_model.specs.declared.layout.Phase.TheVariants.{Settled, Waiting}
-use Rattle.bd_model.specs.Room.{need, counted, running, owned, fresh, reserve_left}
-use Rattle.bd_model.specs.Recipe.{recipe, entry_of}
+use Rattle.bd_model.specs.Room.{need, counted, running, owned, reserve_left}
+use Rattle.bd_model.specs.Recipe.{recipe}
 use Rattle.std.specs.Prelude.{codes, Option, Some, None, IsTrue}
 use Rattle.std.specs.Int.{is_power_of_two}
 use lib.Count.{ones}
@@ -25,7 +25,7 @@ use Rattle.bd_model.specs.Laws.{walk, given_up}
 use Rattle.bd_model.specs.Texts.{answer_text, texts}
 use Rattle.bd_model.specs.FileMap.{FileMap}
 use Rattle.bd_model.specs.State.{Version, VersionState, empty, cut_of, last_number}
-use Rattle.bd_model.specs.Step.{Outcome, phase_after_step, backed_up, step, record_count, entry_count, expired_extents}
+use Rattle.bd_model.specs.Step.{Outcome, phase_after_step, step}
 use Rattle.bd_model.proofs.PieceLemmas.{pieces_from, chunks_from-pieces}
 
 abbrev line : ℕ → ℕ → ℕ → ℕ → VersionLine
@@ -74,28 +74,12 @@ two_starts = history_of 0 ((a ∷ b ∷ []) ∷ (a ∷ d ∷ []) ∷ (a ∷ d �
 abbrev three_less_one : History
 three_less_one = record three { expired = 1 }
 
--- one version
-need_first : need 64 none abc ∷ owned 64 one Settled ∷ [] ≡ 4 ∷ 4 ∷ []
-unfolding need owned reserve_left counted
-need_first = refl
-
 -- a second one
-need_second : need 64 one acd ≡ 6
-unfolding need owned reserve_left counted
-need_second = refl
-
-fresh_second : fresh one acd ≡ d ∷ []
-fresh_second = refl
-
 second_volume : closed_volume two Settled 1 ≡ b ∷ []
 second_volume = refl
 
 second_open : map (open_category two Settled) (1 ∷ 2 ∷ []) ≡ (a ∷ c ∷ []) ∷ (d ∷ []) ∷ []
 second_open = refl
-
-second_owned : owned 64 two Settled ≡ 8
-unfolding need owned reserve_left counted
-second_owned = refl
 
 second_waiting : map (open_category two (Waiting 1)) (1 ∷ 2 ∷ []) ≡ (a ∷ b ∷ c ∷ []) ∷ (d ∷ []) ∷ []
 second_waiting = refl
@@ -106,10 +90,6 @@ unfolding need owned reserve_left counted
 second_rest = refl
 
 -- a third one
-need_third : need 64 two bad ≡ 5
-unfolding need owned reserve_left counted
-need_third = refl
-
 third_categories : map (category three 1) (1 ∷ 2 ∷ 3 ∷ []) ++ map (category three 2) (2 ∷ 3 ∷ []) ++ map (category three 3) (3 ∷ [])
     ≡ (b ∷ []) ∷ (c ∷ []) ∷ (a ∷ []) ∷ [] ∷ (d ∷ []) ∷ (b ∷ []) ∷ []
 third_categories = refl
@@ -117,16 +97,9 @@ third_categories = refl
 third_volumes : map (closed_volume three Settled) (1 ∷ 2 ∷ []) ≡ (b ∷ []) ∷ (c ∷ []) ∷ []
 third_volumes = refl
 
-third_owned : owned 64 three Settled ≡ 11
-unfolding need owned reserve_left counted
-third_owned = refl
-
 third_rest : map (owned 64 three) (Waiting 1 ∷ Waiting 2 ∷ Waiting 3 ∷ Settled ∷ []) ++ map (reserve_left 64 three) (Waiting 1 ∷ Waiting 2 ∷ Waiting 3 ∷ Settled ∷ []) ≡ 11 ∷ 11 ∷ 11 ∷ 11 ∷ 2 ∷ 0 ∷ 0 ∷ 0 ∷ []
 unfolding need owned reserve_left counted
 third_rest = refl
-
-third_lines : record_count three ∷ entry_count three ∷ [] ≡ 5 ∷ 9 ∷ []
-third_lines = refl
 
 -- each entry of a recipe has the version at which its chunk's run began
 starts : map (λ v. map (λ e. e.start) (recipe three v)) (1 ∷ 2 ∷ 3 ∷ []) ≡ (1 ∷ 1 ∷ 1 ∷ []) ∷ (1 ∷ 1 ∷ 2 ∷ []) ∷ (3 ∷ 1 ∷ 2 ∷ []) ∷ []
@@ -149,52 +122,12 @@ next_starts = refl
 restore_walks : walk three Settled 1 ∷ walk two (Waiting 1) 2 ∷ [] ≡ (b ∷ c ∷ a ∷ []) ∷ (a ∷ c ∷ d ∷ []) ∷ []
 restore_walks = refl
 
--- after an expiry
-expiry : expired_extents 64 three ∷ owned 64 three_less_one Settled ∷ [] ≡ 3 ∷ 8 ∷ []
-unfolding need owned reserve_left counted
-expiry = refl
-
 expiry_rows : rows three_less_one Settled 2 ≡ row_of 2 (c ∷ []) ∷ []
 expiry_rows = refl
 
 -- where both of the first two starts have chunks they become one row
 merged_rows : rows two_starts Settled 3 ∷ rows (given_up two_starts) Settled 3 ∷ [] ≡ (row_of 1 (a ∷ []) ∷ row_of 2 (d ∷ []) ∷ []) ∷ (row_of 2 (a ∷ d ∷ []) ∷ []) ∷ []
 merged_rows = refl
-
--- the same stream twice
-same_twice : need 64 one abc ∷ owned 64 (history_of 0 (abc ∷ abc ∷ [])) Settled ∷ [] ≡ 2 ∷ 6 ∷ []
-unfolding need owned reserve_left counted
-same_twice = refl
-
-same_twice_layout : map (open_category (history_of 0 (abc ∷ abc ∷ [])) Settled) (1 ∷ 2 ∷ []) ++ closed_volume (history_of 0 (abc ∷ abc ∷ [])) Settled 1 ∷ [] ≡ abc ∷ [] ∷ [] ∷ []
-same_twice_layout = refl
-
-same_twice_starts : map (λ e. e.start) (recipe (history_of 0 (abc ∷ abc ∷ [])) 2) ≡ 1 ∷ 1 ∷ 1 ∷ []
-same_twice_starts = refl
-
--- nothing in common
-nothing_common : need 64 none (a ∷ []) ∷ need 64 (history_of 0 ((a ∷ []) ∷ [])) (b ∷ []) ∷ owned 64 (history_of 0 ((a ∷ []) ∷ (b ∷ []) ∷ [])) Settled ∷ [] ≡ 2 ∷ 3 ∷ 4 ∷ []
-unfolding need owned reserve_left counted
-nothing_common = refl
-
-nothing_common_layout : map (open_category (history_of 0 ((a ∷ []) ∷ (b ∷ []) ∷ [])) Settled) (1 ∷ 2 ∷ []) ++ closed_volume (history_of 0 ((a ∷ []) ∷ (b ∷ []) ∷ [])) Settled 1 ∷ [] ≡ [] ∷ (b ∷ []) ∷ (a ∷ []) ∷ []
-nothing_common_layout = refl
-
--- one chunk three times
-three_times : need 64 none (a ∷ a ∷ a ∷ []) ∷ length (fresh none (a ∷ a ∷ a ∷ [])) ∷ [] ≡ 3 ∷ 1 ∷ []
-unfolding need owned reserve_left counted
-three_times = refl
-
-three_times_recipe : let e = entry_of (history_of 0 ((a ∷ a ∷ a ∷ []) ∷ [])) 1 a in recipe (history_of 0 ((a ∷ a ∷ a ∷ []) ∷ [])) 1 ≡ e ∷ e ∷ e ∷ []
-three_times_recipe = refl
-
--- a store that was emptied
-emptied : expired_extents 64 one ∷ need 64 (history_of 1 []) abc ∷ owned 64 (history_of 1 (abc ∷ [])) Settled ∷ [] ≡ 4 ∷ 4 ∷ 4 ∷ []
-unfolding need owned reserve_left counted
-emptied = refl
-
-emptied_starts : map (λ e. e.start) (recipe (history_of 1 (abc ∷ [])) 2) ≡ 2 ∷ 2 ∷ 2 ∷ []
-emptied_starts = refl
 
 -- what the first chunks alone need, one after the other
 running_parts : map (running 64 none abc) (1 ∷ 2 ∷ 3 ∷ []) ≡ 2 ∷ 4 ∷ 4 ∷ []
@@ -277,14 +210,6 @@ after_one = state_of ((a ++ b ++ c) ∷ [])
 
 abbrev after_three : VersionState
 after_three = state_of ((a ++ b ++ c) ∷ (a ++ c ++ d) ∷ (b ++ a ++ d) ∷ [])
-
-first_backup : backed_up small 0 empty (a ++ b ++ c) ≡ (BackedUp 1 12 3 3 4, after_one)
-unfolding need owned reserve_left counted
-first_backup = simp pieces
-
-second_without_room : backed_up nine 0 after_one (a ++ c ++ d) ≡ (FullExtents 6 5 0, after_one)
-unfolding need owned reserve_left counted
-second_without_room = simp pieces
 
 -- the outcome of a command, `files` being as they are
 abbrev outcome : Answer → VersionState → FileMap → Option Outcome
