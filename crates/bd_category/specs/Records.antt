@@ -1,7 +1,6 @@
 -- What the reading of a record finds among the bytes of an owner.
-use Rattle.std.specs.Prelude.{◌≡◌, ℕ, ◌+◌, ◌-◌, ◌≤◌, ◌&&◌, List, ◌++◌, length, take, drop, nat_lt, nat_le, Result, Ok, Err, if◌then◌else◌}
+use Rattle.std.specs.Prelude.{◌≡◌, ℕ, ◌+◌, ◌-◌, ◌&&◌, Bool, true, false, List, ◌++◌, length, take, drop, nat_lt, nat_le, Result, Ok, Err, if◌then◌else◌}
 use Rattle.std.specs.Int.{w32, from_be_bytes}
-use Rattle.bd_disk.specs.Calls.{Rose}
 use Rattle.bd_model.specs.Sizes.{Sizes}
 use Rattle.bd_model.specs.Marks.{mark}
 use Rattle.bd_model.specs.Records.{four}
@@ -50,11 +49,6 @@ AnswersBody who header body given (Err (Damaged damage)) =
     (damage ≡ BadBody who header.at header.mark (record { 0 = mark body })) × (mark body ≡ header.mark.0 → ⊥)
 AnswersBody who header body given (Err DiskFault) = Unit {0}
 
--- a fault of the disk comes only where its count rose, and every other answer only where it stayed
-abbrev pub ByCount : {T : Type 0} → ℕ → ℕ → Result T CategoryFault → Type 0
-ByCount before now (Err DiskFault) = Rose before now
-ByCount before now _ = now ≡ before
-
-pub record FailsByCount {T : Type 0} (before now : ℕ) (result : Result T CategoryFault) : Type 0 where
-  pub later : before ≤ now
-  pub cause : ByCount before now result
+abbrev pub is_disk_fault : CategoryFault → Bool
+is_disk_fault DiskFault = true
+is_disk_fault (Damaged damage) = false

@@ -1,16 +1,13 @@
-ghost use Rattle.std.specs.Prelude.{◌≡◌, ◌+◌, ◌*◌, ◌≤◌, [], ◌++◌, length, take, drop, IfOk, OnOk};
+ghost use Rattle.std.specs.Prelude.{◌≡◌, ◌+◌, ◌*◌, ◌≤◌, ◌++◌, length, take, drop, IfOk, OnOk};
 ghost use Rattle.std.specs.Int.{w32, from_be_bytes};
-ghost use Rattle.bd_disk.specs.Calls.{HasCause};
-ghost use Rattle.bd_disk.specs.History.{contents};
-ghost use Rattle.bd_disk.specs.Images.{overwritten};
-ghost use Rattle.bd_disk.specs.Made.{WritesNothing, WritesOnly};
-ghost use Rattle.bd_disk.specs.Trace.{ReadsOnly};
+ghost use Rattle.bd_disk.specs.Calls.{FailsByCount, HasCause};
+ghost use Rattle.bd_disk.specs.Runs.{Reads, Writes};
 ghost use Rattle.bd_model.specs.Sizes.{sizes_of, disk_bytes};
 ghost use Rattle.bd_model.specs.Records.{four};
-ghost use Rattle.bd_model.specs.Extents.{owner_bytes, places_at};
+ghost use Rattle.bd_extio.specs.Owned.{Overwrites, owned_on};
 ghost use Rattle.bd_extio.specs.Ranges.{AreExtents, InOwner, IsWithin};
-ghost use Rattle.bd_category.specs.Records.{AnswersBody, AnswersHeader, FailsByCount, body_at, header_at, header_in, record_with};
-ghost use Rattle.bd_category.specs.Places.{ReadsHeader, ReadsBody};
+ghost use Rattle.bd_category.specs.Records.{AnswersBody, AnswersHeader, body_at, header_at, header_in, is_disk_fault, record_with};
+ghost use Rattle.bd_category.specs.Places.{InBody, InHeader, ReadsBody, ReadsHeader};
 
 use crate::fault::{CategoryFault, Header};
 use bd_disk::{Disk, Failed};
@@ -36,11 +33,9 @@ pub fn write_chunk<D: Disk>(
     requires range { IsWithin (sizes_of shape.now) extents.now at (36 + length body.now) }
     requires some { 1 ≤ length body.now }
     requires short { length body.now ≤ shape.now.max }
-    ensures bytes { D.bytes disk.new ≡ D.bytes disk.old }
+    ensures disk { Writes D.Disk (InOwner (sizes_of shape.now) extents.now at (36 + length body.now)) disk.old disk.new }
     ensures cause { HasCause (D.faults disk.old) (D.faults disk.new) result }
-    ensures writes { D.tells → WritesOnly (InOwner (sizes_of shape.now) extents.now at (36 + length body.now)) (D.history disk.old) (D.history disk.new) }
-    ensures written { OnOk result (D.tells → owner_bytes (sizes_of shape.now) extents.now (contents (D.history disk.new)) ≡ overwritten (owner_bytes (sizes_of shape.now) extents.now (contents (D.history disk.old))) at (record_with mark.now body.now)) }
-    ensures places { D.tells → ReadsOnly [] (D.history disk.old) (D.history disk.new) }
+    ensures written { OnOk result (Overwrites D.Disk (sizes_of shape.now) extents.now at (record_with mark.now body.now) disk.old disk.new) }
 {
     let header = header_bytes(body.len() as u32, mark);
     write_at(disk, shape, extents, at, &header)?;
@@ -49,6 +44,7 @@ pub fn write_chunk<D: Disk>(
 }
 
 /// Reads the header at place `at` of the owner's bytes, in a row that ends at `end`.
+#[tactic(auto, using(bd_disk::proofs::RunLemmas::runs))]
 pub fn read_header<D: Disk>(
     disk: &mut D,
     shape: &Shape,
@@ -61,10 +57,9 @@ pub fn read_header<D: Disk>(
     requires numbers { AreExtents (sizes_of shape.now) extents.now }
     requires from { at ≤ end }
     requires to { end ≤ length extents.now * shape.now.extent }
-    ensures bytes { D.bytes disk.new ≡ D.bytes disk.old }
-    ensures cause { FailsByCount (D.faults disk.old) (D.faults disk.new) result }
-    ensures writes { D.tells → WritesNothing (D.history disk.old) (D.history disk.new) }
-    ensures header { D.tells → AnswersHeader (header_at (sizes_of shape.now) who at end (owner_bytes (sizes_of shape.now) extents.now (contents (D.history disk.old)))) result }
+    ensures disk { Reads D.Disk (InHeader (sizes_of shape.now) extents.now at end) disk.old disk.new }
+    ensures cause { FailsByCount is_disk_fault (D.faults disk.old) (D.faults disk.new) result }
+    ensures header { D.tells → AnswersHeader (header_at (sizes_of shape.now) who at end (owned_on D.Disk (sizes_of shape.now) extents.now disk.old)) result }
     ensures short { IfOk result (λ header. header.length ≤ shape.now.max) }
     ensures place { IfOk result (λ header. header.at ≡ at) }
     ensures within { IfOk result (λ header. at + 36 + header.length ≤ end) }
@@ -104,10 +99,9 @@ pub fn read_body<D: Disk>(
     requires numbers { AreExtents (sizes_of shape.now) extents.now }
     requires within { IsWithin (sizes_of shape.now) extents.now header.now.at (36 + header.now.length) }
     requires sized { length into.old ≡ header.now.length }
-    ensures bytes { D.bytes disk.new ≡ D.bytes disk.old }
-    ensures cause { FailsByCount (D.faults disk.old) (D.faults disk.new) result }
-    ensures writes { D.tells → WritesNothing (D.history disk.old) (D.history disk.new) }
-    ensures body { D.tells → AnswersBody who header.now (body_at header.now (owner_bytes (sizes_of shape.now) extents.now (contents (D.history disk.old)))) into.new result }
+    ensures disk { Reads D.Disk (InBody (sizes_of shape.now) extents.now header.now) disk.old disk.new }
+    ensures cause { FailsByCount is_disk_fault (D.faults disk.old) (D.faults disk.new) result }
+    ensures body { D.tells → AnswersBody who header.now (body_at header.now (owned_on D.Disk (sizes_of shape.now) extents.now disk.old)) into.new result }
     ensures places { D.tells → ReadsBody (sizes_of shape.now) extents.now header.now (D.history disk.old) (D.history disk.new) result }
 {
     if read_at(disk, shape, extents, header.at + HEADER as u64, into).is_err() {

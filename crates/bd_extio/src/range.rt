@@ -1,11 +1,11 @@
 ghost use Rattle.std.specs.Prelude.{◌≡◌, ◌≤◌, length, OnOk};
 ghost use Rattle.bd_disk.specs.Calls.{HasCause};
 ghost use Rattle.bd_disk.specs.History.{contents};
-ghost use Rattle.bd_disk.specs.Images.{overwritten};
 ghost use Rattle.bd_disk.specs.Runs.{Reads, Writes};
 ghost use Rattle.bd_disk.specs.Trace.{ReadsOnly};
 ghost use Rattle.bd_model.specs.Sizes.{sizes_of, disk_bytes};
-ghost use Rattle.bd_model.specs.Extents.{owner_bytes, places_at};
+ghost use Rattle.bd_model.specs.Extents.{places_at};
+ghost use Rattle.bd_extio.specs.Owned.{Overwrites};
 ghost use Rattle.bd_extio.specs.Ranges.{AreExtents, InOwner, IsWithin, owner_range};
 
 use crate::piece::piece_at;
@@ -51,7 +51,7 @@ pub fn write_at<D: Disk>(
     requires range { IsWithin (sizes_of shape.now) extents.now at (length from.now) }
     ensures disk { Writes D.Disk (InOwner (sizes_of shape.now) extents.now at (length from.now)) disk.old disk.new }
     ensures cause { HasCause (D.faults disk.old) (D.faults disk.new) result }
-    ensures written { OnOk result (D.tells → owner_bytes (sizes_of shape.now) extents.now (contents (D.history disk.new)) ≡ overwritten (owner_bytes (sizes_of shape.now) extents.now (contents (D.history disk.old))) at from.now) }
+    ensures written { OnOk result (Overwrites D.Disk (sizes_of shape.now) extents.now at from.now disk.old disk.new) }
 {
     let mut done = 0;
     while done < from.len() {
