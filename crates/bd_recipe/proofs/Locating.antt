@@ -4,8 +4,9 @@ use Rattle.std.specs.Prelude.{IsTrue, IfSome, Ok, Err, slice_get}
 use Rattle.std.specs.Borrow.{Bor}
 use Rattle.std.specs.List.{list_all}
 use Rattle.bd_disk.specs.History.{History}
-use Rattle.bd_disk.specs.Looks.{LooksOnlyAt}
+use Rattle.bd_disk.specs.Runs.{Reads}
 use Rattle.bd_disk.specs.Trace.{ReadsOnly}
+use Rattle.bd_disk.specs.declared.disk.Disk.{Ghosts}
 use Rattle.bd_model.specs.Sizes.{Sizes, sizes_of}
 use Rattle.bd_model.specs.Extents.{owner_bytes, places_at}
 use Rattle.bd_model.specs.Records.{entries_in}
@@ -13,7 +14,7 @@ use Rattle.bd_model.specs.declared.damage.Damage.{Damage}
 use Rattle.bd_model.specs.declared.damage.Damage.TheVariants.{Sum}
 use Rattle.bd_model.specs.declared.layout.RecipeEntry.{RecipeEntry}
 use Rattle.bd_model.specs.declared.shape.Shape.{Shape}
-use Rattle.bd_extio.specs.Ranges.{AreExtents, InOwner, IsWithin}
+use Rattle.bd_extio.specs.Ranges.{AreExtents, IsWithin}
 use Rattle.bd_catalog.specs.Catalogue.{Catalogue, oldest_in, recipe_extents}
 use Rattle.bd_catalog.specs.Damages.{IsSeen}
 use Rattle.bd_catalog.specs.Rules.{obeys}
@@ -22,6 +23,7 @@ use Rattle.bd_catalog.specs.Sound.{recipe_of, entry_holds}
 use Rattle.bd_catalog.specs.declared.rows.VersionRow.{VersionRow}
 use Rattle.bd_recipe.specs.Entries.{is_within, limits_for}
 use Rattle.bd_recipe.specs.Located.{IsLocated}
+use Rattle.bd_recipe.specs.Pieces.{InEntries}
 use Rattle.bd_recipe.specs.Reading.{InRecipe, IsRecipe, ReadsTo, chunks_in, length_in, recipe_found, recipe_places, total}
 use Rattle.bd_recipe.specs.declared.limits.Limits.{Limits}
 use Rattle.bd_recipe.proofs.Found.{moved, found-all, found-damaged, found-sum, is_recipe, seen-damaged, seen-sum}
@@ -45,8 +47,8 @@ located s c v shape found row extents limits some sizes rules has is numbers wit
     }
 
 module _ {s : Sizes} {c : Catalogue} {v : ℕ} {t : Sizes} {extents : List ℕ} {chunks bytes : ℕ} {limits : Limits} (at : IsLocated s c v t extents chunks bytes limits) where
-  pub looks_there : {a b : History} → LooksOnlyAt (InOwner t extents 0 (40 * chunks)) a b → LooksOnlyAt (InRecipe s c v) a b
-  looks_there {a} {b} = moved (λ x xs n l. LooksOnlyAt (InOwner x xs 0 (40 * n)) a b) at.sizes at.places at.count at.within
+  pub reads_of_version : {D : Type 0} {g : Ghosts D} {a b : D} → Reads g (InEntries t extents 0 chunks) a b → Reads g (InRecipe s c v) a b
+  reads_of_version {D} {g} {a} {b} = moved (λ x xs n l. Reads g (InEntries x xs 0 n) a b) at.sizes at.places at.count at.within
 
   pub reads_there : {a b : History} → ReadsOnly (places_at t extents 0 (40 * chunks)) a b → ReadsOnly (recipe_places s c v) a b
   reads_there {a} {b} = moved (λ x xs n l. ReadsOnly (places_at x xs 0 (40 * n)) a b) at.sizes at.places at.count at.within

@@ -1,12 +1,10 @@
 -- Pieces of a recipe that are read one behind the other.
-use Rattle.std.proofs.Common.{get_or, get_or-take, ◌≡◌, ℕ, ◌+◌, ◌*◌, ◌≤◌, ◌-◌, List, ◌++◌, length, take, drop, refl, sym, ◌∙◌, ap, subst, arith, Some, true}
+use Rattle.std.proofs.Common.{get_or, get_or-take, ◌≡◌, ℕ, ◌+◌, ◌*◌, ◌≤◌, List, ◌++◌, length, take, drop, refl, sym, ◌∙◌, ap, subst, arith, Some, true}
 use Rattle.std.proofs.Math.Seq.{take-add}
 use Rattle.std.proofs.lemmas.List.Elements.{Contains-get_or}
 use Rattle.std.specs.List.{Contains, list_all}
 use Rattle.bd_disk.specs.History.{History}
-use Rattle.bd_disk.specs.Looks.{LooksOnlyAt}
 use Rattle.bd_disk.specs.Trace.{ReadsOnly}
-use Rattle.bd_disk.proofs.Looking.{looks_wider}
 use Rattle.bd_disk.proofs.Traces.{reads_both}
 use Rattle.bd_model.specs.Sizes.{Sizes}
 use Rattle.bd_model.specs.Extents.{owner_places, places_at}
@@ -25,12 +23,6 @@ pub entries_of-range : (done count : ℕ) (owner : List ℕ) → entries_in coun
 entries_of-range done count owner = entries_in-take count (40 * count) (drop (40 * done) owner) (omega arith)
 
 module _ (s : Sizes) (extents : List ℕ) where
-  -- a range among the owner's bytes is looked at
-  pub looks_within : (at n from to : ℕ) {a b : History} → from ≤ at → at + n ≤ from + to → LooksOnlyAt (InOwner s extents at n) a b → LooksOnlyAt (InOwner s extents from to) a b
-  looks_within at n from to low high looks = looks_wider _ (λ place r.
-      let where_ : at + r.k ≡ from + (at - from + r.k) = omega (arith, low) in
-      record { k = at - from + r.k; within = omega (arith, r.within, low, high); so = r.so ∙ ap (place_of s extents) where_ }) looks
-
   -- one piece more is read
   pub reads_more : (done count now : ℕ) {a b c : History} → now ≡ done + count → ReadsOnly (places_at s extents 0 (40 * done)) a b → ReadsOnly (places_at s extents (40 * done) (40 * count)) b c → ReadsOnly (places_at s extents 0 (40 * now)) a c
   reads_more done count now {a} {b} {c} is first second =

@@ -1,16 +1,11 @@
 -- Entries that are written behind each other.
-use Rattle.std.proofs.Common.{◌≡◌, ℕ, ◌+◌, ◌*◌, ◌-◌, ◌<◌, ◌≤◌, List, [], ◌∷◌, ◌++◌, length, take, drop, get_or, sym, ◌∙◌, ap, arith, length-append}
+use Rattle.std.proofs.Common.{◌≡◌, ℕ, ◌+◌, ◌*◌, ◌<◌, ◌≤◌, List, [], ◌∷◌, ◌++◌, length, take, drop, get_or, sym, ◌∙◌, ap, arith, length-append}
 use Rattle.std.proofs.lemmas.List.{append-nil, take_more}
 use Rattle.std.proofs.lemmas.Grind.{flat_map-append}
 use Rattle.std.proofs.Math.Seq.{take-add}
-use Rattle.bd_disk.specs.History.{History}
 use Rattle.bd_disk.specs.Images.{overwritten}
-use Rattle.bd_disk.specs.Made.{WritesOnly}
-use Rattle.bd_disk.proofs.Frames.{writes_wider}
-use Rattle.bd_model.specs.Sizes.{Sizes}
 use Rattle.bd_model.specs.Records.{spelled_entry, spelled_recipe}
 use Rattle.bd_model.specs.declared.layout.RecipeEntry.{RecipeEntry}
-use Rattle.bd_extio.specs.Ranges.{InOwner, place_of}
 use Rattle.bd_recipe.proofs.Spelling.{overwritten_behind}
 
 -- one entry more
@@ -46,9 +41,3 @@ piece_more owner now at done count entries before sized fits was =
 
 pub sized_piece : (entries : List RecipeEntry) (done count : ℕ) → length (spelled_recipe (take done entries)) ≡ 40 * done → length (spelled_recipe (take count (drop done entries))) ≡ 40 * count → length (spelled_recipe (take (done + count) entries)) ≡ 40 * (done + count)
 sized_piece entries done count before sized = ap length (spelled-add entries done count) ∙ length-append (spelled_recipe (take done entries)) (spelled_recipe (take count (drop done entries))) ∙ omega (arith, before, sized)
-
--- a range among the owner's bytes is written
-pub writes_within : (s : Sizes) (extents : List ℕ) (at n from to : ℕ) {a b : History} → from ≤ at → at + n ≤ from + to → WritesOnly (InOwner s extents at n) a b → WritesOnly (InOwner s extents from to) a b
-writes_within s extents at n from to low high writes = writes_wider _ (λ place r.
-    let where_ : at + r.k ≡ from + (at - from + r.k) = omega (arith, low) in
-    record { k = at - from + r.k; within = omega (arith, r.within, low, high); so = r.so ∙ ap (place_of s extents) where_ }) writes

@@ -1,4 +1,5 @@
 pub mod Entries
 pub mod Located
 pub mod Marked
+pub mod Pieces
 pub mod Reading

@@ -1,8 +1,8 @@
 -- What the reading of a recipe finds on the disk, and what it reads.
-use Rattle.std.specs.Prelude.{◌≡◌, ℕ, ◌-◌, ◌*◌, ◌≤◌, ◌==◌, List, length, map, sum_by, slice_index_or, All, IsTrue, Option, Some, None, Result, Ok, Err, if◌then◌else◌}
-use Rattle.bd_disk.specs.Calls.{Rose}
+use Rattle.std.specs.Prelude.{◌≡◌, ℕ, ◌-◌, ◌*◌, ◌≤◌, ◌==◌, List, length, map, sum_by, slice_index_or, All, IsTrue, Bool, true, false, Option, Some, None, Result, Ok, Err, if◌then◌else◌}
 use Rattle.bd_disk.specs.History.{History}
 use Rattle.bd_disk.specs.Trace.{ReadsOnly}
+use Rattle.bd_disk.specs.declared.disk.Disk.{Ghosts}
 use Rattle.bd_model.specs.Extents.{places_at}
 use Rattle.bd_model.specs.Records.{entries_in}
 use Rattle.bd_model.specs.Roomy.{Roomy}
@@ -12,8 +12,9 @@ use Rattle.bd_model.specs.declared.damage.Damage.{Damage}
 use Rattle.bd_model.specs.declared.damage.Damage.TheVariants.{Sum}
 use Rattle.bd_catalog.specs.Catalogue.{Catalogue, oldest_in, recipe_extents}
 use Rattle.bd_catalog.specs.Sound.{recipe_of, entry_holds}
-use Rattle.bd_extio.specs.Ranges.{InOwner}
+use Rattle.bd_extio.specs.Owned.{owned_on}
 use Rattle.bd_recipe.specs.Entries.{first_bad, is_within}
+use Rattle.bd_recipe.specs.Pieces.{InEntries, entries_on}
 use Rattle.bd_recipe.specs.declared.limits.Limits.{Limits}
 use Rattle.bd_recipe.specs.declared.fault.ReadFault.{ReadFault}
 use Rattle.bd_recipe.specs.declared.fault.ReadFault.TheVariants.{DiskFault, Damaged, OutOfMemory}
@@ -65,7 +66,7 @@ abbrev pub recipe_places : Sizes → Catalogue → ℕ → List ℕ
 recipe_places s c v = places_at s (recipe_extents c v) 0 (40 * chunks_in c v)
 
 abbrev pub InRecipe : Sizes → Catalogue → ℕ → ℕ → Type 0
-InRecipe s c v place = InOwner s (recipe_extents c v) 0 (40 * chunks_in c v) place
+InRecipe s c v place = InEntries s (recipe_extents c v) 0 (chunks_in c v) place
 
 -- of every answer that comes after all was read
 abbrev pub OnRead : {T : Type 0} → Result T ReadFault → Type 0 → Type 0
@@ -81,11 +82,16 @@ pub record ReadsTo (limits : Limits) (s : Sizes) (extents owner : List ℕ) (chu
   pub bad : first_bad (is_within limits) limits.version 0 (entries_in count owner) ≡ Some damage
   pub reads : ReadsOnly (places_at s extents 0 (40 * count)) old new
 
--- a fault of the disk comes only where its count rose, and every other answer only where it stayed
-abbrev pub ByCount : {T : Type 0} → ℕ → ℕ → Result T ReadFault → Type 0
-ByCount before now (Err DiskFault) = Rose before now
-ByCount before now _ = now ≡ before
+-- where the disk tells, some entry of an owner's recipe isn't within the limits, and it was read up to that one's piece
+abbrev pub ReadsBad : {D : Type 0} → Ghosts D → Limits → Sizes → List ℕ → ℕ → Damage → D → D → Type 0
+ReadsBad g limits s extents chunks damage old new = g.tells → ReadsTo limits s extents (owned_on g s extents old) chunks damage (g.history old) (g.history new)
 
-pub record FailsByCount {T : Type 0} (before now : ℕ) (result : Result T ReadFault) : Type 0 where
-  pub later : before ≤ now
-  pub cause : ByCount before now result
+-- where the disk tells, this is the first of so many entries from one on that isn't within the limits
+abbrev pub HasBad : {D : Type 0} → Ghosts D → Limits → Sizes → List ℕ → ℕ → ℕ → Damage → D → Type 0
+HasBad g limits s extents index count damage disk = g.tells → first_bad (is_within limits) limits.version index (entries_on g s extents index count disk) ≡ Some damage
+
+-- a fault of the disk
+abbrev pub is_disk_fault : ReadFault → Bool
+is_disk_fault DiskFault = true
+is_disk_fault (Damaged damage) = false
+is_disk_fault OutOfMemory = false

@@ -1,17 +1,18 @@
-ghost use Rattle.std.specs.Prelude.{◌≡◌, ◌+◌, ◌*◌, ◌≤◌, ◌<◌, ◌++◌, ◌^◌, length, drop, All, IsTrue, OnOk, IfOk, IfErr, Some};
+ghost use Rattle.std.specs.Prelude.{◌≡◌, ◌+◌, ◌*◌, ◌≤◌, ◌<◌, ◌++◌, ◌^◌, length, All, IsTrue, OnOk, IfOk, IfErr, Some};
 ghost use Rattle.std.specs.List.{list_all};
+ghost use Rattle.bd_disk.specs.Calls.{FailsByCount};
 ghost use Rattle.bd_disk.specs.History.{contents};
-ghost use Rattle.bd_disk.specs.Looks.{LooksOnlyAt};
-ghost use Rattle.bd_disk.specs.Made.{WritesNothing};
+ghost use Rattle.bd_disk.specs.Runs.{Reads};
 ghost use Rattle.bd_disk.specs.Trace.{ReadsOnly};
 ghost use Rattle.bd_model.specs.Sizes.{sizes_of, disk_bytes};
-ghost use Rattle.bd_model.specs.Extents.{owner_bytes, places_at};
 ghost use Rattle.bd_model.specs.Records.{entries_in};
-ghost use Rattle.bd_extio.specs.Ranges.{AreExtents, InOwner, IsWithin};
+ghost use Rattle.bd_extio.specs.Owned.{owned_on};
+ghost use Rattle.bd_extio.specs.Ranges.{AreExtents, IsWithin};
 ghost use Rattle.bd_catalog.specs.Catalogue.{oldest_in};
 ghost use Rattle.bd_catalog.specs.Damages.{IsSeen};
 ghost use Rattle.bd_recipe.specs.Entries.{first_bad, is_within};
-ghost use Rattle.bd_recipe.specs.Reading.{AnswersRecipe, FailsByCount, IfDamaged, InRecipe, IsRecipe, OnRead, ReadsTo, recipe_found, recipe_places, total};
+ghost use Rattle.bd_recipe.specs.Pieces.{InEntries, entries_on, entry_places};
+ghost use Rattle.bd_recipe.specs.Reading.{AnswersRecipe, HasBad, IfDamaged, InRecipe, IsRecipe, OnRead, ReadsBad, is_disk_fault, recipe_found, recipe_places, total};
 
 use crate::entry::{BUFFER, ENTRY, PIECE, entry_from};
 use crate::fault::ReadFault;
@@ -37,11 +38,9 @@ pub fn read_recipe<D: Disk>(
     requires room { disk_bytes catalog.now.found.sizes ≤ D.bytes disk.old }
     requires oldest { oldest_in catalog.now.found.catalogue ≤ version }
     requires newest { version ≤ catalog.now.found.catalogue.newest }
-    ensures bytes { D.bytes disk.new ≡ D.bytes disk.old }
-    ensures cause { FailsByCount (D.faults disk.old) (D.faults disk.new) result }
+    ensures disk { Reads D.Disk (InRecipe catalog.now.found.sizes catalog.now.found.catalogue version) disk.old disk.new }
+    ensures cause { FailsByCount is_disk_fault (D.faults disk.old) (D.faults disk.new) result }
     ensures recipe { IfOk result (λ recipe. IsRecipe catalog.now.found.sizes catalog.now.found.catalogue version recipe.items) }
-    ensures writes { D.tells → WritesNothing (D.history disk.old) (D.history disk.new) }
-    ensures looks { D.tells → LooksOnlyAt (InRecipe catalog.now.found.sizes catalog.now.found.catalogue version) (D.history disk.old) (D.history disk.new) }
     ensures entries { D.tells → AnswersRecipe (recipe_found catalog.now.found.sizes catalog.now.found.catalogue (contents (D.history disk.old)) version) result }
     ensures places { OnOk result (D.tells → ReadsOnly (recipe_places catalog.now.found.sizes catalog.now.found.catalogue version) (D.history disk.old) (D.history disk.new)) }
     ensures seen { IfDamaged result (λ damage. D.tells → IsSeen catalog.now.found.sizes catalog.now.found.catalogue (contents (D.history disk.old)) damage (D.history disk.old) (D.history disk.new)) }
@@ -67,7 +66,8 @@ pub fn read_recipe<D: Disk>(
     Ok(recipe)
 }
 
-// Reads all entries of an owner's recipe, with one read of the owner's bytes for each piece of them.
+// Reads all entries of an owner's recipe.
+#[tactic(auto, using(bd_disk::proofs::RunLemmas::runs))]
 fn read_entries<D: Disk>(
     alloc: Global,
     disk: &mut D,
@@ -79,15 +79,13 @@ fn read_entries<D: Disk>(
     requires room { disk_bytes (sizes_of shape.now) ≤ D.bytes disk.old }
     requires numbers { AreExtents (sizes_of shape.now) extents.now }
     requires range { IsWithin (sizes_of shape.now) extents.now 0 (40 * chunks) }
-    ensures bytes { D.bytes disk.new ≡ D.bytes disk.old }
-    ensures cause { FailsByCount (D.faults disk.old) (D.faults disk.new) result }
-    ensures writes { D.tells → WritesNothing (D.history disk.old) (D.history disk.new) }
-    ensures looks { D.tells → LooksOnlyAt (InOwner (sizes_of shape.now) extents.now 0 (40 * chunks)) (D.history disk.old) (D.history disk.new) }
+    ensures disk { Reads D.Disk (InEntries (sizes_of shape.now) extents.now 0 chunks) disk.old disk.new }
+    ensures cause { FailsByCount is_disk_fault (D.faults disk.old) (D.faults disk.new) result }
     ensures count { IfOk result (λ recipe. length recipe.items ≡ chunks) }
     ensures hold { IfOk result (λ recipe. IsTrue (list_all (is_within limits.now) recipe.items)) }
-    ensures items { IfOk result (λ recipe. D.tells → recipe.items ≡ entries_in chunks (owner_bytes (sizes_of shape.now) extents.now (contents (D.history disk.old)))) }
-    ensures damage { IfDamaged result (λ damage. D.tells → ReadsTo limits.now (sizes_of shape.now) extents.now (owner_bytes (sizes_of shape.now) extents.now (contents (D.history disk.old))) chunks damage (D.history disk.old) (D.history disk.new)) }
-    ensures places { OnOk result (D.tells → ReadsOnly (places_at (sizes_of shape.now) extents.now 0 (40 * chunks)) (D.history disk.old) (D.history disk.new)) }
+    ensures items { IfOk result (λ recipe. D.tells → recipe.items ≡ entries_in chunks (owned_on D.Disk (sizes_of shape.now) extents.now disk.old)) }
+    ensures damage { IfDamaged result (λ damage. ReadsBad D.Disk limits.now (sizes_of shape.now) extents.now chunks damage disk.old disk.new) }
+    ensures places { OnOk result (D.tells → ReadsOnly (entry_places (sizes_of shape.now) extents.now 0 chunks) (D.history disk.old) (D.history disk.new)) }
 {
     let mut recipe = Recipe::new(alloc);
     recipe.reserve(chunks as usize)?;
@@ -116,16 +114,14 @@ fn read_piece<D: Disk>(
     requires sized { length piece.old ≡ 40 * count }
     requires spare { count ≤ recipe.old.spare }
     requires hold { IsTrue (list_all (is_within limits.now) recipe.old.items) }
-    ensures bytes { D.bytes disk.new ≡ D.bytes disk.old }
-    ensures cause { FailsByCount (D.faults disk.old) (D.faults disk.new) result }
-    ensures writes { D.tells → WritesNothing (D.history disk.old) (D.history disk.new) }
-    ensures looks { D.tells → LooksOnlyAt (InOwner (sizes_of shape.now) extents.now (40 * length recipe.old.items) (40 * count)) (D.history disk.old) (D.history disk.new) }
+    ensures disk { Reads D.Disk (InEntries (sizes_of shape.now) extents.now (length recipe.old.items) count) disk.old disk.new }
+    ensures cause { FailsByCount is_disk_fault (D.faults disk.old) (D.faults disk.new) result }
     ensures count { OnOk result (length recipe.new.items ≡ length recipe.old.items + count) }
     ensures hold { OnOk result (IsTrue (list_all (is_within limits.now) recipe.new.items)) }
     ensures spare { OnOk result (recipe.old.spare ≤ recipe.new.spare + count) }
-    ensures items { OnOk result (D.tells → recipe.new.items ≡ recipe.old.items ++ entries_in count (drop (40 * length recipe.old.items) (owner_bytes (sizes_of shape.now) extents.now (contents (D.history disk.old))))) }
-    ensures damage { IfDamaged result (λ damage. D.tells → first_bad (is_within limits.now) limits.now.version (length recipe.old.items) (entries_in count (drop (40 * length recipe.old.items) (owner_bytes (sizes_of shape.now) extents.now (contents (D.history disk.old))))) ≡ Some damage) }
-    ensures places { OnRead result (D.tells → ReadsOnly (places_at (sizes_of shape.now) extents.now (40 * length recipe.old.items) (40 * count)) (D.history disk.old) (D.history disk.new)) }
+    ensures items { OnOk result (D.tells → recipe.new.items ≡ recipe.old.items ++ entries_on D.Disk (sizes_of shape.now) extents.now (length recipe.old.items) count disk.old) }
+    ensures damage { IfDamaged result (λ damage. HasBad D.Disk limits.now (sizes_of shape.now) extents.now (length recipe.old.items) count damage disk.old) }
+    ensures places { OnRead result (D.tells → ReadsOnly (entry_places (sizes_of shape.now) extents.now (length recipe.old.items) count) (D.history disk.old) (D.history disk.new)) }
 {
     let at = ENTRY as u64 * recipe.len() as u64;
     read_at(disk, shape, extents, at, piece)?;

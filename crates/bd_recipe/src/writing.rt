@@ -1,21 +1,18 @@
-ghost use Rattle.std.specs.Prelude.{◌≡◌, ◌*◌, ◌≤◌, [], length, OnOk};
+ghost use Rattle.std.specs.Prelude.{◌≡◌, ◌*◌, ◌≤◌, length, OnOk};
 ghost use Rattle.bd_disk.specs.Calls.{HasCause};
-ghost use Rattle.bd_disk.specs.History.{contents};
-ghost use Rattle.bd_disk.specs.Images.{overwritten};
-ghost use Rattle.bd_disk.specs.Made.{WritesOnly};
-ghost use Rattle.bd_disk.specs.Trace.{ReadsOnly};
+ghost use Rattle.bd_disk.specs.Runs.{Writes};
 ghost use Rattle.bd_model.specs.Sizes.{sizes_of, disk_bytes};
 ghost use Rattle.bd_model.specs.Records.{spelled_recipe};
-ghost use Rattle.bd_model.specs.Extents.{owner_bytes};
-ghost use Rattle.bd_extio.specs.Ranges.{AreExtents, InOwner, IsWithin};
+ghost use Rattle.bd_extio.specs.Owned.{Overwrites};
+ghost use Rattle.bd_extio.specs.Ranges.{AreExtents, IsWithin};
+ghost use Rattle.bd_recipe.specs.Pieces.{InEntries};
 
 use crate::entry::{BUFFER, ENTRY, PIECE, put_entry};
 use bd_disk::{Disk, Failed};
 use bd_extio::write_at;
 use bd_model::{RecipeEntry, Shape};
 
-/// Writes entries into the recipe of an owner of these extents, from the entry of this index on, with one write of the
-/// owner's bytes for each piece of them.
+/// Writes entries into the recipe of an owner of these extents, from the entry of this index on.
 pub fn write_entries<D: Disk>(
     disk: &mut D,
     shape: &Shape,
@@ -26,11 +23,9 @@ pub fn write_entries<D: Disk>(
     requires room { disk_bytes (sizes_of shape.now) ≤ D.bytes disk.old }
     requires numbers { AreExtents (sizes_of shape.now) extents.now }
     requires range { IsWithin (sizes_of shape.now) extents.now (40 * index) (40 * length entries.now) }
-    ensures bytes { D.bytes disk.new ≡ D.bytes disk.old }
+    ensures disk { Writes D.Disk (InEntries (sizes_of shape.now) extents.now index (length entries.now)) disk.old disk.new }
     ensures cause { HasCause (D.faults disk.old) (D.faults disk.new) result }
-    ensures writes { D.tells → WritesOnly (InOwner (sizes_of shape.now) extents.now (40 * index) (40 * length entries.now)) (D.history disk.old) (D.history disk.new) }
-    ensures written { OnOk result (D.tells → owner_bytes (sizes_of shape.now) extents.now (contents (D.history disk.new)) ≡ overwritten (owner_bytes (sizes_of shape.now) extents.now (contents (D.history disk.old))) (40 * index) (spelled_recipe entries.now)) }
-    ensures places { OnOk result (D.tells → ReadsOnly [] (D.history disk.old) (D.history disk.new)) }
+    ensures written { OnOk result (Overwrites D.Disk (sizes_of shape.now) extents.now (40 * index) (spelled_recipe entries.now) disk.old disk.new) }
 {
     let mut buffer = [0u8; BUFFER];
     let mut done = 0;

@@ -1,7 +1,6 @@
 use Rattle.std.proofs.Common.{◌*◌, ◌∙◌, ap, arith}
 use Rattle.bd_disk.specs.History.{contents}
 use Rattle.bd_disk.specs.Images.{overwritten}
-use Rattle.bd_disk.proofs.Frames.{writes_wider}
 use Rattle.bd_model.specs.Sizes.{sizes_of}
 use Rattle.bd_model.specs.Extents.{owner_bytes}
 use Rattle.bd_model.specs.Records.{spelled_entry}
@@ -11,14 +10,6 @@ use Rattle.bd_recipe.proofs.entry.write_entry.Goals as goal
 
 pub overflow_mul-index : goal.overflow_mul-index
 overflow_mul-index g c = omega (arith, range_small (sizes_of c.args.shape.now) c.args.extents.now c.requires.numbers (omega arith) (omega arith), c.requires.range)
-
-pub returns-in_err-write_at-clause-writes : goal.returns-in_err-write_at-clause-writes
-returns-in_err-write_at-clause-writes g c = λ told.
-    writes_wider _ (λ place r. record { k = r.k; within = omega (arith, r.within, c.put_entry.auto.into); so = r.so }) (c.write_at.ensures.writes told)
-
-pub returns-clause-writes : goal.returns-clause-writes
-returns-clause-writes g c = λ told.
-    writes_wider _ (λ place r. record { k = r.k; within = omega (arith, r.within, c.put_entry.auto.into); so = r.so }) (c.write_at.ensures.writes told)
 
 pub returns-clause-written : goal.returns-clause-written
 returns-clause-written g c = λ told.

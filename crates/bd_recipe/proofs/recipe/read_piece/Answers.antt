@@ -7,22 +7,14 @@ use Rattle.bd_extio.proofs.Places.{range_small}
 use Rattle.bd_recipe.specs.Entries.{first_bad, is_within}
 use Rattle.bd_recipe.proofs.Answering.{if_damaged}
 use Rattle.bd_recipe.proofs.Entries.{length-entries_in}
-use Rattle.bd_recipe.proofs.Pieces.{entries_of-range, looks_within}
+use Rattle.bd_recipe.proofs.Pieces.{entries_of-range}
 use Rattle.bd_recipe.proofs.recipe.read_piece.Goals as goal
 
 pub overflow_mul-at : goal.overflow_mul-at
 overflow_mul-at g c = omega (arith, range_small (sizes_of c.args.shape.now) c.args.extents.now c.requires.numbers (omega arith) (omega arith), c.requires.range, c.len.ensures)
 
-pub returns-in_err-read_at-clause-looks : goal.returns-in_err-read_at-clause-looks
-returns-in_err-read_at-clause-looks g c = λ told.
-    looks_within (sizes_of c.args.shape.now) c.args.extents.now (40 * c.len.result) (length c.args.piece.now) (40 * length c.args.recipe.now.items) (40 * c.args.count) (omega (arith, c.len.ensures)) (omega (arith, c.len.ensures, c.requires.sized)) (c.read_at.ensures.looks told)
-
 pub take_entries-requires-clause-small : goal.take_entries-requires-clause-small
 take_entries-requires-clause-small g c = omega (arith, range_small (sizes_of c.args.shape.now) c.args.extents.now c.requires.numbers (omega arith) (omega arith), c.requires.range)
-
-pub returns-in_err-take_entries-clause-looks : goal.returns-in_err-take_entries-clause-looks
-returns-in_err-take_entries-clause-looks g c = λ told.
-    looks_within (sizes_of c.args.shape.now) c.args.extents.now (40 * c.len.result) (length c.args.piece.now) (40 * length c.args.recipe.now.items) (40 * c.args.count) (omega (arith, c.len.ensures)) (omega (arith, c.len.ensures, c.requires.sized)) (c.read_at.ensures.looks told)
 
 pub returns-in_err-take_entries-clause-damage : goal.returns-in_err-take_entries-clause-damage
 returns-in_err-take_entries-clause-damage g c =
@@ -35,10 +27,6 @@ returns-in_err-take_entries-clause-damage g c =
     if_damaged _ c.in_err-take_entries.field-0.0 c.from_residual-in_err-take_entries.result c.from_residual-in_err-take_entries.ensures.1 (λ told.
     ap (first_bad (is_within limits) limits.version done) (sym (ap (entries_in count) (c.in_ok-read_at.ensures.read told ∙ (λ i. take (n i) (drop (40 * at i) owner))) ∙ entries_of-range done count owner))
     ∙ c.in_err-take_entries.ensures.damage)
-
-pub returns-clause-looks : goal.returns-clause-looks
-returns-clause-looks g c = λ told.
-    looks_within (sizes_of c.args.shape.now) c.args.extents.now (40 * c.len.result) (length c.args.piece.now) (40 * length c.args.recipe.now.items) (40 * c.args.count) (omega (arith, c.len.ensures)) (omega (arith, c.len.ensures, c.requires.sized)) (c.read_at.ensures.looks told)
 
 pub returns-clause-count : goal.returns-clause-count
 returns-clause-count g c =
