@@ -2,9 +2,11 @@
 #![tactic(auto)]
 
 mod fault;
+mod laws;
 mod record;
 
 pub use fault::{CategoryFault, Header};
+pub use laws::records_read_back;
 pub use record::{read_body, read_header, write_chunk};
 
 #[cfg(test)]

@@ -6,6 +6,7 @@ pub mod Locating
 pub mod Marking
 pub mod Occurring
 pub mod Pieces
+pub mod ReadingBack
 pub mod Spelling
 pub mod Versions
 pub mod Written

@@ -1,4 +1,5 @@
 pub mod Entries
+pub mod Laws
 pub mod Located
 pub mod Marked
 pub mod Pieces

@@ -3,6 +3,7 @@
 
 mod entry;
 mod fault;
+mod laws;
 mod limits;
 mod located;
 mod neighbour;
@@ -13,6 +14,7 @@ mod writing;
 
 pub use entry::write_entry;
 pub use fault::ReadFault;
+pub use laws::entries_read_back;
 pub use neighbour::Neighbour;
 pub use recipe::{Recipe, read_recipe};
 pub use writing::write_entries;

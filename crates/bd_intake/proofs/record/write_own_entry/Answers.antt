@@ -3,6 +3,7 @@ use Rattle.std.proofs.lemmas.Result.{on_ok_weaker}
 use Rattle.bd_disk.specs.History.{contents}
 use Rattle.bd_disk.specs.Made.{WritesOnly}
 use Rattle.bd_disk.specs.Images.{overwritten}
+use Rattle.bd_disk.proofs.RunLemmas.{nothing_read, written}
 use Rattle.bd_model.specs.Extents.{owner_bytes}
 use Rattle.bd_model.specs.Records.{spelled_entry}
 use Rattle.bd_model.specs.Sizes.{sizes_of, disk_bytes}
@@ -19,7 +20,10 @@ returns-clause-writes g c = λ told.
     subst (λ xs. WritesOnly (InOneOf s xs) (g.D.Disk.history c.args.disk.now) (g.D.Disk.history c.write_entry.new.disk)) same
     (owner_writes s c.numbers.result.now (omega (arith, c.args.shape.now.in_range.extent_low)) (40 * c.args.staging.now.chunks) 40
     (subst (λ xs. 40 * c.args.staging.now.chunks + 40 ≤ length xs * s.extent) (sym same) c.requires.range)
-    (c.write_entry.ensures.writes told))
+    (written c.write_entry.ensures.disk told))
+
+pub returns-clause-places : goal.returns-clause-places
+returns-clause-places g c = λ told. nothing_read c.write_entry.ensures.disk told
 
 pub returns-clause-written : goal.returns-clause-written
 returns-clause-written g c =

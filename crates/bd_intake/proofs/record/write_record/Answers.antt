@@ -3,6 +3,7 @@ use Rattle.std.proofs.lemmas.Result.{on_ok_weaker}
 use Rattle.bd_disk.specs.History.{contents}
 use Rattle.bd_disk.specs.Made.{WritesOnly}
 use Rattle.bd_disk.specs.Images.{overwritten}
+use Rattle.bd_disk.proofs.RunLemmas.{nothing_read, written}
 use Rattle.bd_model.specs.Extents.{owner_bytes}
 use Rattle.bd_model.specs.Records.{records_of}
 use Rattle.bd_model.specs.Sizes.{sizes_of, disk_bytes}
@@ -21,7 +22,10 @@ returns-clause-writes g c = λ told.
     subst (λ xs. WritesOnly (InOneOf s xs) (g.D.Disk.history c.args.disk.now) (g.D.Disk.history c.write_chunk.new.disk)) same
     (owner_writes s c.numbers.result.now (omega (arith, c.args.shape.now.in_range.extent_low)) c.args.staging.now.fresh_bytes (36 + length c.args.body.now)
     (subst (λ xs. c.args.staging.now.fresh_bytes + (36 + length c.args.body.now) ≤ length xs * s.extent) (sym same) fits)
-    (c.write_chunk.ensures.writes told))
+    (written c.write_chunk.ensures.disk told))
+
+pub returns-clause-places : goal.returns-clause-places
+returns-clause-places g c = λ told. nothing_read c.write_chunk.ensures.disk told
 
 pub returns-clause-written : goal.returns-clause-written
 returns-clause-written g c =
