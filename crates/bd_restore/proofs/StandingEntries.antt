@@ -1,8 +1,9 @@
 -- The recipe of a retained version, as it is read back.
-use Rattle.std.proofs.Common.{◌≡◌, ℕ, zero, suc, ◌+◌, ◌-◌, ◌*◌, ◌^◌, ◌<◌, ◌≤◌, true, cond, ◌&&◌, List, [], ◌∷◌, ◌++◌, length, take, drop, map, get_or, refl, sym, ◌∙◌, ap, arith, nat_le, nat_lt, le-leb, lt-ltb, eq-eqb, append_assoc, length-append, None}
-use Rattle.std.specs.Prelude.{◌==◌, Ok, Err}
+use Rattle.std.proofs.Common.{◌≡◌, ℕ, zero, suc, ◌+◌, ◌-◌, ◌^◌, ◌<◌, ◌≤◌, true, cond, ◌&&◌, List, [], ◌∷◌, length, map, get_or, refl, sym, ◌∙◌, ap, arith, nat_le, nat_lt, le-leb, lt-ltb, eq-eqb, None}
+use Rattle.std.specs.Prelude.{◌==◌, All, Ok, Err}
 use Rattle.std.specs.List.{list_all, range_with_len, flat_map}
-use Rattle.std.proofs.lemmas.List.{take_at, drop_at}
+use Rattle.std.proofs.lemmas.List.{length-map}
+use Rattle.std.proofs.lemmas.List.Elements.{All-cons}
 use Rattle.std.proofs.lemmas.List.Concat.{concat_is, length-flat_map}
 use Rattle.std.proofs.lemmas.List.Folds.{fold-map}
 use Rattle.bd_model.specs.declared.shape.Shape.{Shape}
@@ -14,7 +15,7 @@ use Rattle.bd_model.specs.Extents.{owner_bytes}
 use Rattle.bd_model.specs.History.{History, version, newest, oldest, contains}
 use Rattle.bd_model.specs.Laws.{IsCut}
 use Rattle.bd_model.specs.Recipe.{recipe, entry_of, start_of}
-use Rattle.bd_model.specs.Records.{four, spelled_entry, spelled_recipe, entry_at, entries_in}
+use Rattle.bd_model.specs.Records.{entries_in}
 use Rattle.bd_model.specs.Sizes.{sizes_of}
 use Rattle.bd_model.specs.State.{VersionState, cut_of, history, streams, stream_of}
 use Rattle.bd_model.specs.Step.{version_line, version_lines}
@@ -25,71 +26,17 @@ use Rattle.bd_catalog.specs.Sound.{recipe_of, entry_holds}
 use Rattle.bd_catalog.specs.Standing.{HasNumbers, HasVersions, lines_from}
 use Rattle.bd_recipe.specs.Entries.{first_bad}
 use Rattle.bd_recipe.specs.Reading.{chunks_in, length_in, recipe_found, total, with_sum}
-use Rattle.bd_recipe.proofs.Entries.{entry_at-fields, entries_in-take, first_bad-none}
+use Rattle.bd_recipe.specs.Laws.{FitsEntry}
+use Rattle.bd_recipe.proofs.Entries.{first_bad-none}
+use Rattle.bd_recipe.proofs.ReadingBack.{entries-begin}
 use Rattle.bd_model.proofs.RecordLemmas.{length-mark}
 use Rattle.bd_restore.proofs.StandingRecords.{Bounded, contains_first, contains_later}
 
 -- ---- entries
 
--- numbers that have room in an entry
-pub record FitEntry (e : RecipeEntry) : Type 0 where
-  pub mark : length e.mark.0 ≡ 32
-  pub bytes : e.length < 2 ^ 32
-  pub start : e.start < 2 ^ 32
-
-module _ (e : RecipeEntry) (rest : List ℕ) (fits : FitEntry e) where
-  abbrev bytes : List ℕ
-  bytes = spelled_entry e ++ rest
-
-  bytes-are : bytes ≡ e.mark.0 ++ (four e.length ++ (four e.start ++ rest))
-  bytes-are = append_assoc (e.mark.0 ++ four e.length) (four e.start) rest ∙ append_assoc e.mark.0 (four e.length) (four e.start ++ rest)
-
-  entry-read : entry_at bytes ≡ e
-  entry-read =
-      sym (entry_at-fields bytes e.mark.0 (four e.start ++ rest) rest e.length e.start fits.bytes fits.start
-      (sym (ap (take 32) bytes-are ∙ take_at e.mark.0 (four e.length ++ (four e.start ++ rest)) 32 fits.mark))
-      (ap (drop 32) bytes-are ∙ drop_at e.mark.0 (four e.length ++ (four e.start ++ rest)) 32 fits.mark)
-      refl)
-
-  length-spelled : length (spelled_entry e) ≡ 40
-  length-spelled = omega (arith, length-append (e.mark.0 ++ four e.length) (four e.start), length-append e.mark.0 (four e.length), fits.mark)
-
-  behind_entry : drop 40 bytes ≡ rest
-  behind_entry = drop_at (spelled_entry e) rest 40 length-spelled
-
--- entries of chunks end to end
-module _ (e : List ℕ → RecipeEntry) where
-  abbrev Fit : List (List ℕ) → Type 0
-  Fit cs = (c : List ℕ) → contains cs c ≡ true → FitEntry (e c)
-
-  fit_later : (c : List ℕ) (cs : List (List ℕ)) → Fit (c ∷ cs) → Fit cs
-  fit_later c cs fits = λ d has. fits d (contains_later c d cs has)
-
-  entries-read : (cs : List (List ℕ)) → Fit cs → entries_in (length cs) (spelled_recipe (map e cs)) ≡ map e cs
-  entries-read [] fits = refl
-  entries-read (c ∷ cs) fits =
-      let fit = fits c (contains_first c cs) in
-      let rest = spelled_recipe (map e cs) in
-      (λ i. entry-read (e c) rest fit i ∷ entries_in (length cs) (behind_entry (e c) rest fit i))
-      ∙ ap (λ es. e c ∷ es) (entries-read cs (fit_later c cs fits))
-
-  length-spelled_entries : (cs : List (List ℕ)) → Fit cs → length (spelled_recipe (map e cs)) ≡ 40 * length cs
-  length-spelled_entries [] fits = refl
-  length-spelled_entries (c ∷ cs) fits =
-      omega (
-        arith,
-        length-append (spelled_entry (e c)) (spelled_recipe (map e cs)),
-        length-spelled (e c) [] (fits c (contains_first c cs)),
-        length-spelled_entries cs (fit_later c cs fits),
-      )
-
-  -- bytes that begin with entries
-  entries-begin : (cs : List (List ℕ)) (owner : List ℕ) → Fit cs → take (length (spelled_recipe (map e cs))) owner ≡ spelled_recipe (map e cs) → entries_in (length cs) owner ≡ map e cs
-  entries-begin cs owner fits begins =
-      sym (entries_in-take (length cs) (40 * length cs) owner (omega arith))
-      ∙ ap (λ n. entries_in (length cs) (take n owner)) (sym (length-spelled_entries cs fits))
-      ∙ ap (entries_in (length cs)) begins
-      ∙ entries-read cs fits
+fit_all : (e : List ℕ → RecipeEntry) (cs : List (List ℕ)) → ((c : List ℕ) → contains cs c ≡ true → FitsEntry (e c)) → All FitsEntry (map e cs)
+fit_all e [] fits = λ i d lt. absurd (omega arith)
+fit_all e (c ∷ cs) fits = All-cons FitsEntry (e c) (map e cs) (fits c (contains_first c cs)) (fit_all e cs (λ d has. fits d (contains_later c d cs has)))
 
 -- ---- a version's entry of the catalogue
 
@@ -172,7 +119,7 @@ module _ (shape : Shape) (st : VersionState) (v : ℕ) where
         ∙ ap (λ xs. get_or xs (v - oldest h) 0) (sym (lines-bytes (oldest_in c) c.versions) ∙ ap (map (λ (l : VersionLine). l.bytes)) versions.lines)
         ∙ at_lines (λ l. l.bytes) 0
 
-    entry_fits : (x : List ℕ) → contains (version h v) x ≡ true → FitEntry (entry_of h v x)
+    entry_fits : (x : List ℕ) → contains (version h v) x ≡ true → FitsEntry (entry_of h v x)
     entry_fits x has = record {
       mark = length-mark x;
       bytes = omega (arith, (version-bounded x has).1, shape.in_range.max_high);
@@ -182,8 +129,8 @@ module _ (shape : Shape) (st : VersionState) (v : ℕ) where
     pub recipe-read : recipe_of (sizes_of shape) c image v ≡ recipe h v
     recipe-read =
         let owner = owner_bytes (sizes_of shape) (recipe_extents c v) image in
-        ap (λ n. entries_in n owner) chunks-stand
-        ∙ entries-begin (entry_of h v) (version h v) owner entry_fits (versions.recipes v low high).front
+        ap (λ n. entries_in n owner) (chunks-stand ∙ sym (length-map (version h v) (entry_of h v)))
+        ∙ entries-begin (recipe h v) owner (fit_all (entry_of h v) (version h v) entry_fits) (versions.recipes v low high).front
 
     entries_hold : (cs : List (List ℕ)) → ((x : List ℕ) → contains cs x ≡ true → contains (version h v) x ≡ true) → list_all (entry_holds (sizes_of shape) c v) (map (entry_of h v) cs) ≡ true
     entries_hold [] inside = refl

@@ -8,7 +8,7 @@ use Rattle.bd_model.specs.Sizes.{Sizes}
 use Rattle.bd_model.specs.declared.layout.RecipeEntry.{RecipeEntry}
 use Rattle.bd_catalog.specs.Walks.{record_reads}
 use Rattle.bd_restore.specs.Walk.{Spot, records_at, spots_from, is_wanted, walk_reads}
-use Rattle.bd_restore.proofs.StandingRecords.{Bounded, stored_of, contains_first, contains_later, stored-read, rest-read, small_first, bounded_later}
+use Rattle.bd_restore.proofs.StandingRecords.{Bounded, stored_of, contains_first, contains_later, chunk-read, behind_chunk, small_first, bounded_later}
 
 -- headers and bodies of all
 abbrev pub all_reads : Sizes → List Spot → List ℕ
@@ -34,11 +34,11 @@ module _ (s : Sizes) (short : s.max ≤ 65536) (extents bytes : List ℕ) (used 
   chunks-read (c ∷ cs) at bounded all is =
       let small = small_first s short c cs bounded in
       let rest = records_of cs in
-      let r : stored_at (drop at bytes) ≡ stored_of c = ap stored_at is ∙ stored-read c rest small in
+      let r : stored_at (drop at bytes) ≡ stored_of c = ap stored_at is ∙ chunk-read c rest small in
       let header = places_at s extents at 36 in
       let body = places_at s extents (at + 36) (length c) in
       let place : at + 36 + length c ≡ at + (36 + length c) = omega arith in
-      let behind : drop (at + 36 + length c) bytes ≡ rest = ap (λ n. drop n bytes) place ∙ sym (drop-drop (36 + length c) at bytes) ∙ ap (drop (36 + length c)) is ∙ rest-read c rest small in
+      let behind : drop (at + 36 + length c) bytes ≡ rest = ap (λ n. drop n bytes) place ∙ sym (drop-drop (36 + length c) at bytes) ∙ ap (drop (36 + length c)) is ∙ behind_chunk c rest small in
       let more = chunks-read cs (at + 36 + length c) (bounded_later s short c cs bounded) (λ d has. all d (contains_later c d cs has)) behind in
       (λ i. (header ++ places_at s extents (at + 36) (r i).length) ++ all_reads s (spots_from extents bytes (length cs) (at + 36 + (r i).length)))
       ∙ (λ i. (header ++ cond (sym (all c (contains_first c cs)) i) body []) ++ more i)

@@ -1,20 +1,20 @@
 -- The records of chunks, as they are read back.
-use Rattle.std.proofs.Common.{◌≡◌, ℕ, suc, ◌+◌, ◌^◌, ◌<◌, ◌≤◌, true, false, cond, ◌&&◌, List, [], ◌∷◌, ◌++◌, length, take, drop, map, refl, sym, ◌∙◌, ap, arith, sum_by, replicate, nat_le, le-leb, eq-eqb, append_assoc, drop-drop}
+use Rattle.std.proofs.Common.{◌≡◌, ℕ, suc, ◌+◌, ◌^◌, ◌<◌, ◌≤◌, true, false, cond, ◌&&◌, List, [], ◌∷◌, ◌++◌, length, take, drop, map, refl, sym, ◌∙◌, ap, arith, sum_by, replicate, nat_le, le-leb, eq-eqb}
 use Rattle.std.specs.Prelude.{◌==◌}
 use Rattle.std.specs.Str.{bytes_eq}
 use Rattle.std.specs.Int.{w32, from_be_bytes}
 use Rattle.std.specs.List.{list_all}
 use Rattle.std.proofs.lemmas.Bool.{or_left, or_right}
-use Rattle.std.proofs.lemmas.List.{take_at, drop_at}
 use Rattle.std.proofs.lemmas.List.Folds.{fold-map}
-use Rattle.std.proofs.lemmas.Nat.{from_be_bytes-to_be_bytes_4}
 use Rattle.bd_model.specs.History.{contains}
 use Rattle.bd_model.specs.Layout.{record_bytes, row_of}
 use Rattle.bd_model.specs.Marks.{mark}
-use Rattle.bd_model.specs.Records.{Stored, four, record_of, records_of, stored_at, stored_in}
+use Rattle.bd_model.specs.Records.{Stored, record_of, records_of, stored_at, stored_in}
 use Rattle.bd_model.specs.Sizes.{Sizes}
+use Rattle.bd_model.specs.declared.mark.Mark.{Mark}
 use Rattle.bd_model.proofs.ChunkListLemmas.{bytes_eq-refl, bytes_eq-same, bytes_eq-other}
 use Rattle.bd_model.proofs.NeedLemmas.{TellsApart, bytes_eq-mark}
+use Rattle.bd_category.proofs.ReadingBack.{length-read, rest-read, stored-read}
 use Rattle.bd_catalog.specs.Sound.{Part, part_holds, part_records, stored_holds, with_mark}
 use Rattle.bd_model.proofs.RecordLemmas.{length-mark}
 use Rattle.bd_restore.proofs.StandingChunks.{times, times-cons}
@@ -37,29 +37,17 @@ contains_later c d cs has = or_right (bytes_eq d c) (contains cs d) has
 -- ---- one record
 
 module _ (c rest : List ℕ) (small : length c < 2 ^ 32) where
-  abbrev bytes : List ℕ
-  bytes = record_of c ++ rest
+  abbrev own : Mark
+  own = record { 0 = mark c }
 
-  bytes-are : bytes ≡ four (length c) ++ (mark c ++ (c ++ rest))
-  bytes-are = append_assoc (four (length c) ++ mark c) c rest ∙ append_assoc (four (length c)) (mark c) (c ++ rest)
+  length-chunk : from_be_bytes w32 (take 4 (record_of c ++ rest)) ≡ length c
+  length-chunk = length-read own c rest (length-mark c) small
 
-  length-read : from_be_bytes w32 (take 4 bytes) ≡ length c
-  length-read = ap (λ l. from_be_bytes w32 (take 4 l)) bytes-are ∙ from_be_bytes-to_be_bytes_4 (length c) small
+  pub chunk-read : stored_at (record_of c ++ rest) ≡ stored_of c
+  chunk-read = stored-read own c rest (length-mark c) small
 
-  behind_length : drop 4 bytes ≡ mark c ++ (c ++ rest)
-  behind_length = ap (drop 4) bytes-are
-
-  behind_header : drop 36 bytes ≡ c ++ rest
-  behind_header = sym (drop-drop 32 4 bytes) ∙ ap (drop 32) behind_length ∙ drop_at (mark c) (c ++ rest) 32 (length-mark c)
-
-  pub stored-read : stored_at bytes ≡ stored_of c
-  stored-read =
-      let marked : take 32 (drop 4 bytes) ≡ mark c = ap (take 32) behind_length ∙ take_at (mark c) (c ++ rest) 32 (length-mark c) in
-      let body : take (from_be_bytes w32 (take 4 bytes)) (drop 36 bytes) ≡ c = (λ i. take (length-read i) (behind_header i)) ∙ take_at c rest (length c) refl in
-      λ i. record { length = length-read i; mark = marked i; body = body i }
-
-  pub rest-read : drop (36 + length c) bytes ≡ rest
-  rest-read = sym (drop-drop (length c) 36 bytes) ∙ ap (drop (length c)) behind_header ∙ drop_at c rest (length c) refl
+  pub behind_chunk : drop (36 + length c) (record_of c ++ rest) ≡ rest
+  behind_chunk = rest-read own c rest (length-mark c) small
 
 -- ---- records end to end
 
@@ -75,8 +63,8 @@ module _ (s : Sizes) (short : s.max ≤ 65536) where
   stored-records (c ∷ cs) bounded =
       let small = small_first c cs bounded in
       let rest = records_of cs in
-      (λ i. stored-read c rest small i ∷ stored_in (length cs) (drop (36 + length-read c rest small i) (record_of c ++ rest)))
-      ∙ ap (λ l. stored_of c ∷ stored_in (length cs) l) (rest-read c rest small)
+      (λ i. chunk-read c rest small i ∷ stored_in (length cs) (drop (36 + length-chunk c rest small i) (record_of c ++ rest)))
+      ∙ ap (λ l. stored_of c ∷ stored_in (length cs) l) (behind_chunk c rest small)
       ∙ ap (λ rs. stored_of c ∷ rs) (stored-records cs (bounded_later c cs bounded))
 
   all_hold : (cs : List (List ℕ)) → Bounded s cs → list_all (stored_holds s) (map stored_of cs) ≡ true

@@ -1,4 +1,5 @@
 ghost use Rattle.std.specs.Prelude.{◌≡◌, ℕ, ◌+◌, ◌*◌, ◌≤◌, ◌<◌, length, replicate, false, IfOk, OnOk};
+ghost use Rattle.bd_disk.specs.Calls.{FailsByCount};
 ghost use Rattle.bd_disk.specs.History.{contents};
 ghost use Rattle.bd_disk.specs.Looks.{LooksOnlyAt};
 ghost use Rattle.bd_disk.specs.Made.{WritesNothing};
@@ -6,7 +7,7 @@ ghost use Rattle.bd_disk.specs.Trace.{ReadsOnly};
 ghost use Rattle.bd_model.specs.Sizes.{disk_bytes};
 ghost use Rattle.bd_catalog.specs.Catalogue.{oldest_in};
 ghost use Rattle.bd_catalog.specs.Damages.{IsSeen};
-ghost use Rattle.bd_recipe.specs.Reading.{FailsByCount, IfDamaged, InRecipe, IsRecipe, recipe_found, recipe_places, total};
+ghost use Rattle.bd_recipe.specs.Reading.{IfDamaged, InRecipe, IsRecipe, is_disk_fault, recipe_found, recipe_places, total};
 ghost use Rattle.bd_restore.specs.Plan.{AnswersPlan};
 
 use crate::tables::Tables;
@@ -62,6 +63,7 @@ impl Plan {
 
 /// Reads the recipe of a retained version, as `read_recipe` does, and plans its restore. It takes about 110 bytes of memory
 /// for each chunk.
+#[tactic(auto, using(bd_disk::proofs::RunLemmas::nothing_written, bd_disk::proofs::RunLemmas::looked))]
 pub fn plan_for<D: Disk>(
     alloc: Global,
     disk: &mut D,
@@ -72,7 +74,7 @@ pub fn plan_for<D: Disk>(
     requires oldest { oldest_in catalog.now.found.catalogue ≤ version }
     requires newest { version ≤ catalog.now.found.catalogue.newest }
     ensures bytes { D.bytes disk.new ≡ D.bytes disk.old }
-    ensures cause { FailsByCount (D.faults disk.old) (D.faults disk.new) result }
+    ensures cause { FailsByCount is_disk_fault (D.faults disk.old) (D.faults disk.new) result }
     ensures version { IfOk result (λ plan. plan.version ≡ version) }
     ensures recipe { IfOk result (λ plan. IsRecipe catalog.now.found.sizes catalog.now.found.catalogue version plan.entries) }
     ensures buffer { IfOk result (λ plan. plan.room ≡ catalog.now.found.sizes.max) }

@@ -3,7 +3,8 @@ use Rattle.std.specs.Prelude.{Err, nat_lt, if◌then◌else◌}
 use Rattle.std.proofs.lemmas.Bool.{le-ltb}
 use Rattle.bd_disk.specs.History.{contents}
 use Rattle.bd_disk.specs.Trace.{ReadsOnly}
-use Rattle.bd_disk.proofs.Frames.{made_both, unchanged}
+use Rattle.bd_disk.proofs.Frames.{made_both}
+use Rattle.bd_disk.proofs.RunLemmas.{nothing_written, same_contents}
 use Rattle.bd_disk.proofs.Traces.{reads_both}
 use Rattle.bd_model.specs.Sizes.{sizes_of}
 use Rattle.bd_model.specs.Extents.{owner_bytes, places_at}
@@ -26,6 +27,9 @@ use Rattle.bd_restore.proofs.record.read_record.Goals as goal
 pub overflow_add-end : goal.overflow_add-end
 overflow_add-end g c = omega (arith, range_small (sizes_of c.args.shape.now) c.args.piece.now.extents.now c.requires.numbers (omega arith) (omega arith), c.requires.to)
 
+pub returns-in_err-header-clause-writes : goal.returns-in_err-header-clause-writes
+returns-in_err-header-clause-writes g c = λ told. nothing_written c.read_header.ensures.disk told
+
 pub returns-in_err-header-clause-damage : goal.returns-in_err-header-clause-damage
 returns-in_err-header-clause-damage g c =
     let s = sizes_of c.args.shape.now in
@@ -45,6 +49,9 @@ overflow_add-next g c = omega (arith, range_small (sizes_of c.args.shape.now) c.
 
 pub overflow_add-next-2 : goal.overflow_add-next-2
 overflow_add-next-2 g c = omega (arith, range_small (sizes_of c.args.shape.now) c.args.piece.now.extents.now c.requires.numbers (omega arith) (omega arith), c.requires.to, c.in_ok-header.ensures.within)
+
+pub returns-then-not-wants-clause-writes : goal.returns-then-not-wants-clause-writes
+returns-then-not-wants-clause-writes g c = λ told. nothing_written c.read_header.ensures.disk told
 
 pub returns-then-not-wants-clause-next : goal.returns-then-not-wants-clause-next
 returns-then-not-wants-clause-next g c = λ told.
@@ -80,7 +87,7 @@ pub read_body-requires-clause-within : goal.read_body-requires-clause-within
 read_body-requires-clause-within g c = omega (arith, c.in_ok-header.ensures.place, c.in_ok-header.ensures.within, c.requires.to)
 
 pub returns-in_err-read_body-clause-writes : goal.returns-in_err-read_body-clause-writes
-returns-in_err-read_body-clause-writes g c = λ told. made_both (c.read_header.ensures.writes told) (c.read_body.ensures.writes told)
+returns-in_err-read_body-clause-writes g c = λ told. made_both (nothing_written c.read_header.ensures.disk told) (nothing_written c.read_body.ensures.disk told)
 
 pub returns-in_err-read_body-clause-damage : goal.returns-in_err-read_body-clause-damage
 returns-in_err-read_body-clause-damage g c =
@@ -100,7 +107,7 @@ returns-in_err-read_body-clause-damage g c =
     let header : ReadsOnly (places_at s p.extents at 36) before between = subst (λ b. ReadsOnly (if b then [] else places_at s p.extents at 36) before between) some (c.in_ok-header.ensures.places told) in
     let rest : ReadsOnly (places_at s p.extents (h.at + 36) h.length) between now = subst (λ f. ReadsBody s p.extents h between now (Err f)) is (c.in_err-read_body.ensures.places told) in
     body_met s c.args.version c.args.tables.now c.args.filled.now p at owner h (c.in_ok-header.ensures.header told) c.in_ok-header.ensures.within (λ seen flags. sym c.if-not-wants.false ∙ c.wants.ensures seen flags) damage body
-    (ap (λ i. body_at h (owner_bytes s piece.extents.now i)) (unchanged (c.read_header.ensures.writes told))) answer.0 answer.1 (reads_both header rest))
+    (ap (λ i. body_at h (owner_bytes s piece.extents.now i)) (same_contents c.read_header.ensures.disk told)) answer.0 answer.1 (reads_both header rest))
 
 pub returns-in_err-put_everywhere-clause-damage : goal.returns-in_err-put_everywhere-clause-damage
 returns-in_err-put_everywhere-clause-damage g c =
@@ -128,10 +135,10 @@ pub returns-in_err-put_everywhere-clause-cause : goal.returns-in_err-put_everywh
 returns-in_err-put_everywhere-clause-cause g c = disk_stays (Unit {0}) _ _ c.in_err-put_everywhere.field-0.0 c.from_residual-in_err-put_everywhere.result c.from_residual-in_err-put_everywhere.ensures.1 c.in_err-put_everywhere.ensures.only (c.in_ok-read_body.ensures.cause.cause ∙ c.in_ok-header.ensures.cause.cause)
 
 pub returns-in_err-put_everywhere-clause-writes : goal.returns-in_err-put_everywhere-clause-writes
-returns-in_err-put_everywhere-clause-writes g c = λ told. made_both (c.read_header.ensures.writes told) (c.read_body.ensures.writes told)
+returns-in_err-put_everywhere-clause-writes g c = λ told. made_both (nothing_written c.read_header.ensures.disk told) (nothing_written c.read_body.ensures.disk told)
 
 pub returns-clause-writes : goal.returns-clause-writes
-returns-clause-writes g c = λ told. made_both (c.read_header.ensures.writes told) (c.read_body.ensures.writes told)
+returns-clause-writes g c = λ told. made_both (nothing_written c.read_header.ensures.disk told) (nothing_written c.read_body.ensures.disk told)
 
 pub returns-clause-next : goal.returns-clause-next
 returns-clause-next g c = λ told.
@@ -173,7 +180,7 @@ returns-clause-gives g c = λ told tells.
     let r = stored_at (drop at (take to owner)) in
     let h = c.in_ok-header.header in
     let st : IsStored at to owner h r = is_stored s c.args.piece.now.who at to owner h c.requires.from c.in_ok-header.ensures.within (c.in_ok-header.ensures.header told) in
-    let same : contents (g.D.Disk.history c.read_header.new.disk) ≡ image = unchanged (c.read_header.ensures.writes told) in
+    let same : contents (g.D.Disk.history c.read_header.new.disk) ≡ image = same_contents c.read_header.ensures.disk told in
     let read = c.in_ok-read_body.ensures.body told in
     let given : c.read_body.new.into ≡ r.body = read.0 ∙ ap (λ i. body_at h (owner_bytes s extents i)) same ∙ st.body in
     let marked : mark r.body ≡ r.mark = ap mark (sym given ∙ read.0) ∙ read.1 ∙ st.mark in
