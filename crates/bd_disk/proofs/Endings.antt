@@ -1,5 +1,5 @@
 -- How the calls of a disk in memory end.
-use Rattle.std.proofs.Common.{◌≡◌, inl, inr, ⊎_elim, ℕ, ◌+◌, ◌-◌, ◌^◌, ◌≤◌, ◌<◌, List, length, Bool, true, false, if◌then◌else◌, Some, None, Result, Ok, Err, OnErr, sym, ◌∙◌, ap, subst, arith}
+use Rattle.std.proofs.Common.{◌≡◌, inl, inr, ⊎_elim, ℕ, ◌+◌, ◌≤◌, List, length, Bool, true, false, if◌then◌else◌, Some, None, Result, Ok, Err, OnErr, sym, ◌∙◌, ap, subst, arith}
 use Rattle.bd_disk.specs.Images.{InRange, bytes_at}
 use Rattle.bd_disk.specs.History.{Call, Put, Flush, Idle, clock, contents, IsDirty}
 use Rattle.bd_disk.specs.Calls.{Done, Fails}
@@ -17,12 +17,6 @@ failed May {call} {old} {new} may none f =
     ⊎_elim
     (λ (set : IsSetToFail old.failing (clock old.history) × IsListed call old new). inl (call, may, record { in_time = set.1.in_time; so = set.1.history }))
     (λ other. ⊎_elim (λ (r : IsRefused old new). inl (Idle None, none, record { in_time = r.in_time; so = r.history })) (λ (l : IsTooLate old new). inr (l.last, l.history)) other) f.cause
-
--- a call that answered Ok had no cause to fail
-pub no_cause : {call : Call} {old new : Memory} → Succeeds call old new → MustFail old new → ⊥
-no_cause {call} {old} {new} s must =
-    ⊎_elim s.not_set
-    (λ other. ⊎_elim (λ (last : clock old.history ≡ 2 ^ 64 - 1). omega (arith, s.listed.in_time)) (λ (rose : old.refused < new.refused). omega (arith, s.listed.refused)) other) must
 
 -- and one that answered Failed had
 pub has_cause : {call : Call} {old new : Memory} → FailsAs call old new → MustFail old new

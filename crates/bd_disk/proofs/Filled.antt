@@ -2,7 +2,7 @@
 use Rattle.std.proofs.Common.{◌≡◌, inl, inr, ⊎_elim, ℕ, zero, suc, ◌+◌, ◌-◌, ◌<◌, List, length, replicate, get_or, Option, None, ◌∙◌, ap, arith}
 use Rattle.std.proofs.lemmas.List.{get_or-replicate, length-replicate}
 use Rattle.bd_disk.specs.Images.{InRange, overwritten}
-use Rattle.bd_disk.specs.History.{History, After, Put, Flush, Idle, contents, IsFilled, Now}
+use Rattle.bd_disk.specs.History.{History, After, Put, Idle, IsFilled, Now}
 use Rattle.bd_disk.specs.Log.{skips}
 use Rattle.bd_disk.specs.declared.touch.Touch.{Touch}
 use Rattle.bd_disk.proofs.Agreeing.{in_range, length-overwritten, overwritten_elsewhere, overwritten_there}
@@ -34,9 +34,6 @@ put_filled h at filler bytes image f =
             | inr out ↦ apart place out ∙ f.dirty place lt' (⊎_elim (λ r. absurd (out r)) (λ old. old) d)
           ];
     }
-
-pub flush_filled : (h : History) (filler : ℕ) (image : List ℕ) → image ≡ contents h → IsFilled (After h Flush) filler image
-flush_filled h filler image is = record { size = ap length is; clean = λ place out. ap (λ l. get_or l place 0) is; dirty = λ place lt d. absurd d }
 
 pub idle_filled : {h : History} {filler : ℕ} {image : List ℕ} (touch : Option Touch) → IsFilled h filler image → IsFilled (After h (Idle touch)) filler image
 idle_filled touch f = record { size = f.size; clean = f.clean; dirty = f.dirty }

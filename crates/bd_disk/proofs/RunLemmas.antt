@@ -1,7 +1,7 @@
 -- Runs of calls that follow each other, as a clause has them.
-use Rattle.std.proofs.Common.{◌≡◌, ◌∙◌, ℕ, ◌+◌, List, [], ◌∷◌, length, Some, Result, Ok, Err, refl, OnOk, OnErr}
+use Rattle.std.proofs.Common.{◌≡◌, ◌∙◌, ℕ, List, [], length, Some, Result, Ok, Err, refl, OnOk, OnErr}
 use Rattle.bd_disk.specs.Calls.{Done, Fails, IsIdle, IsTorn}
-use Rattle.bd_disk.specs.History.{Call, Put, Flush, Idle, History, contents}
+use Rattle.bd_disk.specs.History.{Put, Flush, Idle, History, contents}
 use Rattle.bd_disk.specs.Images.{InRange}
 use Rattle.bd_disk.specs.Looks.{Looks, LooksOnlyAt}
 use Rattle.bd_disk.specs.Made.{WritesNothing, WritesOnly}
@@ -10,7 +10,7 @@ use Rattle.bd_disk.specs.Trace.{ReadsOnly}
 use Rattle.bd_disk.specs.declared.disk.Disk.{Ghosts}
 use Rattle.bd_disk.specs.declared.disk.Failed.{Failed}
 use Rattle.bd_disk.specs.declared.touch.Touch.TheVariants.{Read, Write, Sync}
-use Rattle.bd_disk.proofs.Frames.{made_none, made_one, made_both, made_done, made_fails, idle_kind, nothing_within, writes_wider, unchanged}
+use Rattle.bd_disk.proofs.Frames.{made_none, made_both, made_done, made_fails, idle_kind, nothing_within, writes_wider, unchanged}
 use Rattle.bd_disk.proofs.Looking.{looks_wider, looks_from, read_looks, failed_read_looks}
 use Rattle.bd_disk.proofs.FailedCalls.{failed_write_reads, failed_sync_reads}
 use Rattle.bd_disk.proofs.Traces.{reads_none, reads_both, write_reads, sync_reads}

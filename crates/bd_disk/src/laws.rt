@@ -1,3 +1,4 @@
+//! What holds of every history of calls.
 ghost use Rattle.bd_disk.specs.Laws.{ClockRisesByOne, ContentsAreAnImage, ContentsAtStay, IdleLeavesTheSame, ImagesChangeOnly, NothingWritten, ReadsCompose, ReadsOfRunStay, SettledLeavesContents, SinceComposes, SinceIsFromAMoment, SyncLeavesContents, TraceHasNoWrite, TraceOfCalls, TraceStaysWithin, WriteLeavesItsRange, WritesChangeOnly};
 
 /// The contents are one of the images that a stop may leave.

@@ -1,3 +1,4 @@
+//! The disk in memory, and one over a real file.
 use super::*;
 use std::fs;
 use std::fs::OpenOptions;

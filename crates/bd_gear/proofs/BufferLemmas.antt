@@ -17,13 +17,6 @@ slice_range-paste xs bytes start end ordered room =
     ∙ drop-append-le start (take end xs) (take (length bytes) bytes) (omega (arith, length-take end xs))
     ∙ (λ k. sym (slice_range-drop xs start end ordered) k ++ take_all (length bytes) bytes (omega arith) k)
 
--- bytes moved to the front
-pub slice_range-front : (xs : List ℕ) (start end : ℕ) → start ≤ end → end ≤ length xs →
-    slice_range (paste xs 0 (drop start xs) (end - start)) 0 (0 + (end - start)) ≡ slice_range xs start end
-slice_range-front xs start end ordered within =
-    slice_range-drop (paste xs 0 (drop start xs) (end - start)) 0 (0 + (end - start)) (omega arith)
-    ∙ take-paste xs 0 (drop start xs) (end - start) (omega arith) (omega (arith, length-drop start xs))
-
 -- the first of them removed
 pub slice_range-rest : (xs : List ℕ) (start end n : ℕ) → start + n ≤ end → slice_range xs (start + n) end ≡ drop n (slice_range xs start end)
 slice_range-rest xs start end n le =

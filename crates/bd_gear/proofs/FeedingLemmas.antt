@@ -204,20 +204,6 @@ HasFed-feed {cut} {s} {taken} {c} t going h =
           ∙ next_len-append cut s t start c.scanned h.is_cut (ap (next_len cut s start) (sym going) ∙ h.next some);
     }
 
--- the end of input
-pub HasFed-finish : {cut : Cut} {s : List ℕ} {taken : List (List ℕ)} {c : Chunking} → HasFed cut s taken c → HasFed cut s taken (record c { finished = true })
-HasFed-finish {cut} {s} {taken} {c} h = record {
-  cut_is = h.cut_is;
-  is_cut = h.is_cut;
-  bytes = h.bytes;
-  now = h.now;
-  later = λ going. absurd (false≢true (sym going));
-  within = h.within;
-  hash_is = h.hash_is;
-  passed = h.passed;
-  next = λ some. next_len-finish cut s (place_after taken) c.scanned c.finished (h.next some);
-}
-
 -- a chunk is taken
 pub HasFed-advance : {cut : Cut} {s : List ℕ} {taken : List (List ℕ)} {c : Chunking} (n : ℕ) → given c ≡ Some n → HasFed cut s taken c →
     HasFed cut s (taken ++ take n c.held ∷ []) (record c { held = drop n c.held; scanned = 0; found = false })

@@ -1,3 +1,4 @@
+//! The buffer of a chunker.
 ghost use Rattle.std.specs.Prelude.{◌≡◌, ℕ, ◌+◌, ◌-◌, ◌≤◌, ◌++◌, length, slice_range};
 
 /// Makes room for `count` bytes behind those from `start` to `end`: where too little is left there, they move to the front.

@@ -1,3 +1,4 @@
+//! A stream cut into chunks while it comes in pieces.
 ghost use Rattle.std.specs.Prelude.{◌≡◌, ℕ, ◌+◌, ◌-◌, ◌^◌, ◌<◌, ◌≤◌, min, Bool, List, [], ◌∷◌, ◌++◌, length, take, drop, true, false, Option, Some, None, IfOk, IfNone, MatchOption, IsTrue, IsFalse, vec_len};
 ghost use Rattle.bd_model.specs.Chunks.{Cut, chunks};
 ghost use Rattle.bd_model.specs.State.{cut_of};
@@ -100,7 +101,8 @@ impl Chunker {
             → result ≡ next_len cut s (place_after taken) self.old.finished }
         ensures ended { IfNone result (IsTrue self.old.finished → (cut : Cut) (s : List ℕ) (taken : List (List ℕ))
             → HasFed cut s taken self.old → taken ≡ chunks cut s) }
-        ensures sized { MatchOption result (length self.old.held < 65536) (λ n. (1 ≤ n) × (n ≤ length self.old.held)) }
+        ensures sized { MatchOption result ((length self.old.held < self.old.cut.most) × (self.old.cut.most ≤ 65536))
+            (λ n. (1 ≤ n) × (n ≤ length self.old.held)) }
         ensures given { given self.new ≡ result }
         ensures cut { self.new.cut ≡ self.old.cut }
         ensures held { self.new.held ≡ self.old.held }

@@ -1,3 +1,4 @@
+//! The number that each byte adds to the hash.
 ghost use Rattle.std.specs.Prelude.{◌≡◌};
 ghost use Rattle.bd_gear.specs.Rolling.{rolled_over};
 ghost use Rattle.bd_gear.specs.Table.{AreGears};

@@ -1,3 +1,4 @@
+//! The search for the end of a chunk.
 ghost use Rattle.std.specs.Prelude.{◌≡◌, ◌+◌, ◌-◌, ◌^◌, ◌≤◌, length};
 ghost use Rattle.bd_model.specs.State.{cut_of};
 ghost use Rattle.bd_gear.specs.Rolling.{rolled_on, RollsTo, ScansTo};

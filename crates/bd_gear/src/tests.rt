@@ -1,3 +1,4 @@
+//! Streams cut in pieces of many lengths.
 ghost use Rattle.std.specs.Prelude.{◌≡◌, ℕ, ◌<◌, ◌≤◌, List, OnOk, IfOk, IsTrue, IsFalse, length};
 ghost use Rattle.bd_model.specs.Chunks.{Cut, chunks};
 ghost use Rattle.bd_plain.specs.Seen.{as_chunks};

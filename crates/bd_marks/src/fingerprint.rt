@@ -1,3 +1,4 @@
+//! Fingerprints and their digits.
 ghost use Rattle.std.specs.Prelude.{◌≡◌, IfOk};
 ghost use Rattle.bd_model.specs.Marks.{mark};
 ghost use Rattle.bd_model.specs.Texts.{hex};

@@ -1,3 +1,4 @@
+//! A text that is put out.
 ghost use Rattle.std.specs.Prelude.{◌≡◌, string_bytes};
 
 use std::marker::Model;

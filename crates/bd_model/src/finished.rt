@@ -1,3 +1,4 @@
+//! Lists that are finished.
 ghost use Rattle.std.specs.Prelude.{◌≡◌, ◌↔◌, ◌<◌, [], length, IsTrue, IsSome, IfSome, slice_index_or};
 
 use crate::sequence::Sequence;

@@ -1,3 +1,4 @@
+//! Shapes, names and lists at their bounds.
 use crate::{Field, Finished, Moments, Name, NameFault, Shape};
 use std::test::Fail;
 

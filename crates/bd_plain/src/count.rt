@@ -1,3 +1,4 @@
+//! How many chunks, extents and entries there are.
 ghost use Rattle.std.specs.Prelude.{◌≡◌, ◌+◌, ◌-◌, ◌<◌, ◌^◌, IfOk, length, filter, sum_by};
 ghost use Rattle.bd_model.specs.Chunks.{numbers};
 ghost use Rattle.bd_model.specs.Category.{begins};

@@ -1,3 +1,4 @@
+//! The chunks of a stream.
 ghost use Rattle.std.specs.Prelude.{◌≡◌, ◌+◌, ◌-◌, ◌*◌, ◌%◌, ◌^◌, ◌<◌, ◌≤◌, length, IfOk};
 ghost use Rattle.bd_model.specs.Chunks.{gear, window_hash, is_candidate, longest, chunk_len, chunks};
 ghost use Rattle.bd_model.specs.State.{cut_of};

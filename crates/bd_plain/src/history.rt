@@ -1,3 +1,4 @@
+//! Versions, each as the list of its chunks.
 ghost use Rattle.std.specs.Prelude.{◌≡◌, ◌+◌, ◌<◌, ◌≤◌, ◌^◌, IfOk, vec_len};
 
 use crate::lists::{contains, distinct, push_copy};

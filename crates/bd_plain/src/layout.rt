@@ -1,3 +1,4 @@
+//! Which chunks lie where.
 ghost use Rattle.std.specs.Prelude.{◌≡◌, ◌+◌, ◌<◌, ◌^◌, IfOk, [], if◌then◌else◌};
 ghost use Rattle.bd_model.specs.Category.{category};
 ghost use Rattle.bd_model.specs.Layout.{is_arranged, is_closed, closed_volume, arranged_to, open_category, record_bytes};

@@ -1,3 +1,4 @@
+//! One step of the version machine.
 ghost use Rattle.std.specs.Prelude.{◌≡◌, ◌+◌, ◌<◌, ℕ, List, IfOk, Option, Some, None, vec_len};
 ghost use Rattle.std.specs.Option.{option_copied};
 ghost use Rattle.bd_model.specs.State.{history as cut_history};

@@ -1,3 +1,4 @@
+//! What a backup needs, and what a store owns.
 ghost use Rattle.std.specs.Prelude.{◌≡◌, ◌+◌, ◌<◌, ◌≤◌, ◌^◌, IfOk, sum_by, flat_map};
 ghost use Rattle.bd_model.specs.Chunks.{numbers};
 ghost use Rattle.bd_model.specs.History.{version};

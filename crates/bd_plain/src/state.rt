@@ -1,3 +1,4 @@
+//! The state of the version machine.
 ghost use Rattle.std.specs.Prelude.{◌≡◌, ◌+◌, ◌<◌, ◌≤◌, ◌-◌, [], ◌∷◌, IfOk, slice_index_or, length, vec_len};
 
 use crate::cut::chunks;

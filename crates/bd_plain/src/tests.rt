@@ -1,2 +1,3 @@
+//! Worked examples of the definitions.
 mod chunks;
 mod worked;

@@ -36,9 +36,6 @@ use_of_each space n within = at _ (slice_get-get_or space.uses n Free within)
     at Taken is = inr (inl is)
     at Held is = inr (inr is)
 
-pub one_use : (space : Allotment) (n : ℕ) (u v : Use) → slice_get space.uses n ≡ Some u → slice_get space.uses n ≡ Some v → u ≡ v
-one_use space n u v is was = cc
-
 -- ---- after some numbers were marked
 
 -- a number's use is the mark's, or the one that it had
@@ -65,6 +62,3 @@ taken_after_freed ns old new n m now = elim (Marks-use ns Free Taken old new n m
   where
     free≢taken : Free ≢ Taken
     free≢taken e = cc
-
-pub taken_but_freed : (ns : List ℕ) (old new : Allotment) (n : ℕ) → Marks ns Free old new → IsTaken old n → (Contains ns n → ⊥) → IsTaken new n
-taken_but_freed ns old new n m was without = m.others n without ∙ was

@@ -1,3 +1,4 @@
+//! The extents of one owner.
 ghost use Rattle.std.specs.Prelude.{◌≡◌, ◌+◌, ◌≤◌, [], ◌∷◌, ◌++◌, length, ◌↔◌, IsTrue, IfOk, IsOk, OnOk, OnErr};
 ghost use Rattle.bd_space.specs.Holding.{Holding};
 

@@ -1,3 +1,4 @@
+//! The use of each extent.
 ghost use Rattle.std.specs.Prelude.{◌≡◌, ◌≢◌, ℕ, ◌+◌, ◌^◌, ◌<◌, ◌≤◌, ◌++◌, length, take, drop, replicate, All, IfOk, OnOk, OnErr, MatchResult, nat_eq};
 ghost use Rattle.std.specs.List.{IsDistinct};
 ghost use Rattle.bd_space.specs.Allotment.{Allotment, IsFree, IsTaken, is_free, is_held, numbers_from, free_numbers, free_count, held_count, Marks};

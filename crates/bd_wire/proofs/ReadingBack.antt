@@ -1,5 +1,5 @@
 -- What a field reads back as, and what its bytes are, before any other bytes.
-use Rattle.std.proofs.Common.{◌≡◌, ℕ, ◌^◌, ◌<◌, List, [], ◌∷◌, ◌++◌, take, drop, refl, sym, ◌∙◌, ap}
+use Rattle.std.proofs.Common.{◌≡◌, ℕ, ◌^◌, ◌<◌, List, ◌++◌, take, drop, refl, sym, ◌∙◌, ap}
 use Rattle.std.specs.Int.{w32, w64, to_be_bytes, from_be_bytes}
 use Rattle.std.proofs.lemmas.Nat.{from_be_bytes-to_be_bytes_4, from_be_bytes-to_be_bytes_8}
 
@@ -16,10 +16,6 @@ take-u64-append n rest = refl
 pub drop-u64-append : (n : ℕ) (rest : List ℕ) → drop 8 (to_be_bytes w64 n ++ rest) ≡ rest
 drop-u64-append n rest = refl
 
--- two fields that begin the same bytes are one, and so is what follows them
-pub u8_same : (m n : ℕ) (rest others : List ℕ) → (m ∷ []) ++ rest ≡ (n ∷ []) ++ others → (m ≡ n) × (rest ≡ others)
-u8_same m n rest others same = (cc, cc)
-
 pub u32_same : (m n : ℕ) (rest others : List ℕ) → m < 2 ^ 32 → n < 2 ^ 32
     → to_be_bytes w32 m ++ rest ≡ to_be_bytes w32 n ++ others → (m ≡ n) × (rest ≡ others)
 u32_same m n rest others fits_m fits_n same = (
@@ -27,15 +23,6 @@ u32_same m n rest others fits_m fits_n same = (
       ∙ ap (λ bytes. from_be_bytes w32 (take 4 bytes)) same
       ∙ from_be_bytes-to_be_bytes_4 n fits_n,
   ap (drop 4) same,
-)
-
-pub u64_same : (m n : ℕ) (rest others : List ℕ) → m < 2 ^ 64 → n < 2 ^ 64
-    → to_be_bytes w64 m ++ rest ≡ to_be_bytes w64 n ++ others → (m ≡ n) × (rest ≡ others)
-u64_same m n rest others fits_m fits_n same = (
-  sym (from_be_bytes-to_be_bytes_8 m fits_m)
-      ∙ ap (λ bytes. from_be_bytes w64 (take 8 bytes)) same
-      ∙ from_be_bytes-to_be_bytes_8 n fits_n,
-  ap (drop 8) same,
 )
 
 -- the value of a field that begins these bytes

@@ -1,3 +1,4 @@
+//! Fields read from the front of some bytes.
 ghost use Rattle.std.specs.Prelude.{◌≡◌, ℕ, ◌<◌, ◌≤◌, ◌↔◌, List, [], ◌∷◌, ◌++◌, length, IsSome, IfSome, IfNone};
 ghost use Rattle.std.specs.Int.{w32, w64, to_be_bytes};
 

@@ -1,3 +1,4 @@
+//! Streams and the lengths of their chunks.
 use crate::chunks;
 use bd_model::Shape;
 use std::alloc::Global;

@@ -1,3 +1,4 @@
+//! Lists of commands and what they answer.
 use crate::{PlainOutcome, PlainState, step};
 use bd_model::{Answer, Command, Name, Shape};
 use std::alloc::Global;
