@@ -179,7 +179,8 @@ rows_from r (row ∷ second ∷ rows) =
     then record { start = r; chunks = row.chunks + second.chunks; bytes = row.bytes + second.bytes } ∷ rows
     else record row { start = max r row.start } ∷ second ∷ rows
 
--- one step of arranging the version of the chunks w, that of start i; the rows before it end before that start
+-- one step of arranging the version of the chunks w, that of start i; before it no row has a start that is both above the
+-- one before i and above the oldest
 pub record ArrangesOne (h : History) (w : List (List ℕ)) (i : ℕ) : Type 0 where
   pub volume : closed_volume (grown h w) (Waiting (i + 1)) (newest h) ≡ closed_volume (grown h w) (Waiting i) (newest h) ++ archived h w i
   pub rows_grow : rows (grown h w) (Waiting (i + 1)) (newest h) ≡ rows_with (max i (oldest h)) (archived h w i) (rows (grown h w) (Waiting i) (newest h))
