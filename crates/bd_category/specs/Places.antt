@@ -16,7 +16,7 @@ header_room at end = if nat_lt (end - at) 36 then 0 else 36
 abbrev pub InHeader : Sizes → List ℕ → ℕ → ℕ → ℕ → Type 0
 InHeader s extents at end place = InOwner s extents at (header_room at end) place
 
--- the bytes behind a header
+-- the bytes of the body behind it
 abbrev pub InBody : Sizes → List ℕ → Header → ℕ → Type 0
 InBody s extents header place = InOwner s extents (header.at + 36) header.length place
 

@@ -2,19 +2,16 @@
 use Rattle.std.proofs.Common.{◌≡◌, ℕ, ◌+◌, Bool, true, false, cond, ◌&&◌, List, [], ◌∷◌, refl, sym, ◌∙◌, ap, subst, Option, Some, None}
 use Rattle.std.specs.Prelude.{IsTrue, Ok, Err, ◌==◌}
 use Rattle.std.specs.List.{list_all}
-use Rattle.std.proofs.lemmas.Bool.{eqb-true}
 use Rattle.bd_model.specs.Sizes.{Sizes}
 use Rattle.bd_model.specs.declared.damage.Damage.{Damage}
 use Rattle.bd_model.specs.declared.damage.Damage.TheVariants.{Entry, Sum}
 use Rattle.bd_model.specs.declared.layout.RecipeEntry.{RecipeEntry}
-use Rattle.bd_model.proofs.ListLemmas.{left_and, right_and}
 use Rattle.bd_catalog.specs.Catalogue.{Catalogue}
 use Rattle.bd_catalog.specs.Damages.{IsOfRestore}
 use Rattle.bd_catalog.specs.Sound.{recipe_of, recipe_holds, entry_holds}
 use Rattle.bd_recipe.specs.Entries.{first_bad}
 use Rattle.bd_recipe.specs.Reading.{length_in, recipe_found, total, with_sum}
 use Rattle.bd_recipe.proofs.Entries.{first_bad-is}
-use Rattle.bd_recipe.proofs.Found.{found-all}
 
 -- where none fails all hold
 pub all_from_none : (holds : RecipeEntry → Bool) (v index : ℕ) (xs : List RecipeEntry) → first_bad holds v index xs ≡ None → list_all holds xs ≡ true
@@ -31,12 +28,6 @@ all_from_none holds v index (x ∷ xs) none =
 module _ (s : Sizes) (c : Catalogue) (v : ℕ) (image : List ℕ) where
   abbrev entries : List RecipeEntry
   entries = recipe_of s c image v
-
-  pub found-holds : IsTrue (recipe_holds s c image v) → recipe_found s c image v ≡ Ok entries
-  found-holds holds =
-      let each = list_all (entry_holds s c v) entries in
-      let sum = total entries == length_in c v in
-      found-all s c v image (left_and each sum holds) (eqb-true (total entries) (length_in c v) (right_and each sum holds))
 
   -- what an answer says of the test of all entries and of the sum
   pub record Holds (items : List RecipeEntry) : Type 0 where

@@ -1,9 +1,9 @@
 -- The entries with one mark, visited from each to the next.
-use Rattle.std.proofs.Common.{◌≡◌, ℕ, suc, ◌+◌, ◌-◌, ◌≤◌, ◌<◌, true, false, cond, List, [], ◌∷◌, length, length-drop, drop, drop-drop, get_or, get_or-drop, refl, sym, ◌∙◌, ap, arith, subst, Some, None, IfSome, unwrap_or, ⊎_elim}
+use Rattle.std.proofs.Common.{◌≡◌, ℕ, suc, ◌+◌, ◌-◌, ◌≤◌, ◌<◌, true, false, cond, List, [], ◌∷◌, length, length-drop, drop, get_or, get_or-drop, refl, sym, ◌∙◌, ap, arith, subst, Some, IfSome, unwrap_or, ⊎_elim}
 use Rattle.std.specs.Str.{bytes_eq}
 use Rattle.std.proofs.lemmas.Bool.{cases_eq}
 use Rattle.bd_model.specs.declared.layout.RecipeEntry.{RecipeEntry}
-use Rattle.bd_recipe.specs.Marked.{first_from, next_after, occurrences}
+use Rattle.bd_recipe.specs.Marked.{first_from, next_after}
 use Rattle.bd_recipe.proofs.Marking.{first_from-within, next_here}
 
 -- ---- from an index on
@@ -82,48 +82,3 @@ module _ (es : List RecipeEntry) (i : ℕ) (inside : i < length es) (d : RecipeE
       ap (λ n. bytes_eq m (get_or es n d).mark.0) place
       ∙ ap (λ e. bytes_eq m e.mark.0) (sym (get_or-drop (i + 1) es (k - (i + 1)) d))
       ∙ none_before (i + 1) k (drop (i + 1) es) m d (omega arith) before
-
--- ---- all of them
-
-pub occurrences-none : (i : ℕ) (es : List RecipeEntry) (m : List ℕ) → first_from i es m ≡ None → occurrences i es m ≡ []
-occurrences-none i [] m = λ is. refl
-occurrences-none i (e ∷ es) m =
-    elim (bytes_eq m e.mark.0) as (λ t. cond t (Some i) (first_from (i + 1) es m) ≡ None → cond t (i ∷ occurrences (i + 1) es m) (occurrences (i + 1) es m) ≡ []) [
-      | true ↦ λ is. absurd (cc)
-      | false ↦ occurrences-none (i + 1) es m
-    ]
-
-occurrences-some : (i j : ℕ) (es : List RecipeEntry) (m : List ℕ) → first_from i es m ≡ Some j → occurrences i es m ≡ j ∷ occurrences (j + 1) (drop (j + 1 - i) es) m
-occurrences-some i j [] m = λ is. absurd (cc)
-occurrences-some i j (e ∷ es) m =
-    elim (bytes_eq m e.mark.0) as (λ t. cond t (Some i) (first_from (i + 1) es m) ≡ Some j → cond t (i ∷ occurrences (i + 1) es m) (occurrences (i + 1) es m) ≡ j ∷ occurrences (j + 1) (drop (j + 1 - i) (e ∷ es)) m) [
-      | true ↦ λ is.
-          let first : i ≡ j = cc in
-          let one : 1 ≡ i + 1 - i = omega arith in
-          subst (λ n. i ∷ occurrences (i + 1) es m ≡ n ∷ occurrences (n + 1) (drop (n + 1 - i) (e ∷ es)) m) first (ap (λ n. i ∷ occurrences (i + 1) (drop n (e ∷ es)) m) one)
-      | false ↦ λ is.
-          let past : suc (j + 1 - (i + 1)) ≡ j + 1 - i = omega (arith, at_least (i + 1) j es m is) in
-          occurrences-some (i + 1) j es m is ∙ ap (λ n. j ∷ occurrences (j + 1) (drop n (e ∷ es)) m) past
-    ]
-
--- the indices past i of the entries with the mark
-abbrev pub past_index : List RecipeEntry → List ℕ → ℕ → List ℕ
-past_index es m i = occurrences (i + 1) (drop (i + 1) es) m
-
-pub occurrences-first : (es : List RecipeEntry) (m : List ℕ) (j : ℕ) → first_from 0 es m ≡ Some j → occurrences 0 es m ≡ j ∷ past_index es m j
-occurrences-first es m j is =
-    let here : j + 1 - 0 ≡ j + 1 = omega arith in
-    occurrences-some 0 j es m is ∙ ap (λ n. j ∷ occurrences (j + 1) (drop n es) m) here
-
-module _ (es : List RecipeEntry) (i : ℕ) (inside : i < length es) (d : RecipeEntry) where
-  pub occurrences-next : (j : ℕ) → next_after es i ≡ Some j → past_index es (get_or es i d).mark.0 i ≡ j ∷ past_index es (get_or es i d).mark.0 j
-  occurrences-next j is =
-      let m = (get_or es i d).mark.0 in
-      let at : first_from (i + 1) (drop (i + 1) es) m ≡ Some j = sym (later es i inside d) ∙ is in
-      let place : i + 1 + (j + 1 - (i + 1)) ≡ j + 1 = omega (arith, at_least (i + 1) j (drop (i + 1) es) m at) in
-      occurrences-some (i + 1) j (drop (i + 1) es) m at
-      ∙ ap (λ xs. j ∷ occurrences (j + 1) xs m) (drop-drop (j + 1 - (i + 1)) (i + 1) es)
-      ∙ ap (λ n. j ∷ occurrences (j + 1) (drop n es) m) place
-
-  pub occurrences-last : next_after es i ≡ None → past_index es (get_or es i d).mark.0 i ≡ []
-  occurrences-last is = occurrences-none (i + 1) (drop (i + 1) es) (get_or es i d).mark.0 (sym (later es i inside d) ∙ is)

@@ -1,8 +1,7 @@
 -- Pieces of a recipe that are read one behind the other.
-use Rattle.std.proofs.Common.{get_or, get_or-take, ◌≡◌, ℕ, ◌+◌, ◌*◌, ◌≤◌, List, ◌++◌, length, take, drop, refl, sym, ◌∙◌, ap, subst, arith, Some, true}
+use Rattle.std.proofs.Common.{◌≡◌, ℕ, ◌+◌, ◌*◌, ◌≤◌, List, ◌++◌, length, take, drop, refl, sym, ◌∙◌, ap, subst, arith, Some, true}
 use Rattle.std.proofs.Math.Seq.{take-add}
-use Rattle.std.proofs.lemmas.List.Elements.{Contains-get_or}
-use Rattle.std.specs.List.{Contains, list_all}
+use Rattle.std.specs.List.{list_all}
 use Rattle.bd_disk.specs.History.{History}
 use Rattle.bd_disk.specs.Trace.{ReadsOnly}
 use Rattle.bd_disk.proofs.Traces.{reads_both}
@@ -11,8 +10,6 @@ use Rattle.bd_model.specs.Extents.{owner_places, places_at}
 use Rattle.bd_model.specs.Records.{entries_in}
 use Rattle.bd_model.specs.declared.layout.RecipeEntry.{RecipeEntry}
 use Rattle.bd_model.specs.declared.damage.Damage.{Damage}
-use Rattle.bd_extio.specs.Ranges.{InOwner, place_of}
-use Rattle.bd_extio.proofs.Places.{get_or-owner_places, length-places_at}
 use Rattle.bd_recipe.specs.Entries.{first_bad, is_within}
 use Rattle.bd_recipe.specs.Reading.{ReadsTo}
 use Rattle.bd_recipe.specs.declared.limits.Limits.{Limits}
@@ -50,11 +47,3 @@ reads_to-piece limits s extents owner chunks done count damage fits hold bad fir
           ∙ bad;
       reads = reads_more s extents done count (done + count) refl first second;
     }
-
--- the place of a byte of a range is one of the range's places
-pub in_places : (s : Sizes) (extents : List ℕ) → 1 ≤ s.extent → (n place : ℕ) → n ≤ length extents * s.extent → InOwner s extents 0 n place → Contains (places_at s extents 0 n) place
-in_places s extents some n place fits r =
-    let all = places_at s extents 0 n in
-    let index : 0 + r.k ≡ r.k = omega arith in
-    let here : get_or all r.k 0 ≡ place = get_or-take n (owner_places s extents) r.k 0 r.within ∙ get_or-owner_places s extents some r.k (omega (arith, r.within, fits)) ∙ sym (r.so ∙ ap (place_of s extents) index) in
-    subst (Contains all) here (Contains-get_or all r.k 0 (omega (arith, r.within, length-places_at s extents some 0 n (omega (arith, fits)))))

@@ -27,11 +27,6 @@ next_from index (e ∷ es) = first_from (index + 1) es e.mark.0
 abbrev pub next_after : List RecipeEntry → ℕ → Option ℕ
 next_after es index = next_from index (drop index es)
 
--- the indices of all entries with the mark, ascending; the entries are counted from `index` on
-abbrev pub occurrences : ℕ → List RecipeEntry → List ℕ → List ℕ
-occurrences index [] m = []
-occurrences index (e ∷ es) m = if bytes_eq m e.mark.0 then index ∷ occurrences (index + 1) es m else occurrences (index + 1) es m
-
 -- the pairs give for each mark its first index, and the list for each index the next one with the same mark, or 0
 pub record IsIndexOf (entries : List RecipeEntry) (first : List (List ℕ × ℕ)) (next : List ℕ) : Type 0 where
   pub count : length next ≡ length entries

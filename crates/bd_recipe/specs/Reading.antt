@@ -82,7 +82,8 @@ pub record ReadsTo (limits : Limits) (s : Sizes) (extents owner : List ℕ) (chu
   pub bad : first_bad (is_within limits) limits.version 0 (entries_in count owner) ≡ Some damage
   pub reads : ReadsOnly (places_at s extents 0 (40 * count)) old new
 
--- where the disk tells, some entry of an owner's recipe isn't within the limits, and it was read up to that one's piece
+-- where the disk tells, an owner's entries were read up to some place, and this damage is the first of them that isn't within
+-- the limits
 abbrev pub ReadsBad : {D : Type 0} → Ghosts D → Limits → Sizes → List ℕ → ℕ → Damage → D → D → Type 0
 ReadsBad g limits s extents chunks damage old new = g.tells → ReadsTo limits s extents (owned_on g s extents old) chunks damage (g.history old) (g.history new)
 
