@@ -2,12 +2,14 @@
 use Rattle.std.proofs.Common.{◌≡◌, ℕ, zero, suc, ◌+◌, ◌≤◌, Bool, true, false, List, [], ◌∷◌, refl, ◌∙◌, ap, subst, arith}
 use Rattle.bd_disk.specs.Images.{InRange, overwritten}
 use Rattle.bd_disk.specs.History.{History, contents}
-use Rattle.bd_disk.specs.Made.{Makes, Stores, WritesOnly}
-use Rattle.bd_disk.proofs.Frames.{writes_wider}
+use Rattle.bd_disk.specs.Made.{Makes, Stores}
+use Rattle.bd_disk.specs.Runs.{Writes}
+use Rattle.bd_disk.specs.declared.disk.Disk.{Ghosts}
+use Rattle.bd_disk.proofs.RunLemmas.{wider_writes}
 use Rattle.bd_model.specs.Sizes.{Sizes, half_bytes, half_place}
 use Rattle.bd_gate.specs.Superblock.{open_gate, closed_gate}
-use Rattle.bd_gate.specs.Halves.{InHalf}
-use Rattle.bd_gate.specs.Commits.{closing_calls}
+use Rattle.bd_gate.specs.Halves.{InFrame, InGate, InHalf}
+use Rattle.bd_gate.specs.Commits.{closing_calls, IsStored}
 
 overwritten_none : (xs : List ℕ) (at : ℕ) → overwritten xs at [] ≡ xs
 unfolding overwritten
@@ -52,11 +54,11 @@ commit_stores s number was_open frame {a} {b} {c} {d} closing filling opening = 
 -- ---- where it writes
 
 -- a range by another name of its place
-pub moved : (at other n : ℕ) {a b : History} → at ≡ other → WritesOnly (InRange at n) a b → WritesOnly (InRange other n) a b
-moved at other n {a} {b} e writes = subst (λ p. WritesOnly (InRange p n) a b) e writes
+pub moved : {D : Type 0} {g : Ghosts D} (at other n : ℕ) {a b : D} → at ≡ other → Writes g (InRange at n) a b → Writes g (InRange other n) a b
+moved {D} {g} at other n {a} {b} e writes = subst (λ p. Writes g (InRange p n) a b) e writes
 
-pub stores_moved : (at other : ℕ) {bytes : List ℕ} {a b : History} → at ≡ other → Stores at bytes a b → Stores other bytes a b
-stores_moved at other {bytes} {a} {b} e stores = subst (λ p. Stores p bytes a b) e stores
+pub stored_moved : (at other : ℕ) {bytes : List ℕ} {a b : History} → at ≡ other → IsStored at bytes a b → IsStored other bytes a b
+stored_moved at other {bytes} {a} {b} e stored = subst (λ p. IsStored p bytes a b) e stored
 
 behind_gate : (at size n place : ℕ) → n + 1 ≤ size → InRange (at + 1) n place → InRange at size place
 behind_gate at size n place fits r = (omega (arith, r.0), omega (arith, r.1))
@@ -65,9 +67,9 @@ gate_itself : (at size place : ℕ) → 1 ≤ size → InRange at 1 place → In
 gate_itself at size place some r = (r.0, omega (arith, r.1))
 
 -- a gate lies in its half
-pub gate_writes : (s : Sizes) (number : ℕ) {a b : History} → WritesOnly (InRange (half_place s number) 1) a b → WritesOnly (InHalf s number) a b
-gate_writes s number writes = writes_wider _ (λ place r. gate_itself (half_place s number) (half_bytes s) place (omega arith) r) writes
+pub gate_in_half : {D : Type 0} {g : Ghosts D} (s : Sizes) (number : ℕ) {a b : D} → Writes g (InGate s number) a b → Writes g (InHalf s number) a b
+gate_in_half s number writes = wider_writes _ (λ place r. gate_itself (half_place s number) (half_bytes s) place (omega arith) r) writes
 
 -- and a frame behind it
-pub frame_writes : (s : Sizes) (number n : ℕ) {a b : History} → n + 1 ≤ half_bytes s → WritesOnly (InRange (half_place s number + 1) n) a b → WritesOnly (InHalf s number) a b
-frame_writes s number n fits writes = writes_wider _ (λ place r. behind_gate (half_place s number) (half_bytes s) n place fits r) writes
+pub frame_in_half : {D : Type 0} {g : Ghosts D} (s : Sizes) (number n : ℕ) {a b : D} → n + 1 ≤ half_bytes s → Writes g (InFrame s number n) a b → Writes g (InHalf s number) a b
+frame_in_half s number n fits writes = wider_writes _ (λ place r. behind_gate (half_place s number) (half_bytes s) n place fits r) writes

@@ -1,11 +1,11 @@
 -- What ten bytes from the front of a half say.
-use Rattle.std.proofs.Common.{◌≡◌, ⊎_elim, ℕ, ◌+◌, ◌*◌, ◌<◌, ◌≤◌, List, take, drop, Bool, eqb, Option, Some, sym, ◌∙◌, ap, arith}
+use Rattle.std.proofs.Common.{◌≡◌, ⊎_elim, inl, inr, ℕ, zero, suc, ◌+◌, ◌*◌, ◌<◌, ◌≤◌, List, take, drop, Bool, eqb, Option, Some, sym, ◌∙◌, ap, arith}
 use Rattle.std.proofs.lemmas.List.{drop-take, drop-drop, take-take}
 use Rattle.std.specs.Int.{w64, from_be_bytes}
 use Rattle.bd_disk.specs.Images.{InRange, bytes_at}
 use Rattle.bd_model.specs.Sizes.{Sizes, half_bytes, half_place}
 use Rattle.bd_gate.specs.Superblock.{byte_at, eight_at}
-use Rattle.bd_gate.specs.Halves.{Half, half_at, turn_at, newest_by, newest_half, InHalves}
+use Rattle.bd_gate.specs.Halves.{Half, half_at, is_open, turn_at, newest_by, newest_half, InFronts, InHalves}
 use Rattle.bd_gate.specs.declared.half.Front.{Front}
 use Rattle.bd_gate.proofs.Newest.{place, places, none_or_half}
 
@@ -66,3 +66,20 @@ within size number from n at lt fits r = let p = places size number lt in (omega
 
 pub in_halves : (s : Sizes) (number from n at : ℕ) → number < 2 → from + n ≤ half_bytes s → InRange (half_place s number + from) n at → InHalves s at
 in_halves s number from n at lt fits r = within (half_bytes s) number from n at lt fits r
+
+-- the front of a half is one of the two
+pub in_fronts : (s : Sizes) (number at : ℕ) → number < 2 → InRange (half_place s number) 10 at → InFronts s at
+in_fronts s zero at lt r = inl r
+in_fronts s (suc zero) at lt r = inr r
+in_fronts s (suc (suc number)) at lt r = absurd (omega arith)
+
+pub fronts_in_halves : (s : Sizes) (at : ℕ) → InFronts s at → InHalves s at
+fronts_in_halves s at (inl r) = in_halves s 0 0 10 at (omega arith) (omega arith) (omega (arith, r.0), omega (arith, r.1))
+fronts_in_halves s at (inr r) = in_halves s 1 0 10 at (omega arith) (omega arith) (omega (arith, r.0), omega (arith, r.1))
+
+-- the newest half is one of the two
+pub half_number : (s : Sizes) (image : List ℕ) (k : ℕ) → newest_half s image ≡ Some k → k ≤ 1
+half_number s image k is =
+    ⊎_elim (λ none. absurd (cc (is, none)))
+    (λ half. ⊎_elim (λ zeroth. omega (arith, same_number k 0 (sym is ∙ zeroth))) (λ one. omega (arith, same_number k 1 (sym is ∙ one))) half)
+    (none_or_half (is_open s image 0) (turn_at s image 0) (is_open s image 1) (turn_at s image 1))

@@ -1,6 +1,5 @@
 -- What a look for the newest half finds.
-use Rattle.std.specs.Prelude.{◌≡◌, ℕ, ◌≤◌, List, [], ◌∷◌, ◌++◌, Some, None, Result, Ok, Err}
-use Rattle.bd_disk.specs.Calls.{Rose}
+use Rattle.std.specs.Prelude.{◌≡◌, ℕ, Bool, true, false, List, [], ◌∷◌, ◌++◌, Some, None, Result, Ok, Err}
 use Rattle.bd_disk.specs.Trace.{upward}
 use Rattle.bd_model.specs.Sizes.{Sizes, half_place}
 use Rattle.bd_gate.specs.Superblock.{byte_at}
@@ -17,11 +16,16 @@ IsFound s image (Err (NoHalf gates turns)) =
     × (turns ≡ turn_at s image 0 ∷ turn_at s image 1 ∷ [])
 IsFound s image (Err DiskFault) = Unit {0}
 
--- a count of faults has risen, or stands at its last value, where a fault of the disk is answered, and else stays
-abbrev pub IsCounted : ℕ → ℕ → Result Half GateFault → Type 0
-IsCounted before now (Ok half) = now ≡ before
-IsCounted before now (Err (NoHalf gates turns)) = now ≡ before
-IsCounted before now (Err DiskFault) = (before ≤ now) × Rose before now
+-- whether it is a fault of the disk
+abbrev pub is_disk_fault : GateFault → Bool
+is_disk_fault (NoHalf gates turns) = false
+is_disk_fault DiskFault = true
+
+-- a fact of an answer that isn't a fault of the disk
+abbrev pub UnlessFault : Result Half GateFault → Type 0 → Type 0
+UnlessFault (Ok half) P = P
+UnlessFault (Err (NoHalf gates turns)) P = P
+UnlessFault (Err DiskFault) P = Unit {0}
 
 -- where gate, turn and length of both halves lie
 abbrev pub front_places : Sizes → List ℕ

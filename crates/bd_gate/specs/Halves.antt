@@ -1,7 +1,7 @@
 -- The two halves, of which one is the newest.
-use Rattle.std.specs.Prelude.{ℕ, ◌+◌, ◌-◌, ◌*◌, ◌%◌, ◌==◌, ◌&&◌, Bool, nat_le, List, Option, Some, None, if◌then◌else◌}
+use Rattle.std.specs.Prelude.{◌⊎◌, ℕ, ◌+◌, ◌-◌, ◌*◌, ◌%◌, ◌<◌, ◌==◌, ◌&&◌, Bool, nat_le, List, Option, Some, None, if◌then◌else◌}
 use Rattle.bd_disk.specs.Images.{InRange, bytes_at}
-use Rattle.bd_model.specs.Sizes.{Sizes, half_bytes, half_place}
+use Rattle.bd_model.specs.Sizes.{Sizes, half_bytes, half_place, extent_place}
 use Rattle.bd_gate.specs.Superblock.{open_gate, byte_at, eight_at}
 use Rattle.bd_gate.specs.declared.half.Half.{Half as StructHalf}
 
@@ -44,6 +44,13 @@ payload_of s half image = bytes_at (half_place s half.number + 10) half.length i
 abbrev pub log_place : Sizes → Half → ℕ
 log_place s half = half_place s half.number + 10 + half.length
 
+-- the places of gate, turn and length of both halves, and of the payload of one
+abbrev pub InFronts : Sizes → ℕ → Type 0
+InFronts s place = InRange (half_place s 0) 10 place ⊎ InRange (half_place s 1) 10 place
+
+abbrev pub InPayload : Sizes → Half → ℕ → Type 0
+InPayload s half place = InRange (half_place s half.number + 10) half.length place
+
 -- the places of the gate of a half, of n bytes behind it, of the half, and of both
 abbrev pub InGate : Sizes → ℕ → ℕ → Type 0
 InGate s k place = InRange (half_place s k) 1 place
@@ -56,3 +63,7 @@ InHalf s k place = InRange (half_place s k) (half_bytes s) place
 
 abbrev pub InHalves : Sizes → ℕ → Type 0
 InHalves s place = InRange 64 (2 * half_bytes s) place
+
+-- those before the first extent: of the superblock and of both halves
+abbrev pub BeforeExtents : Sizes → ℕ → Type 0
+BeforeExtents s place = place < extent_place s 0

@@ -2,7 +2,7 @@
 use Rattle.std.specs.Prelude.{◌≡◌, ◌⊎◌, ℕ, ◌+◌, ◌-◌, ◌%◌, Bool, List, length, take, slice_index, Option, Some, option_map}
 use Rattle.bd_disk.specs.Images.{AgreeBut, bytes_at}
 use Rattle.bd_disk.specs.History.{History, contents}
-use Rattle.bd_disk.specs.Made.{IsSure}
+use Rattle.bd_disk.specs.Made.{IsSure, LeavesNow, LeavesSince}
 use Rattle.bd_model.specs.Sizes.{Sizes, half_bytes, half_place}
 use Rattle.bd_gate.specs.Halves.{newest_half, is_open, turn_at, InHalf, InHalves}
 
@@ -41,6 +41,26 @@ pub record IsCommitted (s : Sizes) (number : ℕ) (frame old image : List ℕ) :
 abbrev pub IsOldOrCommitted : Sizes → ℕ → List ℕ → List ℕ → List ℕ → Type 0
 IsOldOrCommitted s number frame old image = SameStanding s old image ⊎ IsCommitted s number frame old image
 
+-- a stop at any moment since old leaves the newest half as it was
+abbrev pub KeepsStanding : Sizes → History → History → Type 0
+KeepsStanding s old new = LeavesSince (SameStanding s (contents old)) old new
+
+-- or this one, with what stands behind its gate
+abbrev pub KeepsOrOpens : Sizes → ℕ → History → History → Type 0
+KeepsOrOpens s number old new = LeavesSince (IsEither s number (behind s (contents old) number) (contents old)) old new
+
+-- a stop now leaves this half as the newest, with what stood behind its gate
+abbrev pub LeavesOpened : Sizes → ℕ → History → History → Type 0
+LeavesOpened s number old new = LeavesNow (HasFrame s number (behind s (contents old) number)) new
+
+-- a stop at any moment since old leaves the newest half as it was, or the whole commit
+abbrev pub KeepsOrCommits : Sizes → ℕ → List ℕ → History → History → Type 0
+KeepsOrCommits s number frame old new = LeavesSince (IsOldOrCommitted s number frame (contents old)) old new
+
+-- a stop now leaves the whole commit
+abbrev pub LeavesCommitted : Sizes → ℕ → List ℕ → History → History → Type 0
+LeavesCommitted s number frame old new = LeavesNow (IsCommitted s number frame (contents old)) new
+
 -- The other half is the newest, and this one is open or closed as said. Both are the same in each image that a stop may
 -- leave.
 pub record IsBeside (s : Sizes) (number : ℕ) (opened : Bool) (h : History) : Type 0 where
@@ -59,3 +79,7 @@ IsNextTurn s number image = turn_at s image number ≡ next_turn s number image
 -- so is the turn with which the frame begins
 abbrev pub BeginsNextTurn : Sizes → ℕ → List ℕ → List ℕ → Type 0
 BeginsNextTurn s number frame image = slice_index frame 0 ≡ next_turn s number image
+
+-- where it does, this half has the next turn then
+abbrev pub BringsNextTurn : Sizes → ℕ → List ℕ → History → History → Type 0
+BringsNextTurn s number frame old new = BeginsNextTurn s number frame (contents old) → IsNextTurn s number (contents new)

@@ -2,30 +2,25 @@ ghost use Rattle.std.specs.Prelude.{◌≡◌, ◌+◌, ◌-◌, ◌<◌, ◌≤
 ghost use Rattle.bd_disk.specs.Calls.{HasCause};
 ghost use Rattle.bd_disk.specs.History.{contents};
 ghost use Rattle.bd_disk.specs.Images.{InRange};
-ghost use Rattle.bd_disk.specs.Made.{LeavesNow, LeavesSince, Makes, Stores, WritesOnly};
-ghost use Rattle.bd_disk.specs.Trace.{ReadsOnly};
+ghost use Rattle.bd_disk.specs.Made.{Makes, Stores};
+ghost use Rattle.bd_disk.specs.Runs.{Writes};
 ghost use Rattle.bd_model.specs.Sizes.{sizes_of, disk_bytes, half_bytes, half_place};
-ghost use Rattle.bd_gate.specs.Commits.{stored_by, closing_calls, commit_calls};
+ghost use Rattle.bd_gate.specs.Commits.{closing_calls, commit_calls, IsStored};
 ghost use Rattle.bd_gate.specs.Halves.{InFrame, InGate, InHalf};
-ghost use Rattle.bd_gate.specs.Standing.{behind, SameStanding, HasFrame, IsEither, IsCommitted, IsOldOrCommitted, IsBeside, IsNextTurn, BeginsNextTurn};
+ghost use Rattle.bd_gate.specs.Standing.{IsBeside, IsNextTurn, BeginsNextTurn, BringsNextTurn, KeepsStanding, KeepsOrOpens, KeepsOrCommits, LeavesOpened, LeavesCommitted};
 ghost use Rattle.bd_gate.specs.Superblock.{open_gate, closed_gate};
 
 use crate::half::{CLOSED_GATE, OPEN_GATE, place_of_half};
 use bd_disk::{Disk, Failed};
 use bd_model::Shape;
 
-/// Writes these bytes with one call, and makes sure of them with another. At Ok the contents hold them, and a stop leaves the
-/// contents and nothing else.
+/// Writes these bytes with one call, and makes sure of them with another.
 pub fn store<D: Disk>(disk: &mut D, at: u64, from: &[u8]) -> Result<(), Failed>
     requires { at + length from.now ≤ D.bytes disk.old }
-    ensures bytes { D.bytes disk.new ≡ D.bytes disk.old }
+    ensures disk { Writes D.Disk (InRange at (length from.now)) disk.old disk.new }
     ensures cause { HasCause (D.faults disk.old) (D.faults disk.new) result }
-    ensures writes { D.tells →
-        WritesOnly (InRange at (length from.now)) (D.history disk.old) (D.history disk.new) }
-    ensures stores { OnOk result (D.tells →
-        Stores at from.now (D.history disk.old) (D.history disk.new)) }
-    ensures calls { OnOk result (D.tells →
-        Makes (stored_by at from.now) (D.history disk.old) (D.history disk.new)) }
+    ensures stored { OnOk result (D.tells →
+        IsStored at from.now (D.history disk.old) (D.history disk.new)) }
 {
     disk.write(at, from)?;
     disk.sync()?;
@@ -39,24 +34,14 @@ pub fn close_half<D: Disk>(disk: &mut D, shape: &Shape, number: u8) -> Result<()
     requires number { number < 2 }
     requires room { disk_bytes (sizes_of shape.now) ≤ D.bytes disk.old }
     requires ready { D.tells → IsBeside (sizes_of shape.now) number true (D.history disk.old) }
-    ensures bytes { D.bytes disk.new ≡ D.bytes disk.old }
+    ensures disk { Writes D.Disk (InGate (sizes_of shape.now) number) disk.old disk.new }
     ensures cause { HasCause (D.faults disk.old) (D.faults disk.new) result }
-    ensures writes { D.tells →
-        WritesOnly (InGate (sizes_of shape.now) number) (D.history disk.old) (D.history disk.new) }
-    ensures stops { D.tells →
-        LeavesSince (SameStanding (sizes_of shape.now) (contents (D.history disk.old)))
-        (D.history disk.old) (D.history disk.new) }
-    ensures stores { OnOk result (D.tells →
-        Stores (half_place (sizes_of shape.now) number) (closed_gate ∷ [])
-        (D.history disk.old) (D.history disk.new)) }
-    ensures calls { OnOk result (D.tells →
-        Makes (stored_by (half_place (sizes_of shape.now) number) (closed_gate ∷ []))
-        (D.history disk.old) (D.history disk.new)) }
+    ensures stops { D.tells → KeepsStanding (sizes_of shape.now) (D.history disk.old) (D.history disk.new) }
+    ensures stored { OnOk result (D.tells →
+        IsStored (half_place (sizes_of shape.now) number) (closed_gate ∷ []) (D.history disk.old) (D.history disk.new)) }
     // The half can be filled.
     ensures done { OnOk result (D.tells →
         IsBeside (sizes_of shape.now) number false (D.history disk.new)) }
-    ensures places { OnOk result (D.tells →
-        ReadsOnly [] (D.history disk.old) (D.history disk.new)) }
 {
     let place = place_of_half(shape, number);
     store(disk, place, &[CLOSED_GATE])?;
@@ -78,28 +63,16 @@ pub fn fill_half<D: Disk>(
     requires some { 1 ≤ length frame.now }
     requires fits { length frame.now + 1 ≤ half_bytes (sizes_of shape.now) }
     requires ready { D.tells → IsBeside (sizes_of shape.now) number false (D.history disk.old) }
-    ensures bytes { D.bytes disk.new ≡ D.bytes disk.old }
+    ensures disk { Writes D.Disk (InFrame (sizes_of shape.now) number (length frame.now)) disk.old disk.new }
     ensures cause { HasCause (D.faults disk.old) (D.faults disk.new) result }
-    ensures writes { D.tells →
-        WritesOnly (InFrame (sizes_of shape.now) number (length frame.now))
-        (D.history disk.old) (D.history disk.new) }
-    ensures stops { D.tells →
-        LeavesSince (SameStanding (sizes_of shape.now) (contents (D.history disk.old)))
-        (D.history disk.old) (D.history disk.new) }
-    ensures stores { OnOk result (D.tells →
-        Stores (half_place (sizes_of shape.now) number + 1) frame.now
-        (D.history disk.old) (D.history disk.new)) }
-    ensures calls { OnOk result (D.tells →
-        Makes (stored_by (half_place (sizes_of shape.now) number + 1) frame.now)
-        (D.history disk.old) (D.history disk.new)) }
+    ensures stops { D.tells → KeepsStanding (sizes_of shape.now) (D.history disk.old) (D.history disk.new) }
+    ensures stored { OnOk result (D.tells →
+        IsStored (half_place (sizes_of shape.now) number + 1) frame.now (D.history disk.old) (D.history disk.new)) }
     // The half can be opened, if the frame begins with the next turn.
     ensures done { OnOk result (D.tells →
         IsBeside (sizes_of shape.now) number false (D.history disk.new)) }
     ensures turn { OnOk result (D.tells →
-        BeginsNextTurn (sizes_of shape.now) number frame.now (contents (D.history disk.old)) →
-        IsNextTurn (sizes_of shape.now) number (contents (D.history disk.new))) }
-    ensures places { OnOk result (D.tells →
-        ReadsOnly [] (D.history disk.old) (D.history disk.new)) }
+        BringsNextTurn (sizes_of shape.now) number frame.now (D.history disk.old) (D.history disk.new)) }
 {
     let place = place_of_half(shape, number);
     store(disk, place + 1, frame)?;
@@ -115,26 +88,15 @@ pub fn open_half<D: Disk>(disk: &mut D, shape: &Shape, number: u8) -> Result<(),
     requires ready { D.tells → IsBeside (sizes_of shape.now) number false (D.history disk.old) }
     requires turn { D.tells →
         IsNextTurn (sizes_of shape.now) number (contents (D.history disk.old)) }
-    ensures bytes { D.bytes disk.new ≡ D.bytes disk.old }
+    ensures disk { Writes D.Disk (InGate (sizes_of shape.now) number) disk.old disk.new }
     ensures cause { HasCause (D.faults disk.old) (D.faults disk.new) result }
-    ensures writes { D.tells →
-        WritesOnly (InGate (sizes_of shape.now) number) (D.history disk.old) (D.history disk.new) }
-    ensures stops { D.tells →
-        LeavesSince (IsEither (sizes_of shape.now) number (behind (sizes_of shape.now) (contents (D.history disk.old)) number) (contents (D.history disk.old)))
-        (D.history disk.old) (D.history disk.new) }
-    ensures stores { OnOk result (D.tells →
-        Stores (half_place (sizes_of shape.now) number) (open_gate ∷ [])
-        (D.history disk.old) (D.history disk.new)) }
-    ensures calls { OnOk result (D.tells →
-        Makes (stored_by (half_place (sizes_of shape.now) number) (open_gate ∷ []))
-        (D.history disk.old) (D.history disk.new)) }
-    ensures done { OnOk result (D.tells →
-        LeavesNow (HasFrame (sizes_of shape.now) number (behind (sizes_of shape.now) (contents (D.history disk.old)) number)) (D.history disk.new)) }
+    ensures stops { D.tells → KeepsOrOpens (sizes_of shape.now) number (D.history disk.old) (D.history disk.new) }
+    ensures stored { OnOk result (D.tells →
+        IsStored (half_place (sizes_of shape.now) number) (open_gate ∷ []) (D.history disk.old) (D.history disk.new)) }
+    ensures done { OnOk result (D.tells → LeavesOpened (sizes_of shape.now) number (D.history disk.old) (D.history disk.new)) }
     // The other half is open, and is the next one to be closed.
     ensures next { OnOk result (D.tells →
         IsBeside (sizes_of shape.now) (1 - number) true (D.history disk.new)) }
-    ensures places { OnOk result (D.tells →
-        ReadsOnly [] (D.history disk.old) (D.history disk.new)) }
 {
     let place = place_of_half(shape, number);
     store(disk, place, &[OPEN_GATE])?;
@@ -152,20 +114,14 @@ fn close_where_open<D: Disk>(
     requires number { number < 2 }
     requires room { disk_bytes (sizes_of shape.now) ≤ D.bytes disk.old }
     requires ready { D.tells → IsBeside (sizes_of shape.now) number is_open (D.history disk.old) }
-    ensures bytes { D.bytes disk.new ≡ D.bytes disk.old }
+    ensures disk { Writes D.Disk (InGate (sizes_of shape.now) number) disk.old disk.new }
     ensures cause { HasCause (D.faults disk.old) (D.faults disk.new) result }
-    ensures writes { D.tells →
-        WritesOnly (InGate (sizes_of shape.now) number) (D.history disk.old) (D.history disk.new) }
-    ensures stops { D.tells →
-        LeavesSince (SameStanding (sizes_of shape.now) (contents (D.history disk.old)))
-        (D.history disk.old) (D.history disk.new) }
+    ensures stops { D.tells → KeepsStanding (sizes_of shape.now) (D.history disk.old) (D.history disk.new) }
     ensures calls { OnOk result (D.tells →
         Makes (closing_calls (sizes_of shape.now) number is_open)
         (D.history disk.old) (D.history disk.new)) }
     ensures done { OnOk result (D.tells →
         IsBeside (sizes_of shape.now) number false (D.history disk.new)) }
-    ensures places { OnOk result (D.tells →
-        ReadsOnly [] (D.history disk.old) (D.history disk.new)) }
 {
     if !is_open {
         return Ok(());
@@ -193,13 +149,9 @@ pub fn commit_frame<D: Disk>(
     requires ready { D.tells → IsBeside (sizes_of shape.now) number is_open (D.history disk.old) }
     requires turn { D.tells →
         BeginsNextTurn (sizes_of shape.now) number frame.now (contents (D.history disk.old)) }
-    ensures bytes { D.bytes disk.new ≡ D.bytes disk.old }
+    ensures disk { Writes D.Disk (InHalf (sizes_of shape.now) number) disk.old disk.new }
     ensures cause { HasCause (D.faults disk.old) (D.faults disk.new) result }
-    ensures writes { D.tells →
-        WritesOnly (InHalf (sizes_of shape.now) number) (D.history disk.old) (D.history disk.new) }
-    ensures stops { D.tells →
-        LeavesSince (IsOldOrCommitted (sizes_of shape.now) number frame.now (contents (D.history disk.old)))
-        (D.history disk.old) (D.history disk.new) }
+    ensures stops { D.tells → KeepsOrCommits (sizes_of shape.now) number frame.now (D.history disk.old) (D.history disk.new) }
     // The contents are the old ones with the open gate and the frame, and a stop leaves nothing else.
     ensures stores { OnOk result (D.tells →
         Stores (half_place (sizes_of shape.now) number) (open_gate ∷ frame.now)
@@ -208,12 +160,10 @@ pub fn commit_frame<D: Disk>(
         Makes (commit_calls (sizes_of shape.now) number is_open frame.now)
         (D.history disk.old) (D.history disk.new)) }
     ensures done { OnOk result (D.tells →
-        LeavesNow (IsCommitted (sizes_of shape.now) number frame.now (contents (D.history disk.old))) (D.history disk.new)) }
+        LeavesCommitted (sizes_of shape.now) number frame.now (D.history disk.old) (D.history disk.new)) }
     // The other half is open, and is the next one to be written.
     ensures next { OnOk result (D.tells →
         IsBeside (sizes_of shape.now) (1 - number) true (D.history disk.new)) }
-    ensures places { OnOk result (D.tells →
-        ReadsOnly [] (D.history disk.old) (D.history disk.new)) }
 {
     close_where_open(disk, shape, number, is_open)?;
     fill_half(disk, shape, number, frame)?;

@@ -1,12 +1,11 @@
 ghost use Rattle.std.specs.Prelude.{◌≡◌, ◌+◌, ◌*◌, ◌<◌, ◌≤◌, ◌==◌, length, IfOk, OnOk};
-ghost use Rattle.bd_disk.specs.Calls.{HasCause};
+ghost use Rattle.bd_disk.specs.Calls.{FailsByCount, HasCause};
 ghost use Rattle.bd_disk.specs.History.{contents};
-ghost use Rattle.bd_disk.specs.Looks.{LooksOnlyAt};
-ghost use Rattle.bd_disk.specs.Made.{WritesNothing};
+ghost use Rattle.bd_disk.specs.Runs.{Reads};
 ghost use Rattle.bd_disk.specs.Trace.{ReadsOnly, upward};
 ghost use Rattle.bd_model.specs.Sizes.{sizes_of, disk_bytes, half_bytes, half_place, payload_room};
-ghost use Rattle.bd_gate.specs.Finding.{IsFound, IsCounted, front_places};
-ghost use Rattle.bd_gate.specs.Halves.{newer, newest_by, payload_of, InHalves};
+ghost use Rattle.bd_gate.specs.Finding.{is_disk_fault, front_places, IsFound, UnlessFault};
+ghost use Rattle.bd_gate.specs.Halves.{newer, newest_by, payload_of, InFronts, InPayload};
 ghost use Rattle.bd_gate.specs.Superblock.{open_gate, byte_at, eight_at};
 
 use bd_disk::{Disk, Failed};
@@ -81,11 +80,8 @@ pub(crate) fn place_of_half(shape: &Shape, number: u8) -> u64
 fn read_front<D: Disk>(disk: &mut D, shape: &Shape, number: u8) -> Result<Front, Failed>
     requires number { number < 2 }
     requires room { disk_bytes (sizes_of shape.now) ≤ D.bytes disk.old }
-    ensures bytes { D.bytes disk.new ≡ D.bytes disk.old }
+    ensures disk { Reads D.Disk (InFronts (sizes_of shape.now)) disk.old disk.new }
     ensures cause { HasCause (D.faults disk.old) (D.faults disk.new) result }
-    ensures writes { D.tells → WritesNothing (D.history disk.old) (D.history disk.new) }
-    ensures looks { D.tells →
-        LooksOnlyAt (InHalves (sizes_of shape.now)) (D.history disk.old) (D.history disk.new) }
     ensures gate { IfOk result (λ front. D.tells →
         front.gate ≡ byte_at (contents (D.history disk.old)) (half_place (sizes_of shape.now) number)) }
     ensures turn { IfOk result (λ front. D.tells →
@@ -147,16 +143,14 @@ fn newest_of(first: Front, second: Front) -> Option<u8>
 ///
 /// It is the one half whose gate is open, if its turn is at most 2. Where both are open, both turns must be at most 2 and
 /// differ, and it is the half whose turn is the other's plus one, modulo 3. Else there is none, and the answer is `NoHalf`.
+#[tactic(auto, using(bd_disk::proofs::RunLemmas::runs))]
 pub fn newest_half<D: Disk>(disk: &mut D, shape: &Shape) -> Result<Half, GateFault>
     requires room { disk_bytes (sizes_of shape.now) ≤ D.bytes disk.old }
-    ensures bytes { D.bytes disk.new ≡ D.bytes disk.old }
-    ensures cause { IsCounted (D.faults disk.old) (D.faults disk.new) result }
+    ensures disk { Reads D.Disk (InFronts (sizes_of shape.now)) disk.old disk.new }
+    ensures cause { FailsByCount is_disk_fault (D.faults disk.old) (D.faults disk.new) result }
     ensures found { D.tells → IsFound (sizes_of shape.now) (contents (D.history disk.old)) result }
     ensures range { IfOk result (λ half. (half.number ≤ 1) × (half.turn ≤ 2)) }
-    ensures writes { D.tells → WritesNothing (D.history disk.old) (D.history disk.new) }
-    ensures looks { D.tells →
-        LooksOnlyAt (InHalves (sizes_of shape.now)) (D.history disk.old) (D.history disk.new) }
-    ensures places { OnOk result (D.tells →
+    ensures places { UnlessFault result (D.tells →
         ReadsOnly (front_places (sizes_of shape.now)) (D.history disk.old) (D.history disk.new)) }
 {
     let first = read_front(disk, shape, 0)?;
@@ -181,7 +175,7 @@ pub fn newest_half<D: Disk>(disk: &mut D, shape: &Shape) -> Result<Half, GateFau
     }
 }
 
-/// Reads the payload of a half, in one read.
+/// Reads the payload of a half.
 pub fn read_payload<D: Disk>(
     disk: &mut D,
     shape: &Shape,
@@ -192,13 +186,10 @@ pub fn read_payload<D: Disk>(
     requires number { half.now.number < 2 }
     requires fits { half.now.length ≤ payload_room (sizes_of shape.now) }
     requires into { length into.old ≡ half.now.length }
-    ensures bytes { D.bytes disk.new ≡ D.bytes disk.old }
+    ensures disk { Reads D.Disk (InPayload (sizes_of shape.now) half.now) disk.old disk.new }
     ensures cause { HasCause (D.faults disk.old) (D.faults disk.new) result }
     ensures read { OnOk result (D.tells →
         into.new ≡ payload_of (sizes_of shape.now) half.now (contents (D.history disk.old))) }
-    ensures writes { D.tells → WritesNothing (D.history disk.old) (D.history disk.new) }
-    ensures looks { D.tells →
-        LooksOnlyAt (InHalves (sizes_of shape.now)) (D.history disk.old) (D.history disk.new) }
     ensures places { OnOk result (D.tells →
         ReadsOnly (upward (half_place (sizes_of shape.now) half.now.number + 10) half.now.length)
         (D.history disk.old) (D.history disk.new)) }

@@ -1,10 +1,10 @@
-ghost use Rattle.std.specs.Prelude.{◌≤◌, length, IfOk, OnOk};
+ghost use Rattle.std.specs.Prelude.{◌≤◌, length, OnOk};
 ghost use Rattle.bd_disk.specs.History.{contents};
 ghost use Rattle.bd_disk.specs.Made.{IsSettled};
 ghost use Rattle.bd_model.specs.Sizes.{sizes_of, disk_bytes};
 
 use super::*;
-use bd_disk::{Disk, MemDisk, OutOfMemory, Touch, crash_image};
+use bd_disk::{Disk, MemDisk, OutOfMemory, Touch};
 use bd_model::Shape;
 use std::alloc::Global;
 use std::test::Fail;
@@ -36,15 +36,6 @@ fn image_of(alloc: Global, gates: [u8; 2], turns: [u8; 2]) -> Result<Vec<u8>, Ou
         &[gates[1], turns[1], 0, 0, 0, 0, 0, 0, 0, 3],
     );
     Ok(image)
-}
-
-// A disk with these bytes whose calls fail from this one on.
-fn failing_from(alloc: Global, image: &[u8], call: u64) -> Result<MemDisk, OutOfMemory>
-    ensures { IfOk result (λ disk. IsSettled disk.history) }
-{
-    let mut disk = MemDisk::from_bytes(alloc, image)?;
-    disk.fail_from(call);
-    Ok(disk)
 }
 
 // The newest half, where the disk has room for a store.
@@ -173,29 +164,5 @@ fn a_commit_makes_four_calls_or_six(rt: HostRuntime) -> Result<(), Fail> {
         Touch::Read { at: 74, length: 2 },
     ];
     assert_eq!(rt; disk.trace(), calls.as_slice());
-    Ok(())
-}
-
-#[test]
-fn a_stop_within_a_commit_leaves_the_old_half_or_the_new(rt: HostRuntime) -> Result<(), Fail> {
-    let alloc = rt.alloc();
-    let shape = Shape::new(64, 16, 4, 4, 0, 4)?;
-    // Two reads, and then close, sync, fill, sync, open and sync.
-    for stop in 0..9 {
-        let mut disk = failing_from(alloc, &image_of(alloc, [OPEN, OPEN], [1, 2])?, stop)?;
-        if disk.size() >= shape.disk_bytes() {
-            let done = commit_pair(&mut disk, &shape, [7, 9]);
-            assert_eq!(rt; done.is_ok(), stop == 8);
-        }
-        for filler in [0, OPEN, 0xFF] {
-            let image = crash_image(alloc, &disk, filler)?;
-            let mut left = MemDisk::from_bytes(alloc, &image)?;
-            let is_new = stop == 8 || stop >= 6 && filler == OPEN;
-            let (number, turn, length) = if is_new { (0, 0, 2) } else { (1, 2, 3) };
-            let half = found(&mut left, &shape).and_then(|answer| answer.ok());
-            let seen = half.map(|half| (half.number, half.turn, half.length));
-            assert_eq!(rt; seen, Some((number, turn, length)), "at {stop}");
-        }
-    }
     Ok(())
 }

@@ -1,11 +1,23 @@
-use Rattle.bd_disk.proofs.Frames.{quiet_after, stored}
+use Rattle.bd_disk.proofs.Frames.{stored}
+use Rattle.bd_disk.proofs.RunLemmas.{both_writes, sync_in_writes, write_once}
+use Rattle.bd_disk.proofs.Traces.{makes_both, makes_one}
 use Rattle.bd_gate.proofs.commit.store.Goals as goal
 
-pub returns-clause-writes : goal.returns-clause-writes
-returns-clause-writes g c = λ told. quiet_after (c.write.ensures.writes told) (c.sync.ensures.writes told)
+pub returns-in_err-write-clause-disk : goal.returns-in_err-write-clause-disk
+returns-in_err-write-clause-disk g c = write_once g.D.Disk _ _ c.write.result c.write.ensures.bytes c.write.ensures.ok c.write.ensures.err c.write.ensures.writes
 
-pub returns-in_err-sync-clause-writes : goal.returns-in_err-sync-clause-writes
-returns-in_err-sync-clause-writes g c = λ told. quiet_after (c.write.ensures.writes told) (c.sync.ensures.writes told)
+pub returns-in_err-sync-clause-disk : goal.returns-in_err-sync-clause-disk
+returns-in_err-sync-clause-disk g c =
+    both_writes (write_once g.D.Disk _ _ c.write.result c.write.ensures.bytes c.write.ensures.ok c.write.ensures.err c.write.ensures.writes)
+    (sync_in_writes g.D.Disk _ c.sync.result c.sync.ensures.bytes c.sync.ensures.ok c.sync.ensures.err c.sync.ensures.writes)
 
-pub returns-clause-stores : goal.returns-clause-stores
-returns-clause-stores g c = λ told. stored (c.in_ok-write.ensures.ok told) (c.in_ok-sync.ensures.ok told)
+pub returns-clause-disk : goal.returns-clause-disk
+returns-clause-disk g c =
+    both_writes (write_once g.D.Disk _ _ c.write.result c.write.ensures.bytes c.write.ensures.ok c.write.ensures.err c.write.ensures.writes)
+    (sync_in_writes g.D.Disk _ c.sync.result c.sync.ensures.bytes c.sync.ensures.ok c.sync.ensures.err c.sync.ensures.writes)
+
+pub returns-clause-stored : goal.returns-clause-stored
+returns-clause-stored g c = λ told. record {
+  calls = makes_both (makes_one (c.in_ok-write.ensures.ok told)) (makes_one (c.in_ok-sync.ensures.ok told));
+  stores = stored (c.in_ok-write.ensures.ok told) (c.in_ok-sync.ensures.ok told);
+}

@@ -1,22 +1,19 @@
-use Rattle.std.proofs.Common.{◌+◌, subst, arith}
-use Rattle.bd_disk.proofs.Looking.{looks_wider, read_looks, failed_read_looks}
+use Rattle.std.proofs.Common.{◌+◌, subst}
+use Rattle.bd_disk.specs.Images.{InRange}
+use Rattle.bd_disk.proofs.RunLemmas.{read_once, wider_reads}
 use Rattle.bd_disk.proofs.Traces.{read_reads}
 use Rattle.bd_disk.specs.Trace.{ReadsOnly, upward}
-use Rattle.bd_model.specs.Sizes.{sizes_of}
-use Rattle.bd_gate.proofs.Fronts.{in_halves}
 use Rattle.bd_gate.proofs.half.read_payload.Goals as goal
 
-pub returns-in_err-read-clause-looks : goal.returns-in_err-read-clause-looks
-returns-in_err-read-clause-looks g c = λ told.
-    let at = c.place_of_half-place.ensures.place in
-    looks_wider _ (λ place r. in_halves (sizes_of c.args.shape.now) c.args.half.now.number 10 c.args.half.now.length place c.requires.number (omega (arith, c.requires.fits)) (omega (arith, r.0, at), omega (arith, r.1, at, c.requires.into)))
-    (failed_read_looks (c.in_err-read.ensures.err told))
+pub returns-in_err-read-clause-disk : goal.returns-in_err-read-clause-disk
+returns-in_err-read-clause-disk g c =
+    wider_reads _ (λ place r. subst (λ at. InRange (at + 10) c.args.half.now.length place) c.place_of_half-place.ensures.place (subst (λ n. InRange (c.place_of_half-place.result + 10) n place) c.requires.into r))
+    (read_once g.D.Disk _ _ c.read.result c.read.ensures.bytes c.read.ensures.ok c.read.ensures.err c.read.ensures.writes)
 
-pub returns-clause-looks : goal.returns-clause-looks
-returns-clause-looks g c = λ told.
-    let at = c.place_of_half-place.ensures.place in
-    looks_wider _ (λ place r. in_halves (sizes_of c.args.shape.now) c.args.half.now.number 10 c.args.half.now.length place c.requires.number (omega (arith, c.requires.fits)) (omega (arith, r.0, at), omega (arith, r.1, at, c.requires.into)))
-    (read_looks (c.in_ok-read.ensures.ok told))
+pub returns-clause-disk : goal.returns-clause-disk
+returns-clause-disk g c =
+    wider_reads _ (λ place r. subst (λ at. InRange (at + 10) c.args.half.now.length place) c.place_of_half-place.ensures.place (subst (λ n. InRange (c.place_of_half-place.result + 10) n place) c.requires.into r))
+    (read_once g.D.Disk _ _ c.read.result c.read.ensures.bytes c.read.ensures.ok c.read.ensures.err c.read.ensures.writes)
 
 pub returns-clause-places : goal.returns-clause-places
 returns-clause-places g c = λ told.
