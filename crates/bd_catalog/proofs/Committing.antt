@@ -4,7 +4,7 @@ use Rattle.std.specs.Prelude.{Ok, IsTrue}
 use mathlib.Core.Logic.{inl, inr}
 use Rattle.bd_disk.specs.Images.{Agree, AgreeBut}
 use Rattle.bd_disk.specs.History.{History, clock, contents, Now, Since}
-use Rattle.bd_disk.specs.Made.{IsSettled, LeavesNow, LeavesSince, WritesOnly}
+use Rattle.bd_disk.specs.Made.{IsSettled, LeavesNow, LeavesSince, Makes, WritesOnly}
 use Rattle.bd_disk.proofs.Agreeing.{agree_fewer}
 use Rattle.bd_disk.proofs.Frames.{contents_now, leaves_now, made_none, same_contents, same_since, settled_sure}
 use Rattle.bd_model.specs.Sizes.{payload_room}
@@ -19,7 +19,7 @@ use Rattle.bd_catalog.specs.Catalogue.{Catalogue}
 use Rattle.bd_catalog.specs.Opening.{Found, opened}
 use Rattle.bd_catalog.specs.Rules.{obeys, catalogue_of}
 use Rattle.bd_catalog.specs.Spelling.{spelled}
-use Rattle.bd_catalog.specs.Steps.{committed, frame_beside, InOtherHalf, KeepsCatalogue, HasCommitted, IsOldOrCommitted, IsKeptOrCommitted}
+use Rattle.bd_catalog.specs.Steps.{catalogue_calls, committed, frame_beside, InOtherHalf, IsKeptOrCommitted, IsMade, IsOldOrCommitted, HasCommitted, KeepsCatalogue, LeavesBeside, LeavesEither, StopsBeside}
 use Rattle.bd_catalog.proofs.Agreeing.{InSuperblock, opens_with, same_standing_opens}
 use Rattle.bd_catalog.proofs.Decoding.{catalogue_of-spelled}
 use Rattle.bd_catalog.proofs.Lengths.{length-spelled, payload_room-small}
@@ -47,7 +47,7 @@ module _ (found : Found) (h : History) (agrees : Agrees found h) where
 
   module _ (c : Catalogue) (bounded : IsBounded found.sizes) (rules : IsTrue (obeys found.sizes c)) where
     -- an opening finds the catalogue after the commit of its frame
-    pub opens-committed : (image : List ℕ) → IsCommitted found.sizes (1 - found.half.number) (frame_beside found.half c) (contents h) image → opened image ≡ Ok (committed found c)
+    opens-committed : (image : List ℕ) → IsCommitted found.sizes (1 - found.half.number) (frame_beside found.half c) (contents h) image → opened image ≡ Ok (committed found c)
     opens-committed image frame =
         let s = found.sizes in
         let k = 1 - found.half.number in
@@ -60,11 +60,11 @@ module _ (found : Found) (h : History) (agrees : Agrees found h) where
         opens_with (contents h) image agree found k c agrees.opens finds.newest (omega (arith, size, fits)) (ap (catalogue_of s) finds.bytes ∙ catalogue_of-spelled s bounded c rules)
         ∙ ap (λ (half : Half). Ok (record { sizes = s; half = half; catalogue = c; log_end = log_place s half })) finds.half
 
-    pub has-committed : (image : List ℕ) → IsCommitted found.sizes (1 - found.half.number) (frame_beside found.half c) (contents h) image → HasCommitted found (committed found c) (contents h) image
+    has-committed : (image : List ℕ) → IsCommitted found.sizes (1 - found.half.number) (frame_beside found.half c) (contents h) image → HasCommitted found (committed found c) (contents h) image
     has-committed image frame = record { opens = opens-committed image frame; elsewhere = frame.elsewhere }
 
     -- it stands there, whatever stop comes now
-    pub agrees-committed : (later : History) → LeavesNow (IsCommitted found.sizes (1 - found.half.number) (frame_beside found.half c) (contents h)) later → IsSettled later → Agrees (committed found c) later
+    agrees-committed : (later : History) → LeavesNow (IsCommitted found.sizes (1 - found.half.number) (frame_beside found.half c) (contents h)) later → IsSettled later → Agrees (committed found c) later
     agrees-committed later done settled = record {
       opens = opens-committed (contents later) (done.each (contents later) (contents_now later));
       sure = settled_sure (InHalves found.sizes) settled;
@@ -89,7 +89,7 @@ module _ (found : Found) (h : History) (agrees : Agrees found h) where
         }
 
     -- a stop within the commit of the frame leaves the old catalogue or the whole commit
-    pub stops-committed : (later : History) → WritesOnly (InOtherHalf found) h later →
+    stops-committed : (later : History) → WritesOnly (InOtherHalf found) h later →
         LeavesSince (IsOldOrFrame found.sizes (1 - found.half.number) (frame_beside found.half c) (contents h)) h later →
         LeavesSince (IsOldOrCommitted found (committed found c) h) h later
     stops-committed later writes leaves = record {
@@ -97,11 +97,8 @@ module _ (found : Found) (h : History) (agrees : Agrees found h) where
       each = λ image since. ⊎_elim (λ same. inl (keeps later image writes since same)) (λ frame. inr (has-committed image frame)) (leaves.each image since);
     }
 
-    pub kept-committed : (later : History) → LeavesNow (IsCommitted found.sizes (1 - found.half.number) (frame_beside found.half c) (contents h)) later → AgreeBut (InOtherHalf found) (contents h) (contents later)
-    kept-committed later done = (done.each (contents later) (contents_now later)).elsewhere
-
     -- the contents have the old catalogue or the new one
-    pub either-committed : (later : History) → WritesOnly (InOtherHalf found) h later →
+    either-committed : (later : History) → WritesOnly (InOtherHalf found) h later →
         LeavesSince (IsOldOrFrame found.sizes (1 - found.half.number) (frame_beside found.half c) (contents h)) h later →
         IsKeptOrCommitted found (committed found c) (contents h) (contents later)
     either-committed later writes leaves =
@@ -115,3 +112,15 @@ module _ (found : Found) (h : History) (agrees : Agrees found h) where
         (λ same. let again = same_standing_opens found (contents h) image agrees.opens agree same in inl (record { again = again.0; opens = again.1; sizes = again.2; catalogue = again.3; elsewhere = past }))
         (λ frame. inr (has-committed image frame))
         ((leaves_now leaves).each image (contents_now later))
+
+    -- what a commit leaves at every answer, and what one did that answered Ok
+    pub leaves-either : (later : History) → WritesOnly (InOtherHalf found) h later → StopsBeside found.sizes found.half c h later → LeavesEither found (committed found c) h later
+    leaves-either later writes leaves = record { stops = stops-committed later writes leaves; contents = either-committed later writes leaves }
+
+    pub is-made : (later : History) → Makes (catalogue_calls found c) h later → LeavesBeside found.sizes found.half c h later → IsSettled later → IsMade found (committed found c) h later
+    is-made later calls done settled = record {
+      calls = calls;
+      kept = has-committed (contents later) (done.each (contents later) (contents_now later));
+      agrees = agrees-committed later done settled;
+      settled = settled;
+    }

@@ -7,7 +7,6 @@ pub mod Loading
 pub mod Opening
 pub mod Rules
 pub mod Shown
-pub mod Small
 pub mod Sound
 pub mod Spelling
 pub mod Standing

@@ -1,8 +1,9 @@
 -- What a load of the newest half answers.
-use Rattle.std.specs.Prelude.{◌≡◌, ℕ, Result, Ok, Err}
-use Rattle.bd_disk.specs.Calls.{Rose}
+use Rattle.std.specs.Prelude.{◌≡◌, ◌⊎◌, ℕ, ◌≤◌, Bool, true, false, List, Some, Result, Ok, Err}
 use Rattle.bd_model.specs.declared.place.Place.{Place}
 use Rattle.bd_model.specs.declared.place.Place.TheVariants.{Halves as HalvesFail, Payload as PayloadFails}
+use Rattle.bd_model.specs.Sizes.{Sizes, payload_room}
+use Rattle.bd_gate.specs.Halves.{half_at, newest_half, InFronts, InPayload}
 use Rattle.bd_gate.specs.declared.half.GateFault.{GateFault}
 use Rattle.bd_gate.specs.declared.half.GateFault.TheVariants.{NoHalf, DiskFault as NotAsked}
 use Rattle.bd_catalog.specs.declared.load.LoadFault.{LoadFault}
@@ -23,7 +24,20 @@ AnswersLoad expected (Err Payload) = expected ≡ Err PayloadFails
 AnswersLoad expected (Err DiskFault) = Unit {0}
 AnswersLoad expected (Err OutOfMemory) = Unit {0}
 
--- a fault of the disk comes only where its count rose, and every other answer only where it stayed
-abbrev pub ByCount : {T : Type 0} → ℕ → ℕ → Result T LoadFault → Type 0
-ByCount before now (Err DiskFault) = Rose before now
-ByCount before now _ = now ≡ before
+-- whether it is a fault of the disk
+abbrev pub is_disk_fault : LoadFault → Bool
+is_disk_fault Halves = false
+is_disk_fault Payload = false
+is_disk_fault DiskFault = true
+is_disk_fault OutOfMemory = false
+
+-- the place lies in the payload of the newest half of the image, which is no longer than may be
+pub record InNewest (s : Sizes) (image : List ℕ) (place : ℕ) : Type 0 where
+  pub number : ℕ
+  pub newest : newest_half s image ≡ Some number
+  pub fits : (half_at s image number).length ≤ payload_room s
+  pub inside : InPayload s (half_at s image number) place
+
+-- the places that a load of the image reads
+abbrev pub InLoad : Sizes → List ℕ → ℕ → Type 0
+InLoad s image place = InFronts s place ⊎ InNewest s image place

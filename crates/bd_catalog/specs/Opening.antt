@@ -33,6 +33,9 @@ opened_half s image (Some k) =
     then opened_payload s half image (catalogue_of s (payload_of s half image))
     else Err Payload
 
+abbrev pub opened_newest : Sizes → List ℕ → Result Found Place
+opened_newest s image = opened_half s image (newest_half s image)
+
 -- what an opening of the image finds, or the first of the ten checks that fails
 unfoldable pub opened : List ℕ → Result Found Place
 opened image =
@@ -44,7 +47,7 @@ opened image =
     (if not (is_shape s) then Err Shape else
     (if not (bytes_eq (bytes_at 36 28 image) (replicate 28 0)) then Err Padding else
     (if nat_lt (length image) (disk_bytes s) then Err Room else
-    opened_half s image (newest_half s image)))))))
+    opened_newest s image))))))
 
 abbrev pub catalogue_in : Result Found Place → Option Catalogue
 catalogue_in (Ok found) = Some found.catalogue

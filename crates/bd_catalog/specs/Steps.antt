@@ -2,9 +2,12 @@
 use Rattle.std.specs.Prelude.{◌≡◌, ◌⊎◌, ℕ, ◌+◌, ◌-◌, ◌%◌, true, List, [], ◌∷◌, ◌++◌, length, flat_map, Option, Some, None, All, IsTrue, Ok}
 use Rattle.bd_disk.specs.History.{Call, History, contents, Now}
 use Rattle.bd_disk.specs.Images.{AgreeBut}
+use Rattle.bd_disk.specs.Made.{IsSettled, LeavesSince, Makes}
 use Rattle.bd_model.specs.Sizes.{Sizes}
 use Rattle.bd_gate.specs.Commits.{commit_calls, frame_of}
 use Rattle.bd_gate.specs.Halves.{Half, InHalf, log_place}
+use Rattle.bd_gate.specs.Standing.{KeepsOrCommits, LeavesCommitted}
+use Rattle.bd_catalog.specs.Agreement.{Agrees}
 use Rattle.bd_catalog.specs.declared.rows.ActiveCategory.{ActiveCategory}
 use Rattle.bd_catalog.specs.declared.step.Step.{Step}
 use Rattle.bd_catalog.specs.declared.step.Step.TheVariants.{Backup, Expire, Arrange}
@@ -52,8 +55,19 @@ abbrev pub frame_beside : Half → Catalogue → List ℕ
 frame_beside half c = frame_of ((half.turn + 1) % 3) (spelled c)
 
 -- the calls of that commit
+abbrev pub calls_beside : Sizes → Half → Catalogue → List Call
+calls_beside s half c = commit_calls s (1 - half.number) half.other_open (frame_beside half c)
+
 abbrev pub catalogue_calls : Found → Catalogue → List Call
-catalogue_calls found c = commit_calls found.sizes (1 - found.half.number) found.half.other_open (frame_beside found.half c)
+catalogue_calls found c = calls_beside found.sizes found.half c
+
+-- a stop at any moment since old leaves the newest half as it was, or the whole commit of that frame
+abbrev pub StopsBeside : Sizes → Half → Catalogue → History → History → Type 0
+StopsBeside s half c old new = KeepsOrCommits s (1 - half.number) (frame_beside half c) old new
+
+-- a stop now leaves the whole commit
+abbrev pub LeavesBeside : Sizes → Half → Catalogue → History → History → Type 0
+LeavesBeside s half c old new = LeavesCommitted s (1 - half.number) (frame_beside half c) old new
 
 -- another catalogue in the same place
 abbrev pub with_catalogue : Found → Catalogue → Found
@@ -64,6 +78,10 @@ abbrev pub committed : Found → Catalogue → Found
 committed found c =
     let half : Half = next_half found.half (length (spelled c)) in
     record { sizes = found.sizes; half = half; catalogue = c; log_end = log_place found.sizes half }
+
+-- and after the commit of this step
+abbrev pub after_step : Found → Step → Found
+after_step found step = committed found (stepped found.catalogue step)
 
 -- the places that a commit writes: of the half that isn't the newest
 abbrev pub InOtherHalf : Found → ℕ → Type 0
@@ -97,3 +115,21 @@ pub record HasKept (found : Found) (old image : List ℕ) : Type 0 where
 -- the contents after a commit, which may have failed: with the old catalogue, or with the one committed
 abbrev pub IsKeptOrCommitted : Found → Found → List ℕ → List ℕ → Type 0
 IsKeptOrCommitted found after old image = HasKept found old image ⊎ HasCommitted found after old image
+
+-- what a commit leaves, which may have failed
+pub record LeavesEither (found after : Found) (old new : History) : Type 0 where
+  -- a stop at any moment since old: the old catalogue or the new one
+  pub stops : LeavesSince (IsOldOrCommitted found after old) old new
+  -- and so the contents
+  pub contents : IsKeptOrCommitted found after (contents old) (contents new)
+
+-- what a commit that answered Ok did
+pub record IsMade (found after : Found) (old new : History) : Type 0 where
+  -- it made these calls
+  pub calls : Makes (catalogue_calls found after.catalogue) old new
+  -- the contents have the new catalogue, and are the old ones but for the half that wasn't the newest
+  pub kept : HasCommitted found after (contents old) (contents new)
+  -- the catalogue stands there whatever stop comes, as the next commit asks
+  pub agrees : Agrees after new
+  -- a stop leaves the contents and nothing else
+  pub settled : IsSettled new

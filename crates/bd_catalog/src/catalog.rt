@@ -1,9 +1,6 @@
-ghost use Rattle.std.specs.Prelude.{◌≡◌, ℕ, ◌+◌, ◌-◌, ◌≤◌, ◌<◌, ◌↔◌, [], ◌++◌, drop, map, length, IsTrue, IfOk, OnOk, IfSome, IfNone, Some, None, IsSome, slice_get};
+ghost use Rattle.std.specs.Prelude.{◌≡◌, ℕ, ◌+◌, ◌-◌, ◌≤◌, ◌<◌, ◌↔◌, ◌++◌, drop, map, length, IsTrue, IfOk, OnOk, IfSome, IfNone, Some, None, IsSome, slice_get};
 ghost use Rattle.bd_disk.specs.Calls.{HasCause};
-ghost use Rattle.bd_disk.specs.History.{contents};
-ghost use Rattle.bd_disk.specs.Images.{AgreeBut};
-ghost use Rattle.bd_disk.specs.Made.{IsSettled, LeavesSince, Makes, WritesOnly};
-ghost use Rattle.bd_disk.specs.Trace.{ReadsOnly};
+ghost use Rattle.bd_disk.specs.Runs.{Writes};
 ghost use Rattle.bd_model.specs.Sizes.{sizes_of, disk_bytes, payload_room};
 ghost use Rattle.bd_gate.specs.Halves.{log_place};
 ghost use Rattle.bd_space.specs.Allotment.{extent_count, held_count, TakenExactly};
@@ -13,7 +10,7 @@ ghost use Rattle.bd_catalog.specs.Ledger.{found_alone, found_in, IsPlaced, HasRo
 ghost use Rattle.bd_catalog.specs.Rules.{obeys, catalogue_of};
 ghost use Rattle.bd_catalog.specs.Spelling.{spelled};
 ghost use Rattle.bd_catalog.specs.Shown.{catalogue_of_contents, version_entry, volume_entry, open_entry};
-ghost use Rattle.bd_catalog.specs.Steps.{brought, catalogue_calls, committed, stepped, with_catalogue, Fits, InOtherHalf, IsKeptOrCommitted, IsOldOrCommitted};
+ghost use Rattle.bd_catalog.specs.Steps.{after_step, brought, stepped, with_catalogue, Fits, InOtherHalf, IsMade, LeavesEither};
 
 use crate::contents::Contents;
 use crate::decode::take_contents;
@@ -208,24 +205,11 @@ impl Catalog {
         requires agrees { D.tells → Agrees self.old.found (D.history disk.old) }
         // The space counts as taken what the catalogue and the step own, each number once.
         requires owners { TakenExactly space.old (all_extents self.old.found.catalogue ++ brought step) }
-        ensures bytes { D.bytes disk.new ≡ D.bytes disk.old }
+        ensures disk { Writes D.Disk (InOtherHalf self.old.found) disk.old disk.new }
         ensures cause { HasCause (D.faults disk.old) (D.faults disk.new) result }
-        ensures writes { D.tells → WritesOnly (InOtherHalf self.old.found) (D.history disk.old) (D.history disk.new) }
-        ensures stops { D.tells →
-            LeavesSince (IsOldOrCommitted self.old.found (committed self.old.found (stepped self.old.found.catalogue step)) (D.history disk.old))
-            (D.history disk.old) (D.history disk.new) }
-        // So do the contents.
-        ensures contents { D.tells →
-            IsKeptOrCommitted self.old.found (committed self.old.found (stepped self.old.found.catalogue step))
-            (contents (D.history disk.old)) (contents (D.history disk.new)) }
-        ensures calls { OnOk result (D.tells →
-            Makes (catalogue_calls self.old.found (stepped self.old.found.catalogue step)) (D.history disk.old) (D.history disk.new)) }
-        ensures places { OnOk result (D.tells → ReadsOnly [] (D.history disk.old) (D.history disk.new)) }
-        ensures made { OnOk result (self.new.found ≡ committed self.old.found (stepped self.old.found.catalogue step)) }
-        ensures agrees { OnOk result (D.tells → Agrees self.new.found (D.history disk.new)) }
-        ensures settled { OnOk result (D.tells → IsSettled (D.history disk.new)) }
-        ensures kept { OnOk result (D.tells →
-            AgreeBut (InOtherHalf self.old.found) (contents (D.history disk.old)) (contents (D.history disk.new))) }
+        ensures either { D.tells → LeavesEither self.old.found (after_step self.old.found step) (D.history disk.old) (D.history disk.new) }
+        ensures made { OnOk result (self.new.found ≡ after_step self.old.found step) }
+        ensures done { OnOk result (D.tells → IsMade self.old.found (after_step self.old.found step) (D.history disk.old) (D.history disk.new)) }
         ensures owners { OnOk result (TakenExactly space.new (all_extents self.new.found.catalogue)) }
         ensures extents { extent_count space.new ≡ extent_count space.old }
         ensures held { held_count space.new ≡ held_count space.old }

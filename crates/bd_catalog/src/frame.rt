@@ -1,16 +1,16 @@
-ghost use Rattle.std.specs.Prelude.{◌≡◌, ◌+◌, ◌-◌, ◌%◌, ◌≤◌, [], length, take, IsTrue, IfOk, OnOk};
+ghost use Rattle.std.specs.Prelude.{◌≡◌, ◌+◌, ◌-◌, ◌%◌, ◌≤◌, length, take, IsTrue, IfOk, OnOk};
 ghost use Rattle.bd_disk.specs.Calls.{HasCause};
 ghost use Rattle.bd_disk.specs.History.{contents};
-ghost use Rattle.bd_disk.specs.Made.{IsSettled, LeavesNow, LeavesSince, Makes, WritesOnly};
-ghost use Rattle.bd_disk.specs.Trace.{ReadsOnly};
+ghost use Rattle.bd_disk.specs.Made.{IsSettled, Makes};
+ghost use Rattle.bd_disk.specs.Runs.{Writes};
 ghost use Rattle.bd_model.specs.Sizes.{sizes_of, disk_bytes, payload_room};
-ghost use Rattle.bd_gate.specs.Commits.{commit_calls, frame_of};
+ghost use Rattle.bd_gate.specs.Commits.{frame_of};
 ghost use Rattle.bd_gate.specs.Halves.{InHalf, log_place};
-ghost use Rattle.bd_gate.specs.Standing.{IsBeside, IsCommitted, IsOldOrCommitted, next_turn};
+ghost use Rattle.bd_gate.specs.Standing.{IsBeside, next_turn};
 ghost use Rattle.bd_catalog.specs.Rules.{obeys};
 ghost use Rattle.bd_catalog.specs.Shown.{catalogue_of_contents};
 ghost use Rattle.bd_catalog.specs.Spelling.{spelled};
-ghost use Rattle.bd_catalog.specs.Steps.{frame_beside, next_half};
+ghost use Rattle.bd_catalog.specs.Steps.{calls_beside, next_half, LeavesBeside, StopsBeside};
 ghost use Rattle.bd_catalog.specs.Widths.{IsSpellable};
 
 use crate::contents::Contents;
@@ -46,6 +46,7 @@ pub(crate) fn log_place(shape: &Shape, half: &Half) -> u64
 
 // Puts this catalogue in the place of the newest half, which is this one, by a commit to the other half.
 // Answers that half.
+#[tactic(auto, using(bd_disk::proofs::RunLemmas::runs))]
 pub(crate) fn write_beside<D: Disk>(
     disk: &mut D,
     shape: &Shape,
@@ -62,14 +63,15 @@ pub(crate) fn write_beside<D: Disk>(
     requires next { D.tells → (half.now.turn + 1) % 3 ≡ next_turn (sizes_of shape.now) (1 - half.now.number) (contents (D.history disk.old)) }
     ensures buffer { length buffer.new ≡ length buffer.old }
     ensures half { IfOk result (λ next. next ≡ next_half half.now (length (spelled (catalogue_of_contents catalogue.now)))) }
-    ensures bytes { D.bytes disk.new ≡ D.bytes disk.old }
+    ensures disk { Writes D.Disk (InHalf (sizes_of shape.now) (1 - half.now.number)) disk.old disk.new }
     ensures cause { HasCause (D.faults disk.old) (D.faults disk.new) result }
-    ensures writes { D.tells → WritesOnly (InHalf (sizes_of shape.now) (1 - half.now.number)) (D.history disk.old) (D.history disk.new) }
-    ensures stops { D.tells → LeavesSince (IsOldOrCommitted (sizes_of shape.now) (1 - half.now.number) (frame_beside half.now (catalogue_of_contents catalogue.now)) (contents (D.history disk.old))) (D.history disk.old) (D.history disk.new) }
+    ensures stops { D.tells →
+        StopsBeside (sizes_of shape.now) half.now (catalogue_of_contents catalogue.now) (D.history disk.old) (D.history disk.new) }
     ensures settled { OnOk result (D.tells → IsSettled (D.history disk.new)) }
-    ensures calls { OnOk result (D.tells → Makes (commit_calls (sizes_of shape.now) (1 - half.now.number) half.now.other_open (frame_beside half.now (catalogue_of_contents catalogue.now))) (D.history disk.old) (D.history disk.new)) }
-    ensures done { OnOk result (D.tells → LeavesNow (IsCommitted (sizes_of shape.now) (1 - half.now.number) (frame_beside half.now (catalogue_of_contents catalogue.now)) (contents (D.history disk.old))) (D.history disk.new)) }
-    ensures places { OnOk result (D.tells → ReadsOnly [] (D.history disk.old) (D.history disk.new)) }
+    ensures calls { OnOk result (D.tells →
+        Makes (calls_beside (sizes_of shape.now) half.now (catalogue_of_contents catalogue.now)) (D.history disk.old) (D.history disk.new)) }
+    ensures done { OnOk result (D.tells →
+        LeavesBeside (sizes_of shape.now) half.now (catalogue_of_contents catalogue.now) (D.history disk.old) (D.history disk.new)) }
 {
     let number = 1 - half.number;
     let turn = (half.turn + 1) % 3;

@@ -2,8 +2,6 @@
 #![tactic(auto)]
 
 mod catalog;
-#[cfg(test)]
-mod commit_tests;
 mod contents;
 mod decode;
 mod encode;

@@ -1,11 +1,10 @@
 ghost use Rattle.std.specs.Prelude.{◌≡◌, ◌≤◌, IfOk};
+ghost use Rattle.bd_disk.specs.Calls.{FailsByCount};
 ghost use Rattle.bd_disk.specs.History.{contents};
-ghost use Rattle.bd_disk.specs.Looks.{LooksOnlyAt};
-ghost use Rattle.bd_disk.specs.Made.{WritesNothing};
+ghost use Rattle.bd_disk.specs.Runs.{Reads};
 ghost use Rattle.bd_model.specs.Sizes.{sizes_of, disk_bytes};
-ghost use Rattle.bd_gate.specs.Halves.{newest_half, InHalves};
-ghost use Rattle.bd_catalog.specs.Loading.{AnswersLoad, ByCount};
-ghost use Rattle.bd_catalog.specs.Opening.{opened_half};
+ghost use Rattle.bd_catalog.specs.Loading.{is_disk_fault, AnswersLoad, InLoad};
+ghost use Rattle.bd_catalog.specs.Opening.{opened_newest};
 
 use crate::catalog::Catalog;
 use bd_disk::{Disk, Failed};
@@ -63,16 +62,13 @@ impl From<AllocError> for LoadFault {
 
 impl Catalog {
     /// The catalogue of the newest half of a disk, or the first of the two checks that fails: that a half is the newest,
-    /// and that it holds a catalogue for the shape. It reads the fronts of both halves, and the catalogue once.
+    /// and that it holds a catalogue for the shape. It reads the fronts of both halves and the catalogue.
     pub fn load<D: Disk>(alloc: Global, disk: &mut D, shape: Shape) -> Result<Catalog, LoadFault>
         requires room { disk_bytes (sizes_of shape) ≤ D.bytes disk.old }
-        ensures bytes { D.bytes disk.new ≡ D.bytes disk.old }
-        ensures later { D.faults disk.old ≤ D.faults disk.new }
-        ensures cause { ByCount (D.faults disk.old) (D.faults disk.new) result }
-        ensures loaded { D.tells → AnswersLoad (opened_half (sizes_of shape) (contents (D.history disk.old)) (newest_half (sizes_of shape) (contents (D.history disk.old)))) result }
+        ensures disk { Reads D.Disk (InLoad (sizes_of shape) (contents (D.history disk.old))) disk.old disk.new }
+        ensures cause { FailsByCount is_disk_fault (D.faults disk.old) (D.faults disk.new) result }
+        ensures loaded { D.tells → AnswersLoad (opened_newest (sizes_of shape) (contents (D.history disk.old))) result }
         ensures sizes { IfOk result (λ catalog. catalog.found.sizes ≡ sizes_of shape) }
-        ensures writes { D.tells → WritesNothing (D.history disk.old) (D.history disk.new) }
-        ensures looks { D.tells → LooksOnlyAt (InHalves (sizes_of shape)) (D.history disk.old) (D.history disk.new) }
     {
         let half = newest_half(disk, &shape)?;
         if half.length > shape.payload_room() {

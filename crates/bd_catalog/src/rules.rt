@@ -159,7 +159,7 @@ fn each_active_holds(shape: &Shape, actives: &[ActiveCategory]) -> bool
 fn starts_hold(contents: &Contents) -> bool
     requires oldest { retained_in (catalogue_of_contents contents.now) ≤ contents.now.newest + 1 }
     requires few { length contents.now.volumes.items < 2 ^ 32 }
-    ensures { result ≡ starts_hold (oldest_in (catalogue_of_contents contents.now)) (oldest_in (catalogue_of_contents contents.now)) (map volume_entry contents.now.volumes.items) }
+    ensures { let c = catalogue_of_contents contents.now in result ≡ starts_hold (oldest_in c) (oldest_in c) c.volumes }
 {
     let oldest = contents.oldest();
     let mut number = oldest;

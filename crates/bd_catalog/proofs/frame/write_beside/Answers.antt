@@ -1,8 +1,6 @@
 use Rattle.std.proofs.Common.{◌-◌, List, ℕ, subst, arith}
-use Rattle.bd_disk.specs.History.{contents}
-use Rattle.bd_disk.specs.Made.{LeavesNow, LeavesSince}
 use Rattle.bd_model.specs.Sizes.{sizes_of}
-use Rattle.bd_gate.specs.Standing.{IsCommitted, IsOldOrCommitted}
+use Rattle.bd_gate.specs.Standing.{KeepsOrCommits, LeavesCommitted}
 use Rattle.bd_catalog.specs.Shown.{catalogue_of_contents}
 use Rattle.bd_catalog.proofs.Obeying.{bounded_of, spellable}
 use Rattle.bd_catalog.proofs.Lengths.{length-spelled}
@@ -18,15 +16,15 @@ put_frame-count-requires-clause-room g c =
 
 pub returns-in_err-commit_frame-clause-stops : goal.returns-in_err-commit_frame-clause-stops
 returns-in_err-commit_frame-clause-stops g c = λ told.
-    subst (λ (frame : List ℕ). LeavesSince (IsOldOrCommitted (sizes_of c.args.shape.now) (1 - c.args.half.now.number) frame (contents (g.D.Disk.history c.args.disk.now))) (g.D.Disk.history c.args.disk.now) (g.D.Disk.history c.commit_frame.new.disk))
+    subst (λ (frame : List ℕ). KeepsOrCommits (sizes_of c.args.shape.now) (1 - c.args.half.now.number) frame (g.D.Disk.history c.args.disk.now) (g.D.Disk.history c.commit_frame.new.disk))
     c.put_frame-count.ensures.written (c.commit_frame.ensures.stops told)
 
 pub returns-clause-stops : goal.returns-clause-stops
 returns-clause-stops g c = λ told.
-    subst (λ (frame : List ℕ). LeavesSince (IsOldOrCommitted (sizes_of c.args.shape.now) (1 - c.args.half.now.number) frame (contents (g.D.Disk.history c.args.disk.now))) (g.D.Disk.history c.args.disk.now) (g.D.Disk.history c.commit_frame.new.disk))
+    subst (λ (frame : List ℕ). KeepsOrCommits (sizes_of c.args.shape.now) (1 - c.args.half.now.number) frame (g.D.Disk.history c.args.disk.now) (g.D.Disk.history c.commit_frame.new.disk))
     c.put_frame-count.ensures.written (c.commit_frame.ensures.stops told)
 
 pub returns-clause-done : goal.returns-clause-done
 returns-clause-done g c = λ told.
-    subst (λ (frame : List ℕ). LeavesNow (IsCommitted (sizes_of c.args.shape.now) (1 - c.args.half.now.number) frame (contents (g.D.Disk.history c.args.disk.now))) (g.D.Disk.history c.commit_frame.new.disk))
+    subst (λ (frame : List ℕ). LeavesCommitted (sizes_of c.args.shape.now) (1 - c.args.half.now.number) frame (g.D.Disk.history c.args.disk.now) (g.D.Disk.history c.commit_frame.new.disk))
     c.put_frame-count.ensures.written (c.in_ok-commit_frame.ensures.done told)
