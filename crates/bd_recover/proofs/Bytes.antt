@@ -3,12 +3,12 @@ use Rattle.std.proofs.Common.{◌≡◌, ℕ, ◌+◌, ◌-◌, ◌<◌, ◌≤�
 use Rattle.std.proofs.lemmas.List.{drop-take}
 use Rattle.bd_disk.specs.Images.{InRange, AgreeBut, bytes_at, overwritten}
 use Rattle.bd_disk.proofs.Agreeing.{length-overwritten, overwritten_there, overwrite_agrees, bytes_at-overwritten, same_bytes_at}
+use Rattle.bd_disk.specs.Runs.{Writes}
+use Rattle.bd_disk.specs.declared.disk.Disk.{Ghosts}
+use Rattle.bd_disk.proofs.RunLemmas.{wider_writes}
 use Rattle.bd_model.specs.Sizes.{Sizes, disk_bytes, half_bytes, half_place}
 use Rattle.bd_gate.specs.Superblock.{open_gate}
 use Rattle.bd_recover.specs.Fresh.{HoldsFresh, InParts, fresh_half, superblock_body}
-use Rattle.bd_disk.specs.History.{History}
-use Rattle.bd_disk.specs.Made.{WritesOnly}
-use Rattle.bd_disk.proofs.Frames.{writes_wider}
 
 -- a range within a range
 pub sub_bytes : (at m k n : ℕ) (image : List ℕ) → k + n ≤ m → bytes_at (at + k) n image ≡ take n (drop k (bytes_at at m image))
@@ -53,12 +53,13 @@ module _ (s : Sizes) where
             ∙ overwritten_there first (half_place s 1) (0 ∷ []) 0 (omega arith) (omega (arith, gate)));
       }
 
-  -- each part is written in its place
-  pub first_in_parts : {n : ℕ} {a b : History} → n ≡ 32 → WritesOnly (InRange 64 n) a b → WritesOnly (InParts s) a b
-  first_in_parts long writes = writes_wider _ (λ place r. (omega (arith, r.0), omega (arith, r.1, long))) writes
+-- each part is written in its place
+module _ {D : Type 0} {g : Ghosts D} (s : Sizes) {n : ℕ} {a b : D} where
+  pub first_in_parts : n ≡ 32 → Writes g (InRange 64 n) a b → Writes g (InParts s) a b
+  first_in_parts long writes = wider_writes _ (λ place r. (omega (arith, r.0), omega (arith, r.1, long))) writes
 
-  pub other_in_parts : {n : ℕ} {a b : History} → n ≡ half_bytes s → WritesOnly (InRange (64 + n) 1) a b → WritesOnly (InParts s) a b
-  other_in_parts is writes = writes_wider _ (λ place r. (omega (arith, r.0), omega (arith, r.1, is))) writes
+  pub other_in_parts : n ≡ half_bytes s → Writes g (InRange (64 + n) 1) a b → Writes g (InParts s) a b
+  other_in_parts is writes = wider_writes _ (λ place r. (omega (arith, r.0), omega (arith, r.1, is))) writes
 
-  pub body_in_parts : {n : ℕ} {a b : History} → n ≡ 63 → WritesOnly (InRange 1 n) a b → WritesOnly (InParts s) a b
-  body_in_parts long writes = writes_wider _ (λ place r. (r.0, omega (arith, r.1, long))) writes
+  pub body_in_parts : n ≡ 63 → Writes g (InRange 1 n) a b → Writes g (InParts s) a b
+  body_in_parts long writes = wider_writes _ (λ place r. (r.0, omega (arith, r.1, long))) writes

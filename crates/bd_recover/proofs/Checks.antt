@@ -91,13 +91,13 @@ module _ (image bytes : List ℕ) (long : 64 ≤ length image) (read : bytes ≡
   superblock_fails place is = in_order_is image ∙ ap rest long_enough ∙ fails _ _ _ _ _ less half place (sym fault_is ∙ is)
 
   module _ (s : Sizes) (none : superblock_fault bytes ≡ None) (named : s ≡ sizes_at bytes) where
-    sizes_are : sizes_at image ≡ s
-    sizes_are = sym (named ∙ ap sizes_at read ∙ same_sizes image)
+    pub sizes_named : s ≡ sizes_at image
+    sizes_named = named ∙ ap sizes_at read ∙ same_sizes image
 
     decided : opened image ≡ (if nat_lt (length image) (disk_bytes s) then Err Room else opened_half s image (newest_half s image))
     decided =
         in_order_is image ∙ ap rest long_enough ∙ passes _ _ _ _ _ less half (sym fault_is ∙ none)
-        ∙ ap (λ t. if nat_lt (length image) (disk_bytes t) then Err Room else opened_half t image (newest_half t image)) sizes_are
+        ∙ ap (λ t. if nat_lt (length image) (disk_bytes t) then Err Room else opened_half t image (newest_half t image)) (sym sizes_named)
 
     pub no_room : length image < disk_bytes s → opened image ≡ Err Room
     no_room less = decided ∙ ap (λ b. if b then Err Room else opened_half s image (newest_half s image)) (lt-ltb (length image) (disk_bytes s) less)

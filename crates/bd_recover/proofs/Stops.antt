@@ -1,5 +1,5 @@
 -- What a stop within a format leaves.
-use Rattle.std.proofs.Common.{◌≡◌, ◌≢◌, inl, inr, ℕ, ◌<◌, Bool, true, false, ◌&&◌, ◌==◌, List, [], ◌∷◌, length, get_or, refl, sym, ◌∙◌, ap, subst, arith, Ok, IsErr, nat_le}
+use Rattle.std.proofs.Common.{◌≡◌, ◌≢◌, inl, inr, ℕ, Bool, true, false, ◌&&◌, ◌==◌, List, [], ◌∷◌, length, get_or, refl, sym, ◌∙◌, ap, subst, arith, Ok, IsErr, nat_le}
 use Rattle.std.specs.Prelude.{bytes_eq}
 use Rattle.std.proofs.lemmas.Bool.{eq-eqb}
 use Rattle.std.proofs.lemmas.Bool.Decides.{eqb_tells}
@@ -8,8 +8,12 @@ use Rattle.bd_disk.specs.History.{History, contents}
 use Rattle.bd_disk.specs.Made.{IsSettled, LeavesSince, Stores, WritesNothing, WritesOnly}
 use Rattle.bd_disk.proofs.Agreeing.{same_bytes_at, overwrite_agrees, overwritten_there}
 use Rattle.bd_disk.proofs.Frames.{leaves_both, leaves_by_writes, leaves_quiet, still_settled, unchanged, writes_wider}
+use Rattle.bd_disk.specs.Runs.{Works, WorkedAt, Writes}
+use Rattle.bd_disk.specs.declared.disk.Disk.{Ghosts}
+use Rattle.bd_disk.proofs.RunLemmas.{wider_writes, writes_work}
 use Rattle.bd_model.specs.Limits.{IsShape}
-use Rattle.bd_model.specs.Sizes.{Sizes, extent_place}
+use Rattle.bd_model.specs.Sizes.{Sizes}
+use Rattle.bd_gate.specs.Halves.{BeforeExtents}
 use Rattle.bd_gate.specs.Superblock.{byte_at, open_gate, magic, is_marked}
 use Rattle.bd_catalog.specs.Opening.{opened}
 use Rattle.bd_recover.specs.Fresh.{HoldsFresh, InParts, IsNoneOrFresh, fresh_found}
@@ -94,9 +98,19 @@ module _ (s : Sizes) where
   pub closed : {a b : History} → Stores 0 (0 ∷ []) a b → byte_at (contents b) 0 ≢ open_gate
   closed {a = a} stores opened = absurd (omega (arith, sym opened ∙ ap (λ m. byte_at m 0) stores.holds ∙ zeroed (contents a)))
 
-  -- the gate lies before the extents, and so do the parts
-  pub gate_before : {n : ℕ} {a b : History} → n ≡ 1 → WritesOnly (InRange 0 n) a b → WritesOnly (λ place. place < extent_place s 0) a b
-  gate_before one writes = writes_wider _ (λ place q. omega (arith, q.1, one)) writes
+-- ---- where it works
 
-  pub parts_before : {a b : History} → WritesOnly (InParts s) a b → WritesOnly (λ place. place < extent_place s 0) a b
-  parts_before writes = writes_wider _ (λ place q. q.1) writes
+wider_work : {D : Type 0} {g : Ghosts D} {Looked Written : ℕ → Type 0} (Wider : ℕ → Type 0) {a b : D} → ((place : ℕ) → Written place → Wider place) → Works g Looked Written a b → Works g Looked Wider a b
+unfolding WorkedAt
+wider_work Wider sub f = record { bytes = f.bytes; calls = λ told. ((f.calls told).0, writes_wider Wider sub (f.calls told).1) }
+
+module _ {D : Type 0} {g : Ghosts D} (s : Sizes) {a b : D} where
+  -- the gate lies before the extents, and so do the parts
+  pub shut_before : Works g (InRange 0 64) (InRange 0 1) a b → Works g (InRange 0 64) (BeforeExtents s) a b
+  shut_before work = wider_work _ (λ place q. omega (arith, q.1)) work
+
+  pub gate_before : Writes g (InRange 0 1) a b → Works g (InRange 0 64) (BeforeExtents s) a b
+  gate_before writes = shut_before (writes_work _ writes)
+
+  pub parts_before : Writes g (InParts s) a b → Works g (InRange 0 64) (BeforeExtents s) a b
+  parts_before writes = writes_work _ (wider_writes _ (λ place q. q.1) writes)

@@ -1,7 +1,7 @@
 -- When a disk is formatted.
-use Rattle.std.specs.Prelude.{◌≡◌, ℕ, List, true, false, nat_lt, Option, Some, None, Result, Ok, Err, if◌then◌else◌}
-use Rattle.bd_disk.specs.Calls.{Rose}
-use Rattle.bd_disk.specs.History.{History}
+use Rattle.std.specs.Prelude.{◌≡◌, ℕ, Bool, List, true, false, nat_lt, Option, Some, None, Result, Ok, Err, if◌then◌else◌}
+use Rattle.bd_disk.specs.declared.disk.Disk.{Ghosts}
+use Rattle.bd_disk.specs.History.{contents}
 use Rattle.bd_disk.specs.Made.{WritesNothing}
 use Rattle.bd_model.specs.Sizes.{Sizes, disk_bytes}
 use Rattle.bd_gate.specs.Superblock.{is_marked}
@@ -27,16 +27,21 @@ MeasuresFormat s have (Err (TooSmall need size)) = (need ≡ disk_bytes s) × (s
 MeasuresFormat s have (Ok made) = nat_lt have (disk_bytes s) ≡ false
 MeasuresFormat s have _ = Unit {0}
 
--- a refusal comes before the first write
-abbrev pub RefusesUntouched : {T : Type 0} → Result T FormatFault → History → History → Type 0
-RefusesUntouched (Err AlreadyAStore) old new = WritesNothing old new
-RefusesUntouched (Err (TooSmall need have)) old new = WritesNothing old new
-RefusesUntouched _ old new = Unit {0}
+-- whether it is a fault of the disk
+abbrev pub is_disk_fault : FormatFault → Bool
+is_disk_fault AlreadyAStore = false
+is_disk_fault (TooSmall need have) = false
+is_disk_fault DiskFault = true
+is_disk_fault OutOfMemory = false
 
--- a fault of the disk comes only where its count rose, and every other answer only where it stayed
-abbrev pub ByCount : {T : Type 0} → ℕ → ℕ → Result T FormatFault → Type 0
-ByCount before now (Err DiskFault) = Rose before now
-ByCount before now _ = now ≡ before
+-- what is answered to a format of a disk
+pub record IsFormatAnswer {D T : Type 0} (g : Ghosts D) (s : Sizes) (old new : D) (result : Result T FormatFault) : Type 0 where
+  -- by its size, also where it tells nothing
+  pub size : MeasuresFormat s (g.bytes old) result
+  -- by its contents
+  pub refused : g.tells → AnswersFormat (format_refusal s (g.bytes old) (contents (g.history old))) result
+  -- a disk that is a store already or too small isn't written, whatever the answer
+  pub untouched : g.tells → (fault : FormatFault) → format_refusal s (g.bytes old) (contents (g.history old)) ≡ Some fault → WritesNothing (g.history old) (g.history new)
 
 -- memory isn't asked for
 abbrev pub TakesNoMemory : {T : Type 0} → Result T FormatFault → Type 0

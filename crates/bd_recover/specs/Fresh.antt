@@ -1,9 +1,11 @@
 -- What a formatted disk holds.
 use Rattle.std.specs.Prelude.{◌≡◌, ◌⊎◌, ℕ, ◌<◌, ◌≤◌, List, [], ◌∷◌, ◌++◌, length, flat_map, replicate, false, Ok, IsErr}
 use Rattle.bd_disk.specs.Images.{bytes_at}
+use Rattle.bd_disk.specs.History.{History, contents}
+use Rattle.bd_disk.specs.Made.{IsSettled, LeavesSince}
 use Rattle.bd_model.specs.Records.{four, eight}
 use Rattle.bd_model.specs.Sizes.{Sizes, disk_bytes, extent_place}
-use Rattle.bd_gate.specs.Superblock.{open_gate, magic}
+use Rattle.bd_gate.specs.Superblock.{open_gate, magic, is_marked}
 use Rattle.bd_gate.specs.Halves.{Half, log_place, is_open}
 use Rattle.bd_catalog.specs.Catalogue.{empty_catalogue}
 use Rattle.bd_catalog.specs.Opening.{Found, opened}
@@ -36,3 +38,7 @@ fresh_found s =
 -- an image that opens as no store, or as the empty one of these sizes
 abbrev pub IsNoneOrFresh : Sizes → List ℕ → Type 0
 IsNoneOrFresh s image = IsErr (opened image) ⊎ (opened image ≡ Ok (fresh_found s))
+
+-- a stop at any moment since old leaves no store or the empty one
+abbrev pub FormatStops : Sizes → History → History → Type 0
+FormatStops s old new = is_marked (contents old) ≡ false → IsSettled old → LeavesSince (IsNoneOrFresh s) old new

@@ -1,14 +1,17 @@
 -- What an opening answers.
-use Rattle.std.specs.Prelude.{◌≡◌, ℕ, ◌==◌, Bool, not, List, replicate, Option, Some, None, Result, Ok, Err, bytes_eq, if◌then◌else◌}
-use Rattle.bd_disk.specs.Calls.{Rose}
+use Rattle.std.specs.Prelude.{◌≡◌, ℕ, ◌==◌, Bool, true, false, not, List, replicate, Option, Some, None, Result, Ok, Err, bytes_eq, if◌then◌else◌}
+use Rattle.bd_disk.specs.History.{History}
 use Rattle.bd_disk.specs.Images.{bytes_at}
+use Rattle.bd_disk.specs.Made.{IsSettled}
 use Rattle.bd_model.specs.declared.shape.Shape.{Shape as StructShape}
 use Rattle.bd_model.specs.declared.place.Place.{Place}
 use Rattle.bd_model.specs.declared.place.Place.TheVariants.{Short, Gate, Magic, Number, Shape, Padding}
 use Rattle.bd_model.specs.Sizes.{sizes_of, is_shape}
-use Rattle.bd_gate.specs.Halves.{newest_half}
+use Rattle.bd_space.specs.Allotment.{TakenExactly, extent_count, held_count}
 use Rattle.bd_gate.specs.Superblock.{open_gate, magic, byte_at, four_at, sizes_at}
-use Rattle.bd_catalog.specs.Opening.{Found, opened_half, opened}
+use Rattle.bd_catalog.specs.Agreement.{Agrees}
+use Rattle.bd_catalog.specs.Catalogue.{all_extents}
+use Rattle.bd_catalog.specs.Opening.{Found, opened, opened_newest}
 use Rattle.bd_recover.specs.declared.fault.OpenFault.{OpenFault}
 use Rattle.bd_recover.specs.declared.fault.OpenFault.TheVariants.{NotAStore, DiskFault, OutOfMemory}
 use Rattle.bd_recover.specs.declared.opening.Opened.{Opened}
@@ -27,10 +30,22 @@ AnswersShort (Err (NotAStore place)) = place ≡ Short
 AnswersShort (Err DiskFault) = Unit {0}
 AnswersShort (Err OutOfMemory) = Unit {0}
 
--- a fault of the disk comes only where its count rose, and every other answer only where it stayed
-abbrev pub FailsByCount : {T : Type 0} → ℕ → ℕ → Result T OpenFault → Type 0
-FailsByCount before now (Err DiskFault) = Rose before now
-FailsByCount before now _ = now ≡ before
+-- whether it is a fault of the disk
+abbrev pub is_disk_fault : OpenFault → Bool
+is_disk_fault (NotAStore place) = false
+is_disk_fault DiskFault = true
+is_disk_fault OutOfMemory = false
+
+-- what was opened stands on the disk, and a stop leaves the contents and nothing else
+pub record Rests (found : Found) (h : History) : Type 0 where
+  pub agrees : Agrees found h
+  pub settled : IsSettled h
+
+-- the space counts as taken what the catalogue owns, each number once, and nothing is held
+pub record HasSpace (made : Opened) : Type 0 where
+  pub owners : TakenExactly made.space (all_extents made.catalog.found.catalogue)
+  pub extents : extent_count made.space ≡ made.catalog.found.sizes.extents
+  pub held : held_count made.space ≡ 0
 
 -- the first of five checks that fails
 abbrev pub first_failing : (gate text number shape padding : Bool) → Option Place
@@ -53,7 +68,7 @@ AnswersSuperblock bytes (Err place) = superblock_fault bytes ≡ Some place
 
 -- the shape whose halves the opening goes on with, or what it answers
 abbrev pub AnswersShape : List ℕ → Result StructShape OpenFault → Type 0
-AnswersShape image (Ok shape) = opened image ≡ opened_half (sizes_of shape) image (newest_half (sizes_of shape) image)
+AnswersShape image (Ok shape) = (sizes_of shape ≡ sizes_at image) × (opened image ≡ opened_newest (sizes_of shape) image)
 AnswersShape image (Err (NotAStore place)) = opened image ≡ Err place
 AnswersShape image (Err DiskFault) = Unit {0}
 AnswersShape image (Err OutOfMemory) = Unit {0}

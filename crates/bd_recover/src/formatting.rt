@@ -1,16 +1,16 @@
-ghost use Rattle.std.specs.Prelude.{◌≡◌, ◌≢◌, Err, ◌+◌, ◌≤◌, ◌<◌, ◌==◌, false, length, OnOk, IfOk, Ok};
-ghost use Rattle.bd_disk.specs.Calls.{HasCause};
+ghost use Rattle.std.specs.Prelude.{◌≡◌, ◌≢◌, Err, ◌+◌, ◌≤◌, ◌==◌, length, OnOk, IfOk, Ok};
+ghost use Rattle.bd_disk.specs.Calls.{FailsByCount, HasCause};
 ghost use Rattle.bd_disk.specs.History.{contents};
 ghost use Rattle.bd_disk.specs.Images.{InRange};
-ghost use Rattle.bd_disk.specs.Made.{IsSettled, LeavesSince, TouchesNothing, WritesNothing, WritesOnly};
-ghost use Rattle.bd_model.specs.Sizes.{sizes_of, disk_bytes, extent_place};
+ghost use Rattle.bd_disk.specs.Made.{IsSettled, TouchesNothing};
+ghost use Rattle.bd_disk.specs.Runs.{Reads, Works, Writes};
+ghost use Rattle.bd_model.specs.Sizes.{sizes_of, disk_bytes};
+ghost use Rattle.bd_gate.specs.Halves.{BeforeExtents};
 ghost use Rattle.bd_gate.specs.Superblock.{is_marked, byte_at, open_gate};
-ghost use Rattle.bd_space.specs.Allotment.{TakenExactly, extent_count, held_count};
-ghost use Rattle.bd_catalog.specs.Agreement.{Agrees};
-ghost use Rattle.bd_catalog.specs.Catalogue.{all_extents};
 ghost use Rattle.bd_catalog.specs.Opening.{opened};
-ghost use Rattle.bd_recover.specs.Fresh.{HoldsFresh, InParts, IsNoneOrFresh, fresh_found};
-ghost use Rattle.bd_recover.specs.Answers.{AnswersFormat, ByCount, MeasuresFormat, RefusesUntouched, TakesNoMemory, format_refusal};
+ghost use Rattle.bd_recover.specs.Fresh.{fresh_found, FormatStops, HoldsFresh, InParts};
+ghost use Rattle.bd_recover.specs.Answers.{format_refusal, is_disk_fault, AnswersFormat, IsFormatAnswer, MeasuresFormat, TakesNoMemory};
+ghost use Rattle.bd_recover.specs.Opens.{HasSpace, Rests};
 
 use crate::fault::FormatFault;
 use crate::fresh::{fresh_half, superblock_body};
@@ -24,24 +24,16 @@ use std::alloc::Global;
 
 /// Makes the empty store of this shape on a disk, as `format_disk` does, and opens it. All memory is taken before the disk
 /// is asked for anything.
+#[tactic(auto, using(bd_disk::proofs::RunLemmas::runs))]
 pub fn format<D: Disk>(alloc: Global, disk: &mut D, shape: Shape) -> Result<Opened, FormatFault>
-    ensures bytes { D.bytes disk.new ≡ D.bytes disk.old }
-    ensures later { D.faults disk.old ≤ D.faults disk.new }
-    ensures cause { ByCount (D.faults disk.old) (D.faults disk.new) result }
+    ensures disk { Works D.Disk (InRange 0 64) (BeforeExtents (sizes_of shape)) disk.old disk.new }
+    ensures cause { FailsByCount is_disk_fault (D.faults disk.old) (D.faults disk.new) result }
     ensures memory { result ≡ Err FormatFault.OutOfMemory → D.tells → TouchesNothing (D.history disk.old) (D.history disk.new) }
-    ensures size { MeasuresFormat (sizes_of shape) (D.bytes disk.old) result }
-    ensures refused { D.tells → AnswersFormat (format_refusal (sizes_of shape) (D.bytes disk.old) (contents (D.history disk.old))) result }
-    ensures untouched { D.tells → RefusesUntouched result (D.history disk.old) (D.history disk.new) }
-    ensures writes { D.tells → WritesOnly (λ place. place < extent_place (sizes_of shape) 0) (D.history disk.old) (D.history disk.new) }
+    ensures answer { IsFormatAnswer D.Disk (sizes_of shape) disk.old disk.new result }
     ensures made { IfOk result (λ made. made.catalog.found ≡ fresh_found (sizes_of shape)) }
-    ensures agrees { IfOk result (λ made. D.tells → Agrees made.catalog.found (D.history disk.new)) }
-    ensures settled { OnOk result (D.tells → IsSettled (D.history disk.new)) }
-    ensures owners { IfOk result (λ made. TakenExactly made.space (all_extents made.catalog.found.catalogue)) }
-    ensures extents { IfOk result (λ made. extent_count made.space ≡ made.catalog.found.sizes.extents) }
-    ensures held { IfOk result (λ made. held_count made.space ≡ 0) }
-    // A stop at any moment leaves no store or the empty one.
-    ensures stops { D.tells → is_marked (contents (D.history disk.old)) ≡ false → IsSettled (D.history disk.old)
-        → LeavesSince (IsNoneOrFresh (sizes_of shape)) (D.history disk.old) (D.history disk.new) }
+    ensures rests { IfOk result (λ made. D.tells → Rests made.catalog.found (D.history disk.new)) }
+    ensures space { IfOk result (λ made. HasSpace made) }
+    ensures stops { D.tells → FormatStops (sizes_of shape) (D.history disk.old) (D.history disk.new) }
 {
     let catalog = Catalog::empty(alloc, shape)?;
     let space = Space::new(alloc, shape.extents())?;
@@ -51,21 +43,16 @@ pub fn format<D: Disk>(alloc: Global, disk: &mut D, shape: Shape) -> Result<Open
 
 /// Makes the empty store of this shape on a disk that is large enough and isn't a store already. The gate of the
 /// superblock is closed first and opened last, so that a stop leaves no store or the empty one.
+#[tactic(auto, using(bd_disk::proofs::RunLemmas::runs))]
 pub fn format_disk<D: Disk>(disk: &mut D, shape: &Shape) -> Result<(), FormatFault>
-    ensures bytes { D.bytes disk.new ≡ D.bytes disk.old }
-    ensures later { D.faults disk.old ≤ D.faults disk.new }
-    ensures cause { ByCount (D.faults disk.old) (D.faults disk.new) result }
+    ensures disk { Works D.Disk (InRange 0 64) (BeforeExtents (sizes_of shape.now)) disk.old disk.new }
+    ensures cause { FailsByCount is_disk_fault (D.faults disk.old) (D.faults disk.new) result }
     ensures memory { TakesNoMemory result }
-    ensures size { MeasuresFormat (sizes_of shape.now) (D.bytes disk.old) result }
-    ensures refused { D.tells → AnswersFormat (format_refusal (sizes_of shape.now) (D.bytes disk.old) (contents (D.history disk.old))) result }
-    ensures untouched { D.tells → RefusesUntouched result (D.history disk.old) (D.history disk.new) }
-    ensures writes { D.tells → WritesOnly (λ place. place < extent_place (sizes_of shape.now) 0) (D.history disk.old) (D.history disk.new) }
+    ensures answer { IsFormatAnswer D.Disk (sizes_of shape.now) disk.old disk.new result }
     // The contents are the empty store, and a stop leaves nothing else.
     ensures made { OnOk result (D.tells → opened (contents (D.history disk.new)) ≡ Ok (fresh_found (sizes_of shape.now))) }
     ensures settled { OnOk result (D.tells → IsSettled (D.history disk.new)) }
-    // A stop at any moment leaves no store or the empty one.
-    ensures stops { D.tells → is_marked (contents (D.history disk.old)) ≡ false → IsSettled (D.history disk.old)
-        → LeavesSince (IsNoneOrFresh (sizes_of shape.now)) (D.history disk.old) (D.history disk.new) }
+    ensures stops { D.tells → FormatStops (sizes_of shape.now) (D.history disk.old) (D.history disk.new) }
 {
     shut_gate(disk, shape)?;
     write_parts(disk, shape)?;
@@ -75,18 +62,13 @@ pub fn format_disk<D: Disk>(disk: &mut D, shape: &Shape) -> Result<(), FormatFau
 
 // Closes the first gate where it is open, or tells why the disk isn't formatted.
 fn shut_gate<D: Disk>(disk: &mut D, shape: &Shape) -> Result<(), FormatFault>
-    ensures bytes { D.bytes disk.new ≡ D.bytes disk.old }
-    ensures later { D.faults disk.old ≤ D.faults disk.new }
-    ensures cause { ByCount (D.faults disk.old) (D.faults disk.new) result }
+    ensures disk { Works D.Disk (InRange 0 64) (InRange 0 1) disk.old disk.new }
+    ensures cause { FailsByCount is_disk_fault (D.faults disk.old) (D.faults disk.new) result }
     ensures memory { TakesNoMemory result }
-    ensures size { MeasuresFormat (sizes_of shape.now) (D.bytes disk.old) result }
-    ensures refused { D.tells → AnswersFormat (format_refusal (sizes_of shape.now) (D.bytes disk.old) (contents (D.history disk.old))) result }
-    ensures untouched { D.tells → RefusesUntouched result (D.history disk.old) (D.history disk.new) }
-    ensures writes { D.tells → WritesOnly (InRange 0 1) (D.history disk.old) (D.history disk.new) }
+    ensures answer { IsFormatAnswer D.Disk (sizes_of shape.now) disk.old disk.new result }
     ensures shut { OnOk result (D.tells → byte_at (contents (D.history disk.new)) 0 ≢ open_gate) }
     ensures settled { OnOk result (D.tells → IsSettled (D.history disk.old) → IsSettled (D.history disk.new)) }
-    ensures stops { D.tells → is_marked (contents (D.history disk.old)) ≡ false → IsSettled (D.history disk.old)
-        → LeavesSince (IsNoneOrFresh (sizes_of shape.now)) (D.history disk.old) (D.history disk.new) }
+    ensures stops { D.tells → FormatStops (sizes_of shape.now) (D.history disk.old) (D.history disk.new) }
 {
     if asks_for_closing(disk, shape)? {
         store(disk, 0, &[CLOSED_GATE])?;
@@ -96,13 +78,11 @@ fn shut_gate<D: Disk>(disk: &mut D, shape: &Shape) -> Result<(), FormatFault>
 
 // Whether the first gate has to be closed; or why the disk isn't formatted.
 fn asks_for_closing<D: Disk>(disk: &mut D, shape: &Shape) -> Result<bool, FormatFault>
-    ensures bytes { D.bytes disk.new ≡ D.bytes disk.old }
-    ensures later { D.faults disk.old ≤ D.faults disk.new }
-    ensures cause { ByCount (D.faults disk.old) (D.faults disk.new) result }
+    ensures disk { Reads D.Disk (InRange 0 64) disk.old disk.new }
+    ensures cause { FailsByCount is_disk_fault (D.faults disk.old) (D.faults disk.new) result }
     ensures memory { TakesNoMemory result }
     ensures size { MeasuresFormat (sizes_of shape.now) (D.bytes disk.old) result }
     ensures refused { D.tells → AnswersFormat (format_refusal (sizes_of shape.now) (D.bytes disk.old) (contents (D.history disk.old))) result }
-    ensures writes { D.tells → WritesNothing (D.history disk.old) (D.history disk.new) }
     ensures gate { IfOk result (λ closing. D.tells → closing ≡ (byte_at (contents (D.history disk.old)) 0 == open_gate)) }
 {
     disk.sync()?;
@@ -132,9 +112,8 @@ fn is_marked(superblock: &[u8; 64]) -> bool
 // All but the gate of the superblock.
 fn write_parts<D: Disk>(disk: &mut D, shape: &Shape) -> Result<(), Failed>
     requires room { disk_bytes (sizes_of shape.now) ≤ D.bytes disk.old }
-    ensures bytes { D.bytes disk.new ≡ D.bytes disk.old }
+    ensures disk { Writes D.Disk (InParts (sizes_of shape.now)) disk.old disk.new }
     ensures cause { HasCause (D.faults disk.old) (D.faults disk.new) result }
-    ensures writes { D.tells → WritesOnly (InParts (sizes_of shape.now)) (D.history disk.old) (D.history disk.new) }
     ensures fresh { OnOk result (D.tells → HoldsFresh (sizes_of shape.now) (contents (D.history disk.new))) }
     ensures settled { OnOk result (D.tells → IsSettled (D.history disk.new)) }
 {

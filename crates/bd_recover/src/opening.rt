@@ -1,14 +1,13 @@
-ghost use Rattle.std.specs.Prelude.{◌≡◌, ◌+◌, ◌<◌, ◌≤◌, IfOk, OnOk};
+ghost use Rattle.std.specs.Prelude.{◌<◌, ◌≤◌, IfOk};
+ghost use Rattle.bd_disk.specs.Calls.{FailsByCount};
 ghost use Rattle.bd_disk.specs.History.{contents};
 ghost use Rattle.bd_disk.specs.Images.{InRange};
-ghost use Rattle.bd_disk.specs.Looks.{LooksOnlyAt};
-ghost use Rattle.bd_disk.specs.Made.{IsSettled, WritesNothing};
-ghost use Rattle.bd_model.specs.Sizes.{sizes_of, disk_bytes, extent_place};
-ghost use Rattle.bd_space.specs.Allotment.{TakenExactly, extent_count, held_count};
-ghost use Rattle.bd_catalog.specs.Agreement.{Agrees};
-ghost use Rattle.bd_catalog.specs.Catalogue.{all_extents};
+ghost use Rattle.bd_disk.specs.Runs.{Reads};
+ghost use Rattle.bd_model.specs.Sizes.{sizes_of, disk_bytes};
+ghost use Rattle.bd_gate.specs.Halves.{BeforeExtents};
+ghost use Rattle.bd_gate.specs.Superblock.{sizes_at};
 ghost use Rattle.bd_catalog.specs.Opening.{opened};
-ghost use Rattle.bd_recover.specs.Opens.{AnswersOpening, AnswersShape, AnswersShort, FailsByCount};
+ghost use Rattle.bd_recover.specs.Opens.{is_disk_fault, AnswersOpening, AnswersShape, AnswersShort, HasSpace, Rests};
 
 use crate::claims::space_of;
 use crate::fault::OpenFault;
@@ -26,22 +25,16 @@ pub struct Opened {
     pub space: Space,
 }
 
-/// Opens the store on a disk, or names the first check that fails. It makes sure of the disk first, and then only reads:
-/// the superblock, the fronts of both halves and the newest catalogue.
+/// Opens the store on a disk, or names the first check that fails. It makes sure of the disk first, and then reads of the
+/// superblock and the halves alone.
 pub fn open_image<D: Disk>(alloc: Global, disk: &mut D) -> Result<Opened, OpenFault>
-    ensures bytes { D.bytes disk.new ≡ D.bytes disk.old }
-    ensures later { D.faults disk.old ≤ D.faults disk.new }
-    ensures cause { FailsByCount (D.faults disk.old) (D.faults disk.new) result }
+    ensures disk { Reads D.Disk (BeforeExtents (sizes_at (contents (D.history disk.old)))) disk.old disk.new }
+    ensures cause { FailsByCount is_disk_fault (D.faults disk.old) (D.faults disk.new) result }
     ensures opened { D.tells → AnswersOpening (opened (contents (D.history disk.old))) result }
     ensures short { D.bytes disk.old < 64 → AnswersShort result }
     ensures room { IfOk result (λ made. disk_bytes made.catalog.found.sizes ≤ D.bytes disk.new) }
-    ensures agrees { IfOk result (λ made. D.tells → Agrees made.catalog.found (D.history disk.new)) }
-    ensures settled { OnOk result (D.tells → IsSettled (D.history disk.new)) }
-    ensures writes { D.tells → WritesNothing (D.history disk.old) (D.history disk.new) }
-    ensures places { IfOk result (λ made. D.tells → LooksOnlyAt (λ place. place < extent_place made.catalog.found.sizes 0) (D.history disk.old) (D.history disk.new)) }
-    ensures owners { IfOk result (λ made. TakenExactly made.space (all_extents made.catalog.found.catalogue)) }
-    ensures extents { IfOk result (λ made. extent_count made.space ≡ made.catalog.found.sizes.extents) }
-    ensures held { IfOk result (λ made. held_count made.space ≡ 0) }
+    ensures rests { IfOk result (λ made. D.tells → Rests made.catalog.found (D.history disk.new)) }
+    ensures space { IfOk result (λ made. HasSpace made) }
 {
     disk.sync()?;
     let shape = read_shape(disk)?;
@@ -51,15 +44,13 @@ pub fn open_image<D: Disk>(alloc: Global, disk: &mut D) -> Result<Opened, OpenFa
 }
 
 // The shape of the store on a disk that is large enough for it, or the first check of the superblock that fails.
+#[tactic(auto, using(bd_disk::proofs::RunLemmas::runs))]
 fn read_shape<D: Disk>(disk: &mut D) -> Result<Shape, OpenFault>
-    ensures bytes { D.bytes disk.new ≡ D.bytes disk.old }
-    ensures later { D.faults disk.old ≤ D.faults disk.new }
-    ensures cause { FailsByCount (D.faults disk.old) (D.faults disk.new) result }
+    ensures disk { Reads D.Disk (InRange 0 64) disk.old disk.new }
+    ensures cause { FailsByCount is_disk_fault (D.faults disk.old) (D.faults disk.new) result }
     ensures shape { D.tells → AnswersShape (contents (D.history disk.old)) result }
     ensures short { D.bytes disk.old < 64 → AnswersShort result }
     ensures room { IfOk result (λ shape. disk_bytes (sizes_of shape) ≤ D.bytes disk.old) }
-    ensures writes { D.tells → WritesNothing (D.history disk.old) (D.history disk.new) }
-    ensures looks { OnOk result (D.tells → LooksOnlyAt (InRange 0 64) (D.history disk.old) (D.history disk.new)) }
 {
     let have = disk.size();
     if have < 64 {

@@ -49,57 +49,6 @@ fn a_disk_is_formatted_once(rt: HostRuntime) -> Result<(), Fail> {
     Ok(())
 }
 
-#[test]
-fn a_disk_that_is_too_small_is_refused(rt: HostRuntime) -> Result<(), Fail> {
-    let alloc = rt.alloc();
-    let shape = Shape::new(64, 16, 4, 4, 0, 4)?;
-    for bytes in [0, 63, 64, DISK - 1] {
-        let mut disk = MemDisk::from_bytes(alloc, &vec![in alloc; 0u8; bytes]?)?;
-        let refused = FormatFault::TooSmall {
-            need: 133_894,
-            have: bytes as u64,
-        };
-        assert_eq!(rt; format_disk(&mut disk, &shape), Err(refused));
-    }
-    // 4,096 extents of a megabyte
-    let large = Shape::new(1_048_576, 4_096, 64, 2_048, 13, 65_536)?;
-    let mut disk = MemDisk::from_bytes(alloc, &vec![in alloc; 0u8; 64]?)?;
-    let refused = FormatFault::TooSmall {
-        need: 4_295_415_766,
-        have: 64,
-    };
-    assert_eq!(rt; format(alloc, &mut disk, large).err(), Some(refused));
-    let mut marked = MemDisk::from_bytes(alloc, &FRONT[..64])?;
-    assert_eq!(rt;
-        format_disk(&mut marked, &shape),
-        Err(FormatFault::AlreadyAStore)
-    );
-    Ok(())
-}
-
-#[test]
-fn a_stop_within_a_format_leaves_a_closed_gate_or_all(rt: HostRuntime) -> Result<(), Fail> {
-    let alloc = rt.alloc();
-    let shape = Shape::new(64, 16, 4, 4, 0, 4)?;
-    // Of ten calls, a disk whose first gate is open.
-    for stop in 0..11 {
-        let mut disk = MemDisk::from_bytes(alloc, &vec![in alloc; 0x4Fu8; DISK]?)?;
-        disk.fail_from(stop);
-        let done = format_disk(&mut disk, &shape);
-        let answer = if stop < 10 {
-            Err(FormatFault::DiskFault)
-        } else {
-            Ok(())
-        };
-        assert_eq!(rt; done, answer);
-        let image = crash_image(alloc, &disk, 0x4F)?;
-        let is_marked = image.get(..8) == FRONT.get(..8);
-        assert_eq!(rt; is_marked, stop >= 8, "at {stop}");
-        assert_eq!(rt; is_marked, image.get(..96) == Some(FRONT.as_slice()));
-    }
-    Ok(())
-}
-
 // How many versions an opening of the image finds, and how many extents are free.
 fn opened_from(alloc: Global, image: &[u8]) -> Result<Result<(u32, u32), OpenFault>, Fail> {
     let mut disk = MemDisk::from_bytes(alloc, image)?;
@@ -155,38 +104,5 @@ fn a_fresh_store_opens_and_an_altered_one_names_its_first_fault(
             Err(OpenFault::NotAStore { place })
         );
     }
-    Ok(())
-}
-
-#[test]
-fn what_owners_have_is_not_free(rt: HostRuntime) -> Result<(), Fail> {
-    let alloc = rt.alloc();
-    let mut image = fresh_image(alloc)?;
-    // Version 1 has one chunk of 4 bytes, its recipe extent 0, and its open category extent 3.
-    let payload = [
-        0, 0, 0, 0, 0, 0, 0, 1, 0, 0, 0, 1, 0, 0, 0, 0, 0, 0, 0, 0, 0, 0, 0, 0, 4, 0, 0, 0, 0, 0,
-        0, 0, 1, 0, 0, 0, 0, 0, 0, 0, 1, 0, 0, 0, 1, 0, 0, 0, 0, 0, 0, 0, 1, 0, 0, 0, 1, 0, 0, 0,
-        0, 0, 0, 0, 1, 0, 0, 0, 0, 0, 0, 0, 40, 0, 0, 0, 1, 0, 0, 0, 3,
-    ];
-    if let Some(byte) = image.get_mut(73) {
-        *byte = 81;
-    }
-    for (index, value) in payload.iter().enumerate() {
-        if let Some(byte) = image.get_mut(74 + index) {
-            *byte = *value;
-        }
-    }
-    assert_eq!(rt; opened_from(alloc, &image)?, Ok((1, 14)));
-    let mut disk = MemDisk::from_bytes(alloc, &image)?;
-    let _ = open_image(alloc, &mut disk);
-    let read = |at, length| Touch::Read { at, length };
-    let calls = [
-        Touch::Sync,
-        read(0, 64),
-        read(64, 10),
-        read(66_467, 10),
-        read(74, 81),
-    ];
-    assert_eq!(rt; disk.trace(), calls.as_slice());
     Ok(())
 }

@@ -1,14 +1,20 @@
-use Rattle.bd_disk.proofs.Frames.{made_both}
+use Rattle.bd_disk.proofs.RunLemmas.{both_reads, read_once, sync_in_reads}
 use Rattle.bd_recover.proofs.formatting.asks_for_closing.Goals as goal
 
-pub returns-in_err-read-clause-writes : goal.returns-in_err-read-clause-writes
-returns-in_err-read-clause-writes g c = λ told. made_both (c.sync.ensures.writes told) (c.read.ensures.writes told)
+pub returns-in_err-sync-clause-disk : goal.returns-in_err-sync-clause-disk
+returns-in_err-sync-clause-disk g c = sync_in_reads g.D.Disk _ c.sync.result c.sync.ensures.bytes c.sync.ensures.ok c.sync.ensures.err c.sync.ensures.writes
 
-pub returns-then-is_marked-clause-writes : goal.returns-then-is_marked-clause-writes
-returns-then-is_marked-clause-writes g c = λ told. made_both (c.sync.ensures.writes told) (c.read.ensures.writes told)
+pub returns-then-have-lt64-clause-disk : goal.returns-then-have-lt64-clause-disk
+returns-then-have-lt64-clause-disk g c = sync_in_reads g.D.Disk _ c.sync.result c.sync.ensures.bytes c.sync.ensures.ok c.sync.ensures.err c.sync.ensures.writes
 
-pub returns-then-have-need-clause-writes : goal.returns-then-have-need-clause-writes
-returns-then-have-need-clause-writes g c = λ told. made_both (c.sync.ensures.writes told) (c.read.ensures.writes told)
+pub returns-in_err-read-clause-disk : goal.returns-in_err-read-clause-disk
+returns-in_err-read-clause-disk g c = both_reads (sync_in_reads g.D.Disk _ c.sync.result c.sync.ensures.bytes c.sync.ensures.ok c.sync.ensures.err c.sync.ensures.writes) (read_once g.D.Disk _ _ c.read.result c.read.ensures.bytes c.read.ensures.ok c.read.ensures.err c.read.ensures.writes)
 
-pub returns-clause-writes : goal.returns-clause-writes
-returns-clause-writes g c = λ told. made_both (c.sync.ensures.writes told) (c.read.ensures.writes told)
+pub returns-then-is_marked-clause-disk : goal.returns-then-is_marked-clause-disk
+returns-then-is_marked-clause-disk g c = both_reads (sync_in_reads g.D.Disk _ c.sync.result c.sync.ensures.bytes c.sync.ensures.ok c.sync.ensures.err c.sync.ensures.writes) (read_once g.D.Disk _ _ c.read.result c.read.ensures.bytes c.read.ensures.ok c.read.ensures.err c.read.ensures.writes)
+
+pub returns-then-have-need-clause-disk : goal.returns-then-have-need-clause-disk
+returns-then-have-need-clause-disk g c = both_reads (sync_in_reads g.D.Disk _ c.sync.result c.sync.ensures.bytes c.sync.ensures.ok c.sync.ensures.err c.sync.ensures.writes) (read_once g.D.Disk _ _ c.read.result c.read.ensures.bytes c.read.ensures.ok c.read.ensures.err c.read.ensures.writes)
+
+pub returns-clause-disk : goal.returns-clause-disk
+returns-clause-disk g c = both_reads (sync_in_reads g.D.Disk _ c.sync.result c.sync.ensures.bytes c.sync.ensures.ok c.sync.ensures.err c.sync.ensures.writes) (read_once g.D.Disk _ _ c.read.result c.read.ensures.bytes c.read.ensures.ok c.read.ensures.err c.read.ensures.writes)

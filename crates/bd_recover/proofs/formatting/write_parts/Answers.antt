@@ -1,37 +1,46 @@
 use Rattle.std.proofs.Common.{◌≡◌, ◌+◌, ◌≤◌, ◌∙◌, [], ◌∷◌, ap, subst, sym, arith, length}
 use Rattle.bd_disk.specs.History.{contents}
 use Rattle.bd_disk.specs.Images.{overwritten}
-use Rattle.bd_disk.proofs.Frames.{made_both, nothing_within, settled}
+use Rattle.bd_disk.proofs.Frames.{settled}
+use Rattle.bd_disk.proofs.RunLemmas.{both_writes, sync_in_writes, write_once}
 use Rattle.bd_model.specs.Sizes.{sizes_of, disk_bytes, half_place}
 use Rattle.bd_recover.specs.Fresh.{HoldsFresh, fresh_half, superblock_body}
 use Rattle.bd_recover.proofs.Bytes.{holds_fresh, first_in_parts, other_in_parts, body_in_parts}
 use Rattle.bd_recover.proofs.formatting.write_parts.Goals as goal
 
-pub returns-in_err-write-clause-writes : goal.returns-in_err-write-clause-writes
-returns-in_err-write-clause-writes g c = λ told. first_in_parts (sizes_of c.args.shape.now) (ap length c.fresh_half.ensures) (c.write.ensures.writes told)
-
-pub returns-in_err-write-2-clause-writes : goal.returns-in_err-write-2-clause-writes
-returns-in_err-write-2-clause-writes g c = λ told.
+pub returns-in_err-write-clause-disk : goal.returns-in_err-write-clause-disk
+returns-in_err-write-clause-disk g c =
     let s = sizes_of c.args.shape.now in
-    made_both (first_in_parts s (ap length c.fresh_half.ensures) (c.write.ensures.writes told)) (other_in_parts s c.half_bytes.ensures (c.write-2.ensures.writes told))
+    first_in_parts s (ap length c.fresh_half.ensures) (write_once g.D.Disk _ _ c.write.result c.write.ensures.bytes c.write.ensures.ok c.write.ensures.err c.write.ensures.writes)
 
-pub returns-in_err-write-3-clause-writes : goal.returns-in_err-write-3-clause-writes
-returns-in_err-write-3-clause-writes g c = λ told.
+pub returns-in_err-write-2-clause-disk : goal.returns-in_err-write-2-clause-disk
+returns-in_err-write-2-clause-disk g c =
     let s = sizes_of c.args.shape.now in
-    made_both (made_both (first_in_parts s (ap length c.fresh_half.ensures) (c.write.ensures.writes told)) (other_in_parts s c.half_bytes.ensures (c.write-2.ensures.writes told)))
-    (body_in_parts s (ap length c.superblock_body.ensures) (c.write-3.ensures.writes told))
+    both_writes (first_in_parts s (ap length c.fresh_half.ensures) (write_once g.D.Disk _ _ c.write.result c.write.ensures.bytes c.write.ensures.ok c.write.ensures.err c.write.ensures.writes))
+    (other_in_parts s c.half_bytes.ensures (write_once g.D.Disk _ _ c.write-2.result c.write-2.ensures.bytes c.write-2.ensures.ok c.write-2.ensures.err c.write-2.ensures.writes))
 
-pub returns-in_err-sync-clause-writes : goal.returns-in_err-sync-clause-writes
-returns-in_err-sync-clause-writes g c = λ told.
+pub returns-in_err-write-3-clause-disk : goal.returns-in_err-write-3-clause-disk
+returns-in_err-write-3-clause-disk g c =
     let s = sizes_of c.args.shape.now in
-    made_both (made_both (made_both (first_in_parts s (ap length c.fresh_half.ensures) (c.write.ensures.writes told)) (other_in_parts s c.half_bytes.ensures (c.write-2.ensures.writes told)))
-    (body_in_parts s (ap length c.superblock_body.ensures) (c.write-3.ensures.writes told))) (nothing_within _ (c.sync.ensures.writes told))
+    both_writes (first_in_parts s (ap length c.fresh_half.ensures) (write_once g.D.Disk _ _ c.write.result c.write.ensures.bytes c.write.ensures.ok c.write.ensures.err c.write.ensures.writes))
+    (both_writes (other_in_parts s c.half_bytes.ensures (write_once g.D.Disk _ _ c.write-2.result c.write-2.ensures.bytes c.write-2.ensures.ok c.write-2.ensures.err c.write-2.ensures.writes))
+    (body_in_parts s (ap length c.superblock_body.ensures) (write_once g.D.Disk _ _ c.write-3.result c.write-3.ensures.bytes c.write-3.ensures.ok c.write-3.ensures.err c.write-3.ensures.writes)))
 
-pub returns-clause-writes : goal.returns-clause-writes
-returns-clause-writes g c = λ told.
+pub returns-in_err-sync-clause-disk : goal.returns-in_err-sync-clause-disk
+returns-in_err-sync-clause-disk g c =
     let s = sizes_of c.args.shape.now in
-    made_both (made_both (made_both (first_in_parts s (ap length c.fresh_half.ensures) (c.write.ensures.writes told)) (other_in_parts s c.half_bytes.ensures (c.write-2.ensures.writes told)))
-    (body_in_parts s (ap length c.superblock_body.ensures) (c.write-3.ensures.writes told))) (nothing_within _ (c.sync.ensures.writes told))
+    both_writes (first_in_parts s (ap length c.fresh_half.ensures) (write_once g.D.Disk _ _ c.write.result c.write.ensures.bytes c.write.ensures.ok c.write.ensures.err c.write.ensures.writes))
+    (both_writes (other_in_parts s c.half_bytes.ensures (write_once g.D.Disk _ _ c.write-2.result c.write-2.ensures.bytes c.write-2.ensures.ok c.write-2.ensures.err c.write-2.ensures.writes))
+    (both_writes (body_in_parts s (ap length c.superblock_body.ensures) (write_once g.D.Disk _ _ c.write-3.result c.write-3.ensures.bytes c.write-3.ensures.ok c.write-3.ensures.err c.write-3.ensures.writes))
+    (sync_in_writes g.D.Disk _ c.sync.result c.sync.ensures.bytes c.sync.ensures.ok c.sync.ensures.err c.sync.ensures.writes)))
+
+pub returns-clause-disk : goal.returns-clause-disk
+returns-clause-disk g c =
+    let s = sizes_of c.args.shape.now in
+    both_writes (first_in_parts s (ap length c.fresh_half.ensures) (write_once g.D.Disk _ _ c.write.result c.write.ensures.bytes c.write.ensures.ok c.write.ensures.err c.write.ensures.writes))
+    (both_writes (other_in_parts s c.half_bytes.ensures (write_once g.D.Disk _ _ c.write-2.result c.write-2.ensures.bytes c.write-2.ensures.ok c.write-2.ensures.err c.write-2.ensures.writes))
+    (both_writes (body_in_parts s (ap length c.superblock_body.ensures) (write_once g.D.Disk _ _ c.write-3.result c.write-3.ensures.bytes c.write-3.ensures.ok c.write-3.ensures.err c.write-3.ensures.writes))
+    (sync_in_writes g.D.Disk _ c.sync.result c.sync.ensures.bytes c.sync.ensures.ok c.sync.ensures.err c.sync.ensures.writes)))
 
 pub returns-clause-settled : goal.returns-clause-settled
 returns-clause-settled g c = λ told. settled (c.in_ok-sync.ensures.ok told)
