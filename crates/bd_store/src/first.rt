@@ -1,8 +1,7 @@
-ghost use Rattle.std.specs.Prelude.{◌≡◌, ◌+◌, ◌≤◌, ◌<◌, [], ◌++◌, IfOk, IfErr, OnOk, OnErr, Ok, Err};
+ghost use Rattle.std.specs.Prelude.{◌≡◌, ◌+◌, ◌≤◌, ◌<◌, ◌++◌, IfOk, IfErr, OnOk, OnErr, Ok, Err};
 ghost use Rattle.bd_disk.specs.Calls.{HasCause};
-ghost use Rattle.bd_disk.specs.History.{contents};
-ghost use Rattle.bd_disk.specs.Made.{IsSettled, LeavesSince, WritesOnly};
-ghost use Rattle.bd_disk.specs.Trace.{ReadsOnly};
+ghost use Rattle.bd_disk.specs.Made.{WritesOnly};
+ghost use Rattle.bd_disk.specs.Runs.{Writes};
 ghost use Rattle.bd_model.specs.Sizes.{disk_bytes};
 ghost use Rattle.bd_model.specs.State.{last_number};
 ghost use Rattle.bd_model.specs.declared.answer.Answer.TheVariants.{BackedUp};
@@ -10,10 +9,9 @@ ghost use Rattle.bd_model.specs.declared.command.Command.TheVariants.{Backup};
 ghost use Rattle.bd_space.specs.Allotment.{extent_count, held_count, TakenExactly};
 ghost use Rattle.bd_catalog.specs.Agreement.{Agrees};
 ghost use Rattle.bd_catalog.specs.Catalogue.{all_extents, retained_in};
-ghost use Rattle.bd_catalog.specs.Growing.{after_backup};
 ghost use Rattle.bd_catalog.specs.Ledger.{HasRoom};
 ghost use Rattle.bd_catalog.specs.Shown.{version_entry};
-ghost use Rattle.bd_catalog.specs.Steps.{brought, committed, fresh_entries, FitsBackup, HasCommitted, InOtherHalf, IsKeptOrCommitted, IsOldOrCommitted};
+ghost use Rattle.bd_catalog.specs.Steps.{after_step, brought, fresh_entries, FitsBackup, InOtherHalf, IsMade, LeavesEither};
 ghost use Rattle.bd_store.specs.Causes.{counts, FailsOnlyByCount, StraysOnlyBy};
 ghost use Rattle.bd_store.specs.Naming.{refusal_of, UnlessDiskFailed};
 ghost use Rattle.bd_store.specs.Steps.{IsOneStep};
@@ -62,22 +60,17 @@ fn name_version<D: Disk>(
     requires fits { FitsBackup catalog.old.found.sizes catalog.old.found.catalogue (version_entry staged.version) (fresh_entries staged.fresh) }
     requires agrees { D.tells → Agrees catalog.old.found (D.history disk.old) }
     requires owners { TakenExactly space.old (all_extents catalog.old.found.catalogue ++ brought (Step.Backup staged.version staged.fresh)) }
-    ensures bytes { D.bytes disk.new ≡ D.bytes disk.old }
+    ensures disk { Writes D.Disk (InOtherHalf catalog.old.found) disk.old disk.new }
     ensures cause { HasCause (D.faults disk.old) (D.faults disk.new) result }
     ensures answer { IfOk result (λ answer. answer ≡ BackedUp (catalog.old.found.catalogue.newest + 1) staged.version.length staged.version.chunks staged.version.fresh staged.need) }
     ensures fault { IfErr result (λ fault. fault ≡ StoreFault.DiskFault) }
-    ensures writes { D.tells → WritesOnly (InOtherHalf catalog.old.found) (D.history disk.old) (D.history disk.new) }
-    ensures places { OnOk result (D.tells → ReadsOnly [] (D.history disk.old) (D.history disk.new)) }
-    ensures stops { D.tells →
-        LeavesSince (IsOldOrCommitted catalog.old.found (committed catalog.old.found (after_backup catalog.old.found.catalogue (version_entry staged.version) (fresh_entries staged.fresh))) (D.history disk.old))
+    ensures either { D.tells →
+        LeavesEither catalog.old.found (after_step catalog.old.found (Step.Backup staged.version staged.fresh))
         (D.history disk.old) (D.history disk.new) }
-    ensures contents { D.tells →
-        IsKeptOrCommitted catalog.old.found (committed catalog.old.found (after_backup catalog.old.found.catalogue (version_entry staged.version) (fresh_entries staged.fresh)))
-        (contents (D.history disk.old)) (contents (D.history disk.new)) }
-    ensures made { OnOk result (catalog.new.found ≡ committed catalog.old.found (after_backup catalog.old.found.catalogue (version_entry staged.version) (fresh_entries staged.fresh))) }
-    ensures agrees { OnOk result (D.tells → Agrees catalog.new.found (D.history disk.new)) }
-    ensures settled { OnOk result (D.tells → IsSettled (D.history disk.new)) }
-    ensures kept { OnOk result (D.tells → HasCommitted catalog.old.found catalog.new.found (contents (D.history disk.old)) (contents (D.history disk.new))) }
+    ensures made { OnOk result (catalog.new.found ≡ after_step catalog.old.found (Step.Backup staged.version staged.fresh)) }
+    ensures done { OnOk result (D.tells →
+        IsMade catalog.old.found (after_step catalog.old.found (Step.Backup staged.version staged.fresh))
+        (D.history disk.old) (D.history disk.new)) }
     ensures owners { OnOk result (TakenExactly space.new (all_extents catalog.new.found.catalogue)) }
     ensures extents { extent_count space.new ≡ extent_count space.old }
     ensures held { held_count space.new ≡ held_count space.old }

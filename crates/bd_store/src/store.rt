@@ -1,23 +1,27 @@
 ghost use Rattle.std.specs.Prelude.{◌≡◌, ◌↔◌, ◌≤◌, ◌<◌, true, false, IfOk, OnOk, IfErr, Ok, Err};
 ghost use Rattle.std.specs.FinMap as map;
-ghost use Rattle.bd_disk.specs.Calls.{Rose};
+ghost use Rattle.bd_disk.specs.Calls.{FailsByCount, Rose};
 ghost use Rattle.bd_disk.specs.History.{contents};
+ghost use Rattle.bd_disk.specs.Images.{InRange};
 ghost use Rattle.bd_disk.specs.Looks.{LooksOnlyAt};
 ghost use Rattle.bd_disk.specs.Made.{IsSettled, LeavesSince, TouchesNothing, WritesNothing, WritesOnly};
+ghost use Rattle.bd_disk.specs.Runs.{Reads, Works};
 ghost use Rattle.bd_model.specs.Sizes.{sizes_of, disk_bytes, extent_place};
 ghost use Rattle.bd_model.specs.State.{empty, last_number};
 ghost use Rattle.bd_model.specs.Step.{without_room};
 ghost use Rattle.bd_model.specs.declared.layout.Phase.TheVariants.{Settled};
 ghost use Rattle.bd_model.specs.declared.command.Command.TheVariants.{Backup, Restore};
 ghost use Rattle.bd_model.specs.declared.answer.Answer.TheVariants.{Listed};
-ghost use Rattle.bd_gate.specs.Superblock.{is_marked};
+ghost use Rattle.bd_gate.specs.Halves.{BeforeExtents};
+ghost use Rattle.bd_gate.specs.Superblock.{is_marked, sizes_at};
 ghost use Rattle.bd_catalog.specs.Agreement.{Agrees};
 ghost use Rattle.bd_catalog.specs.Catalogue.{oldest_in, retained_in};
 ghost use Rattle.bd_catalog.specs.Opening.{opened};
 ghost use Rattle.bd_catalog.specs.Sound.{content, recipe_of};
 ghost use Rattle.bd_catalog.specs.Standing.{StandsFor, lines_from};
 ghost use Rattle.bd_files.specs.Files.{ChangesOnly};
-ghost use Rattle.bd_recover.specs.Answers.{AnswersFormat, MeasuresFormat, RefusesUntouched, format_refusal};
+ghost use Rattle.bd_recover.specs.Answers.{is_disk_fault as is_format_disk_fault, IsFormatAnswer};
+ghost use Rattle.bd_recover.specs.Opens.{is_disk_fault as is_open_disk_fault, Rests};
 ghost use Rattle.bd_restore.specs.Target.{held, HasChunks};
 ghost use Rattle.bd_store.specs.Causes.{counts, FailsOnlyByCount, StraysOnlyBy};
 ghost use Rattle.bd_store.specs.Naming.{NamesDamage};
@@ -65,20 +69,14 @@ impl Model for Store {
 impl Store {
     /// Makes the empty store of this shape, on a disk that isn't a store. Its memory is taken first.
     pub fn format<D: Disk>(alloc: Global, disk: &mut D, shape: Shape) -> Result<Store, FormatFault>
-        ensures bytes { D.bytes disk.new ≡ D.bytes disk.old }
-        ensures later { D.faults disk.old ≤ D.faults disk.new }
-        ensures kept { OnOk result (D.faults disk.new ≡ D.faults disk.old) }
-        ensures cause { result ≡ Err FormatFault.DiskFault → Rose (D.faults disk.old) (D.faults disk.new) }
-        ensures size { MeasuresFormat (sizes_of shape) (D.bytes disk.old) result }
+        ensures disk { Works D.Disk (InRange 0 64) (BeforeExtents (sizes_of shape)) disk.old disk.new }
+        ensures cause { FailsByCount is_format_disk_fault (D.faults disk.old) (D.faults disk.new) result }
+        ensures answer { IsFormatAnswer D.Disk (sizes_of shape) disk.old disk.new result }
         ensures room { OnOk result (disk_bytes (sizes_of shape) ≤ D.bytes disk.new) }
-        ensures refused { D.tells → AnswersFormat (format_refusal (sizes_of shape) (D.bytes disk.old) (contents (D.history disk.old))) result }
-        ensures untouched { D.tells → RefusesUntouched result (D.history disk.old) (D.history disk.new) }
         ensures memory { result ≡ Err FormatFault.OutOfMemory → D.tells → TouchesNothing (D.history disk.old) (D.history disk.new) }
-        ensures writes { D.tells → WritesOnly (λ place. place < extent_place (sizes_of shape) 0) (D.history disk.old) (D.history disk.new) }
         // The contents stand for the empty store, and a stop leaves nothing else.
         ensures made { OnOk result (D.tells → StandsFor shape empty Settled 0 (contents (D.history disk.new))) }
-        ensures settled { OnOk result (D.tells → IsSettled (D.history disk.new)) }
-        ensures agrees { IfOk result (λ store. D.tells → Agrees store.found (D.history disk.new)) }
+        ensures rests { IfOk result (λ store. D.tells → Rests store.found (D.history disk.new)) }
         ensures shape { IfOk result (λ store. store.found.sizes ≡ sizes_of shape) }
         ensures fresh { IfOk result (λ store. (store.worn ≡ false) × (store.held ≡ 0)) }
         // A stop at any moment leaves no store or the empty one.
@@ -95,16 +93,11 @@ impl Store {
 
     /// Opens the store that a disk holds. It begins with a sync and writes nothing.
     pub fn open_store<D: Disk>(alloc: Global, disk: &mut D) -> Result<Store, OpenFault>
-        ensures bytes { D.bytes disk.new ≡ D.bytes disk.old }
-        ensures later { D.faults disk.old ≤ D.faults disk.new }
-        ensures kept { OnOk result (D.faults disk.new ≡ D.faults disk.old) }
-        ensures cause { result ≡ Err OpenFault.DiskFault → Rose (D.faults disk.old) (D.faults disk.new) }
+        ensures disk { Reads D.Disk (BeforeExtents (sizes_at (contents (D.history disk.old)))) disk.old disk.new }
+        ensures cause { FailsByCount is_open_disk_fault (D.faults disk.old) (D.faults disk.new) result }
         ensures room { IfOk result (λ store. disk_bytes store.found.sizes ≤ D.bytes disk.new) }
-        ensures writes { D.tells → WritesNothing (D.history disk.old) (D.history disk.new) }
         ensures opened { D.tells → AnswersOpening (opened (contents (D.history disk.old))) result }
-        ensures agrees { IfOk result (λ store. D.tells → Agrees store.found (D.history disk.new)) }
-        ensures settled { OnOk result (D.tells → IsSettled (D.history disk.new)) }
-        ensures places { IfOk result (λ store. D.tells → LooksOnlyAt (λ place. place < extent_place store.found.sizes 0) (D.history disk.old) (D.history disk.new)) }
+        ensures rests { IfOk result (λ store. D.tells → Rests store.found (D.history disk.new)) }
         ensures fresh { IfOk result (λ store. (store.worn ≡ false) × (store.held ≡ 0)) }
     {
         let Opened { catalog, space } = open_image(alloc, disk)?;

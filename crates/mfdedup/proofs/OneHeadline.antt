@@ -1,17 +1,18 @@
 -- The headline of one command, from its session and the opening before it.
-use Rattle.std.proofs.Common.{◌≡◌, ◌⊎◌, ◌∙◌, ℕ, ◌<◌, ◌≤◌, Bool, true, false, List, [], ◌∷◌, inl, inr, refl, sym, subst, ap, arith, Some, None, Ok, Err, Result, cond}
+use Rattle.std.proofs.Common.{◌≡◌, ◌⊎◌, MatchBool, ◌∙◌, ℕ, ◌<◌, ◌≤◌, Bool, true, false, List, [], ◌∷◌, inl, inr, refl, sym, subst, ap, arith, Some, None, Ok, Err, Result, cond}
 use Rattle.bd_disk.specs.Calls.{Rose}
 use Rattle.bd_disk.specs.History.{History, clock, contents}
 use Rattle.bd_disk.specs.Looks.{LooksOnlyAt}
 use Rattle.bd_disk.specs.Made.{WritesNothing, WritesOnly}
 use Rattle.bd_disk.proofs.Frames.{leaves_quiet, made_none}
 use Rattle.bd_model.specs.FileMap.{FileMap}
-use Rattle.bd_model.specs.Sizes.{extent_place}
 use Rattle.bd_model.specs.State.{VersionState}
 use Rattle.bd_model.specs.declared.shape.Shape.{Shape}
 use Rattle.bd_model.specs.declared.place.Place.{Place}
 use Rattle.bd_model.specs.declared.command.Command.{Command}
 use Rattle.bd_catalog.specs.Agreement.{Agrees}
+use Rattle.bd_gate.specs.Halves.{BeforeExtents}
+use Rattle.bd_gate.specs.Superblock.{sizes_at}
 use Rattle.bd_catalog.specs.Opening.{Found, opened}
 use Rattle.bd_store.specs.Causes.{counts, FailsOnlyByCount}
 use Rattle.bd_store.specs.Openings.{AnswersOpening}
@@ -19,6 +20,7 @@ use Rattle.bd_store.specs.Steps.{IsOneStep}
 use Rattle.bd_store.specs.Stops.{IsSafeAtStops}
 use Rattle.bd_store.specs.declared.fault.StoreFault.{StoreFault}
 use Rattle.bd_store.specs.declared.fault.StoreFault.TheVariants.{SourceFault as StoreSource, TargetFault as StoreTarget, DiskFault as StoreDisk, Damaged as StoreDamaged, OutOfMemory as StoreMemory, Unbuilt as StoreUnbuilt}
+use Rattle.bd_recover.specs.Opens.{is_disk_fault}
 use Rattle.bd_recover.specs.declared.fault.OpenFault.{OpenFault}
 use Rattle.bd_recover.specs.declared.fault.OpenFault.TheVariants.{NotAStore as OpenNotAStore, DiskFault as OpenDisk, OutOfMemory as OpenMemory}
 use Rattle.mfdedup.specs.Built.{is_built, FaultFits}
@@ -69,7 +71,7 @@ asked_one false x y e f = absurd (cc e)
 
 -- the opening, and then the session
 pub opened_headline : (command : Command) (p : Progress) (before mid now : AllCounts) (a b c : History) (files files' : FileMap) (found : Found) → is_built command ≡ true → p.commands.items ≡ command ∷ [] → mid ≡ before → WritesNothing a b → opened (contents a) ≡ Ok found →
-    LooksOnlyAt (λ place. place < extent_place found.sizes 0) a b → WritesOnly (λ place. 64 ≤ place) b c →
+    LooksOnlyAt (BeforeExtents (sizes_at (contents a))) a b → WritesOnly (λ place. 64 ≤ place) b c →
     ((shape : Shape) → (st : VersionState) → IsPromised shape st b files (tried (command ∷ []) p.answers.items) → MeetsTheHeadline shape st (clock b) (course_of p b c files files')) →
     ((shape : Shape) → (st : VersionState) → IsPromised shape st b files (tried (command ∷ []) p.answers.items) → EndsWell shape st (course_of p b c files files') mid now) → IsTheHeadline (ToRun command) p before now a c files files'
 opened_headline command p before mid now a b c files files' found built only same quiet opens looks writes meets ends = record {
@@ -117,9 +119,9 @@ not_a_store expected (OpenNotAStore p) answers place e = answers ∙ ap Err (cc 
 not_a_store expected OpenDisk answers place e = absurd (cc e)
 not_a_store expected OpenMemory answers place e = absurd (cc e)
 
-pub opening_cause : (fault : OpenFault) (ending : End) (d s t o d' : ℕ) → ending ≡ end_of_opening fault → (fault ≡ OpenDisk → Rose d d') → EndsByCount ending (all_counts d s t o) (all_counts d' s t o)
+pub opening_cause : (fault : OpenFault) (ending : End) (d s t o d' : ℕ) → ending ≡ end_of_opening fault → MatchBool (is_disk_fault fault) (Rose d d') (d' ≡ d) → EndsByCount ending (all_counts d s t o) (all_counts d' s t o)
 opening_cause (OpenNotAStore place) ending d s t o d' e rose = subst (λ x. EndsByCount x (all_counts d s t o) (all_counts d' s t o)) (sym e) tt
-opening_cause OpenDisk ending d s t o d' e rose = subst (λ x. EndsByCount x (all_counts d s t o) (all_counts d' s t o)) (sym e) (rose refl)
+opening_cause OpenDisk ending d s t o d' e rose = subst (λ x. EndsByCount x (all_counts d s t o) (all_counts d' s t o)) (sym e) rose
 opening_cause OpenMemory ending d s t o d' e rose = subst (λ x. EndsByCount x (all_counts d s t o) (all_counts d' s t o)) (sym e) tt
 
 -- words that were refused ask for no commands

@@ -16,9 +16,12 @@ use Rattle.bd_model.specs.State.{VersionState}
 use Rattle.bd_model.specs.Sizes.{sizes_of, extent_place}
 use Rattle.bd_model.specs.declared.shape.Shape.{Shape}
 use Rattle.bd_model.specs.declared.command.Command.{Command}
+use Rattle.bd_gate.specs.Halves.{BeforeExtents}
+use Rattle.bd_gate.specs.Superblock.{sizes_at}
 use Rattle.bd_catalog.specs.Opening.{Found, opened}
 use Rattle.bd_catalog.specs.Standing.{Stands}
 use Rattle.bd_catalog.proofs.Standing.{stands-shows}
+use Rattle.bd_catalog.proofs.StandingFound.{opened-found}
 use Rattle.mfdedup.specs.Course.{Course, IsHonest, IsPromised, StandsAt, answered}
 use Rattle.mfdedup.specs.Exit.{IsHalfWritten, carried_out}
 use Rattle.mfdedup.specs.Headline.{OpensFirst}
@@ -41,10 +44,10 @@ all-listed P [] all = All-nil P
 all-listed P (x ∷ xs) all = All-cons P x xs all.0 (all-listed P xs all.1)
 
 -- what an opening reads lies before the first extent
-pub opens_first : {shape : Shape} {st : VersionState} {a b c : History} (found : Found) → IsHonest shape st a → opened (contents a) ≡ Ok found → WritesNothing a b → LooksOnlyAt (λ place. place < extent_place found.sizes 0) a b → WritesOnly (λ place. 64 ≤ place) b c → OpensFirst shape a c (clock b)
+pub opens_first : {shape : Shape} {st : VersionState} {a b c : History} (found : Found) → IsHonest shape st a → opened (contents a) ≡ Ok found → WritesNothing a b → LooksOnlyAt (BeforeExtents (sizes_at (contents a))) a b → WritesOnly (λ place. 64 ≤ place) b c → OpensFirst shape a c (clock b)
 opens_first {shape} {st} {a} {b} {c} found honest opens quiet looks made = record { later = later quiet; places = all-listed _ _ (subst (AllByRecursion (λ place. place < extent_place (sizes_of shape) 0)) (sym run) within) } where
-  same : found.sizes ≡ sizes_of shape
-  same = (stands-shows honest.stands.so opens).sizes
+  same : sizes_at (contents a) ≡ sizes_of shape
+  same = sym (opened-found (contents a) found opens).sizes ∙ (stands-shows honest.stands.so opens).sizes
 
   reads : ReadsOnly (part a looks.calls) a b
   reads = record { made = goes_on quiet; so = ap reads_in looks.so ∙ reads_on a looks.calls }

@@ -35,18 +35,13 @@ EndsFormat refusal DiskFault = Unit {0}
 EndsFormat refusal OutOfMemory = Unit {0}
 EndsFormat refusal ending = ⊥
 
--- a refusal comes before the first write
-abbrev pub RefusedUntouched : End → History → History → Type 0
-RefusedUntouched AlreadyAStore old new = WritesNothing old new
-RefusedUntouched (TooSmall need have) old new = WritesNothing old new
-RefusedUntouched ending old new = Unit {0}
-
 -- The disk holds the empty store, or the end is why it doesn't. A stop at any moment leaves no store or the empty one,
 -- and once the answer is noted the empty one.
 pub record Formats (shape : Shape) (bytes : ℕ) (ending : End) (clocks : List ℕ) (old new : History) : Type 0 where
   pub ends : EndsFormat (format_refusal (sizes_of shape) bytes (contents old)) ending
   pub made : IsCarriedOut ending → StandsFor shape empty Settled 0 (contents new)
-  pub untouched : RefusedUntouched ending old new
+  -- a disk that is a store already or too small isn't written, whatever the end
+  pub untouched : (fault : FormatFault) → format_refusal (sizes_of shape) bytes (contents old) ≡ Some fault → WritesNothing old new
   pub writes : WritesOnly (λ place. place < extent_place (sizes_of shape) 0) old new
   pub stops : is_marked (contents old) ≡ false → IsSettled old → LeavesSince (IsNoneOrEmpty shape) old new
   pub acknowledged : (k : ℕ) → k < length clocks → (image : List ℕ) → Since new (get_or clocks k 0) image → StandsFor shape empty Settled 0 image

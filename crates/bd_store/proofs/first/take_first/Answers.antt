@@ -1,6 +1,6 @@
 use Rattle.std.proofs.Common.{◌≡◌, ◌∙◌, ◌<◌, sym, ap, subst, Ok, Err}
-use Rattle.bd_disk.specs.History.{contents}
 use Rattle.bd_disk.proofs.Frames.{made_both, writes_wider}
+use Rattle.bd_disk.proofs.RunLemmas.{nothing_read, written}
 use Rattle.bd_disk.proofs.Traces.{reads_both}
 use Rattle.bd_model.specs.State.{last_number}
 use Rattle.bd_space.specs.Allotment.{extent_count, held_count, TakenExactly}
@@ -11,7 +11,6 @@ use Rattle.bd_intake.proofs.Firsts.{first_chunks}
 use Rattle.bd_store.specs.Steps.{IsOneStep}
 use Rattle.bd_store.specs.Stops.{IsSafeAtStops}
 use Rattle.bd_store.specs.Touches.{BackupReads}
-use Rattle.bd_catalog.specs.Steps.{HasCommitted}
 use Rattle.bd_model.specs.declared.command.Command.TheVariants.{Backup}
 use Rattle.bd_store.proofs.Quiet.{safe_untouched}
 use Rattle.bd_store.proofs.FirstCall.{half_behind, free_behind, agrees_staged, unless_failed, refused_one_step, refused_safe, made_one_step, made_safe, failed_one_step, failed_safe}
@@ -62,11 +61,11 @@ name_version-requires-clause-agrees g c = λ told.
 
 pub returns-in-Ok-name_version-clause-writes : goal.returns-in-Ok-name_version-clause-writes
 returns-in-Ok-name_version-clause-writes g c = λ told.
-    made_both (writes_wider _ (free_behind c.reserve.new.self.found c.args.space.now) (c.intake.ensures.writes told)) (writes_wider _ (half_behind c.reserve.new.self.found) (c.name_version.ensures.writes told))
+    made_both (writes_wider _ (free_behind c.reserve.new.self.found c.args.space.now) (c.intake.ensures.writes told)) (writes_wider _ (half_behind c.reserve.new.self.found) (written c.name_version.ensures.disk told))
 
 pub returns-in-Err-name_version-clause-writes : goal.returns-in-Err-name_version-clause-writes
 returns-in-Err-name_version-clause-writes g c = λ told.
-    made_both (writes_wider _ (free_behind c.reserve.new.self.found c.args.space.now) (c.intake.ensures.writes told)) (writes_wider _ (half_behind c.reserve.new.self.found) (c.name_version.ensures.writes told))
+    made_both (writes_wider _ (free_behind c.reserve.new.self.found c.args.space.now) (c.intake.ensures.writes told)) (writes_wider _ (half_behind c.reserve.new.self.found) (written c.name_version.ensures.disk told))
 
 pub returns-in-Ok-name_version-clause-step : goal.returns-in-Ok-name_version-clause-step
 returns-in-Ok-name_version-clause-step g c = λ told files_tell.
@@ -81,7 +80,7 @@ returns-in-Ok-name_version-clause-step g c = λ told files_tell.
     (subst (λ (f : Found). TakenExactly c.args.space.now (all_extents f.catalogue)) (sym same) c.requires.owners)
     first_chunks c.in-Ok.staged (c.in-Ok.ensures.counted files_tell) (c.in-Ok.ensures.missing files_tell) (c.in-Ok.ensures.stored told files_tell)
     (g.D.Disk.history c.name_version.new.disk) c.in-Ok-name_version.answer c.in-Ok-name_version.ensures.answer
-    (subst (λ (f : Found). HasCommitted found f (contents (g.D.Disk.history c.intake.new.disk)) (contents (g.D.Disk.history c.name_version.new.disk))) c.in-Ok-name_version.ensures.made (c.in-Ok-name_version.ensures.kept told))
+    (c.in-Ok-name_version.ensures.done told).kept
 
 pub returns-in-Ok-name_version-clause-stops : goal.returns-in-Ok-name_version-clause-stops
 returns-in-Ok-name_version-clause-stops g c = λ told files_tell.
@@ -96,13 +95,13 @@ returns-in-Ok-name_version-clause-stops g c = λ told files_tell.
     (subst (λ (f : Found). TakenExactly c.args.space.now (all_extents f.catalogue)) (sym same) c.requires.owners)
     first_chunks c.in-Ok.staged (c.in-Ok.ensures.counted files_tell) (c.in-Ok.ensures.missing files_tell) (c.in-Ok.ensures.stored told files_tell)
     (g.D.Disk.history c.name_version.new.disk) c.in-Ok-name_version.answer
-    (subst (λ (f : Found). HasCommitted found f (contents (g.D.Disk.history c.intake.new.disk)) (contents (g.D.Disk.history c.name_version.new.disk))) c.in-Ok-name_version.ensures.made (c.in-Ok-name_version.ensures.kept told))
-    (c.in-Ok-name_version.ensures.settled told) (c.name_version.ensures.stops told)
+    (c.in-Ok-name_version.ensures.done told).kept
+    (c.in-Ok-name_version.ensures.done told).settled (c.name_version.ensures.either told).stops
 
 pub returns-in-Ok-name_version-clause-places : goal.returns-in-Ok-name_version-clause-places
 returns-in-Ok-name_version-clause-places g c = λ told.
     subst (λ answer. BackupReads (g.D.Disk.history c.args.disk.now) (g.D.Disk.history c.name_version.new.disk) (Ok answer)) (sym c.in-Ok-name_version.ensures.answer)
-    (reads_both (c.in-Ok.ensures.places told) (c.in-Ok-name_version.ensures.places told))
+    (reads_both (c.in-Ok.ensures.places told) (nothing_read c.name_version.ensures.disk told))
 
 pub returns-in-Err-name_version-clause-step : goal.returns-in-Err-name_version-clause-step
 returns-in-Err-name_version-clause-step g c = λ told files_tell.
@@ -117,7 +116,7 @@ returns-in-Err-name_version-clause-step g c = λ told files_tell.
     (subst (λ (f : Found). extent_count c.args.space.now ≡ f.sizes.extents) (sym same) c.requires.extents)
     (subst (λ (f : Found). TakenExactly c.args.space.now (all_extents f.catalogue)) (sym same) c.requires.owners)
     first_chunks c.in-Ok.staged (c.in-Ok.ensures.counted files_tell) (c.in-Ok.ensures.missing files_tell) (c.in-Ok.ensures.stored told files_tell)
-    (g.D.Disk.history c.name_version.new.disk) (c.name_version.ensures.contents told))
+    (g.D.Disk.history c.name_version.new.disk) (c.name_version.ensures.either told).contents)
 
 pub returns-in-Err-name_version-clause-stops : goal.returns-in-Err-name_version-clause-stops
 returns-in-Err-name_version-clause-stops g c = λ told files_tell.
@@ -132,4 +131,8 @@ returns-in-Err-name_version-clause-stops g c = λ told files_tell.
     (subst (λ (f : Found). extent_count c.args.space.now ≡ f.sizes.extents) (sym same) c.requires.extents)
     (subst (λ (f : Found). TakenExactly c.args.space.now (all_extents f.catalogue)) (sym same) c.requires.owners)
     first_chunks c.in-Ok.staged (c.in-Ok.ensures.counted files_tell) (c.in-Ok.ensures.missing files_tell) (c.in-Ok.ensures.stored told files_tell)
-    (g.D.Disk.history c.name_version.new.disk) (c.name_version.ensures.stops told))
+    (g.D.Disk.history c.name_version.new.disk) (c.name_version.ensures.either told).stops)
+
+pub returns-in-Ok-name_version-clause-agrees : goal.returns-in-Ok-name_version-clause-agrees
+returns-in-Ok-name_version-clause-agrees g c = λ told.
+    subst (λ (f : Found). Agrees f (g.D.Disk.history c.name_version.new.disk)) (sym c.in-Ok-name_version.ensures.made) (c.in-Ok-name_version.ensures.done told).agrees

@@ -1,5 +1,6 @@
 use Rattle.std.proofs.Common.{◌∙◌, inl, inr, sym, ap, subst, Err}
 use Rattle.bd_disk.proofs.Frames.{made_both, made_none, nothing_within}
+use Rattle.bd_disk.proofs.RunLemmas.{looked, nothing_written}
 use Rattle.mfdedup.specs.Counts.{all_counts, EndsByCount}
 use Rattle.mfdedup.specs.Words.{ToRun}
 use Rattle.mfdedup.specs.Naming.{NamesDamage}
@@ -8,23 +9,23 @@ use Rattle.mfdedup.proofs.OneHeadline.{opened_headline, early_headline, opening_
 use Rattle.mfdedup.proofs.run.run_command.Goals as goal
 
 pub returns-in-Ok-open_store-clause-writes : goal.returns-in-Ok-open_store-clause-writes
-returns-in-Ok-open_store-clause-writes g c = λ told. made_both (nothing_within _ (c.in-Ok-open_store.ensures.writes told)) (c.session.ensures.writes told)
+returns-in-Ok-open_store-clause-writes g c = λ told. made_both (nothing_within _ (nothing_written c.in-Ok-open_store.ensures.disk told)) (c.session.ensures.writes told)
 
 pub returns-in-Ok-open_store-clause-headline : goal.returns-in-Ok-open_store-clause-headline
 returns-in-Ok-open_store-clause-headline g c = λ told files_tell.
     opened_headline c.args.command.now c.session.result _ _ _ _ _ _ _ _ c.in-Ok-open_store.store.found c.requires.built c.session.ensures.commands
-    (ap (λ d. all_counts d (g.F.Files.source_faults c.args.files.now) (g.F.Files.target_faults c.args.files.now) (g.O.Sink.faults c.args.out.now)) c.in-Ok-open_store.ensures.kept) (c.in-Ok-open_store.ensures.writes told) (c.in-Ok-open_store.ensures.opened told) (c.in-Ok-open_store.ensures.places told) (c.session.ensures.writes told)
+    (ap (λ d. all_counts d (g.F.Files.source_faults c.args.files.now) (g.F.Files.target_faults c.args.files.now) (g.O.Sink.faults c.args.out.now)) c.in-Ok-open_store.ensures.cause.cause) (nothing_written c.in-Ok-open_store.ensures.disk told) (c.in-Ok-open_store.ensures.opened told) (looked c.in-Ok-open_store.ensures.disk told) (c.session.ensures.writes told)
     (c.session.ensures.headline told files_tell) (c.session.ensures.ends told files_tell)
 
 pub returns-in-Err-open_store-clause-writes : goal.returns-in-Err-open_store-clause-writes
-returns-in-Err-open_store-clause-writes g c = λ told. nothing_within _ (c.in-Err-open_store.ensures.writes told)
+returns-in-Err-open_store-clause-writes g c = λ told. nothing_within _ (nothing_written c.in-Err-open_store.ensures.disk told)
 
 pub returns-in-Err-open_store-clause-headline : goal.returns-in-Err-open_store-clause-headline
 returns-in-Err-open_store-clause-headline g c = λ told files_tell.
     let e = c.none.ensures.end ∙ c.end_of_opening.ensures in
-    early_headline (ToRun c.args.command.now) c.none.result _ _ _ _ _ c.none.ensures.commands c.none.ensures.answers c.none.ensures.clocks (c.in-Err-open_store.ensures.writes told)
+    early_headline (ToRun c.args.command.now) c.none.result _ _ _ _ _ c.none.ensures.commands c.none.ensures.answers c.none.ensures.clocks (nothing_written c.in-Err-open_store.ensures.disk told)
     (opening_early c.in-Err-open_store.fault c.none.result.end _ e (not_a_store _ c.in-Err-open_store.fault (c.in-Err-open_store.ensures.opened told)))
-    (opening_cause c.in-Err-open_store.fault c.none.result.end _ _ _ _ _ e (λ f. c.in-Err-open_store.ensures.cause (ap Err f)))
+    (opening_cause c.in-Err-open_store.fault c.none.result.end _ _ _ _ _ e c.in-Err-open_store.ensures.cause.cause)
 
 pub returns-in-Err-clause-headline : goal.returns-in-Err-clause-headline
 returns-in-Err-clause-headline g c = λ told files_tell.
@@ -35,7 +36,7 @@ returns-in-Ok-open_store-clause-opening g c = λ told. command_opens c.args.comm
 
 pub returns-in-Ok-open_store-clause-damage : goal.returns-in-Ok-open_store-clause-damage
 returns-in-Ok-open_store-clause-damage g c = λ told.
-    damage_before c.in-Ok-open_store.store.found c.args.command.now c.session.result.end _ _ _ (c.in-Ok-open_store.ensures.writes told) (c.in-Ok-open_store.ensures.opened told) (c.session.ensures.damage told)
+    damage_before c.in-Ok-open_store.store.found c.args.command.now c.session.result.end _ _ _ (nothing_written c.in-Ok-open_store.ensures.disk told) (c.in-Ok-open_store.ensures.opened told) (c.session.ensures.damage told)
 
 pub returns-in-Err-open_store-clause-fits : goal.returns-in-Err-open_store-clause-fits
 returns-in-Err-open_store-clause-fits g c = inl (opening_ends c.in-Err-open_store.fault c.none.result.end (c.none.ensures.end ∙ c.end_of_opening.ensures))

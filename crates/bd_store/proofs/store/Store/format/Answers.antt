@@ -8,4 +8,4 @@ pub returns-clause-stops : goal.returns-clause-stops
 returns-clause-stops g c = λ told none settled. format_stops c.args.shape (c.format.ensures.stops told none settled)
 
 pub returns-clause-made : goal.returns-clause-made
-returns-clause-made g c = λ told. formatted_stands c.args.shape _ c.in_ok-catalog.field-0.catalog.found (c.in_ok-catalog.ensures.agrees told).opens c.in_ok-catalog.ensures.made
+returns-clause-made g c = λ told. formatted_stands c.args.shape _ c.in_ok-catalog.field-0.catalog.found (c.in_ok-catalog.ensures.rests told).agrees.opens c.in_ok-catalog.ensures.made
