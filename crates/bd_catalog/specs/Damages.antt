@@ -1,106 +1,102 @@
 -- What a named damage says of the bytes on a disk, and where they lie.
-use Rattle.std.specs.Prelude.{◌≡◌, ◌≢◌, ◌⊎◌, ℕ, ◌+◌, ◌-◌, ◌*◌, ◌==◌, ◌<◌, ◌≤◌, List, [], ◌∷◌, ◌++◌, length, drop, map, filter, sum_by, slice_index_or, slice_get, Some, Contains, All, IsFalse}
+use Rattle.std.specs.Prelude.{◌≡◌, ◌≢◌, ◌⊎◌, ℕ, ◌+◌, ◌-◌, ◌*◌, ◌==◌, ◌<◌, Bool, ◌&&◌, not, List, [], ◌∷◌, ◌++◌, length, map, filter, flat_map, sum_by, nat_le, bytes_eq, slice_index_or, slice_get, Some, Contains, All, IsTrue, IsFalse}
+use Rattle.std.specs.List.{list_all}
 use Rattle.bd_disk.specs.History.{History}
 use Rattle.bd_disk.specs.Trace.{reads}
 use Rattle.bd_model.specs.Sizes.{Sizes}
+use Rattle.bd_model.specs.Extents.{places_at}
 use Rattle.bd_model.specs.Marks.{mark}
 use Rattle.bd_model.specs.declared.damage.Damage.{Damage}
 use Rattle.bd_model.specs.declared.damage.Damage.TheVariants.{Entry, Sum, Header, Row, Body, Length, Missing}
 use Rattle.bd_model.specs.declared.damage.Owner.{Owner}
-use Rattle.bd_model.specs.declared.damage.Owner.TheVariants.{Volume, Active}
-use Rattle.bd_model.specs.declared.layout.CategoryRow.{CategoryRow}
 use Rattle.bd_model.specs.declared.layout.RecipeEntry.{RecipeEntry}
-use Rattle.bd_catalog.specs.Catalogue.{Catalogue, oldest_in, recipe_extents, volume_extents, active_extents}
-use Rattle.bd_model.specs.Extents.{owner_bytes, places_at}
-use Rattle.bd_model.specs.Records.{Stored, stored_at}
-use Rattle.bd_catalog.specs.Sound.{Part, recipe_of, entry_holds, records_for, with_mark, volume_parts, active_parts, part_records}
+use Rattle.bd_model.specs.declared.mark.Mark.{Mark}
+use Rattle.bd_catalog.specs.Catalogue.{Catalogue, oldest_in, recipe_extents}
+use Rattle.bd_catalog.specs.Rows.{RowPlace, Spot, row_end, row_spots, spots_in, walk}
+use Rattle.bd_catalog.specs.Sound.{recipe_of, entry_holds, length_holds, records_for, with_mark}
 
-abbrev pub extents_of : Catalogue → Owner → List ℕ
-extents_of c (Volume j) = volume_extents c j
-extents_of c (Active i) = active_extents c i
+-- where an entry of the recipe of version v lies, the header of a record, and a whole record
+abbrev pub entry_places : Sizes → Catalogue → ℕ → ℕ → List ℕ
+entry_places s c v index = places_at s (recipe_extents c v) (40 * index) 40
 
-abbrev pub parts_in : Sizes → Catalogue → List ℕ → Owner → List Part
-parts_in s c image (Volume j) = volume_parts s c image j
-parts_in s c image (Active i) = filter (λ p. p.row.start == i) (active_parts s c image)
+abbrev pub header_places : Sizes → Spot → List ℕ
+header_places s x = places_at s x.extents x.at 36
 
--- a row of the owner, and where it begins and ends among the owner's bytes
-pub record IsRowOf (s : Sizes) (c : Catalogue) (image : List ℕ) (who : Owner) (row : CategoryRow) (from to : ℕ) : Type 0 where
-  pub before : List Part
-  pub part : Part
-  pub behind : List Part
-  pub so : parts_in s c image who ≡ before ++ (part ∷ behind)
-  pub is_row : part.row ≡ row
-  pub begins : from ≡ sum_by (λ p. p.row.bytes) before
-  pub ends : to ≡ from + row.bytes
+abbrev pub record_places : Sizes → Spot → List ℕ
+record_places s x = places_at s x.extents x.at (36 + x.stored.length)
 
--- the record whose header is at this place
-abbrev pub record_at : Sizes → Catalogue → List ℕ → Owner → ℕ → Stored
-record_at s c image who at = stored_at (drop at (owner_bytes s (extents_of c who) image))
+-- the header says a length that a record there may have
+abbrev pub header_holds : Sizes → RowPlace → Spot → Bool
+header_holds s p x = length_holds s x.stored.length && nat_le (x.at + 36 + x.stored.length) (row_end p)
 
--- too few bytes are left in the row for a header, or the header says a length that no record there has
-abbrev pub IsBadHeader : Sizes → ℕ → ℕ → ℕ → ℕ → Stored → Type 0
-IsBadHeader s at to said left r =
-    ((to < at + 36) × (said ≡ 0) × (at + left ≡ to))
-    ⊎ ((at + 36 + left ≡ to) × (r.length ≡ said) × ((said ≡ 0) ⊎ ((s.max < said) ⊎ (left < said))))
+-- the row p of the owner is one of these, and has the record x at this place, behind records whose headers hold
+pub record IsRecordOf (s : Sizes) (image : List ℕ) (rows : List RowPlace) (who : Owner) (at : ℕ) (p : RowPlace) (x : Spot) : Type 0 where
+  pub is_row : Contains rows p
+  pub is_owner : p.who ≡ who
+  pub is_at : x.at ≡ at
+  pub before : List Spot
+  pub behind : List Spot
+  pub so : row_spots s image p ≡ before ++ (x ∷ behind)
+  pub good : IsTrue (list_all (header_holds s p) before)
 
--- the bytes that the damage names break its rule
-abbrev pub BreaksRule : Sizes → Catalogue → List ℕ → Damage → Type 0
-BreaksRule s c image (Entry v index said start) =
-    (e : RecipeEntry) × (slice_get (recipe_of s c image v) index ≡ Some e) × (e.length ≡ said) × (e.start ≡ start) × IsFalse (entry_holds s c v e)
-BreaksRule s c image (Sum v recorded found) =
-    (recorded ≡ slice_index_or (map (λ e. e.length) c.versions) (v - oldest_in c) 0) × (found ≡ sum_by (λ e. e.length) (recipe_of s c image v)) × (found ≢ recorded)
-BreaksRule s c image (Header who at said left) =
-    (row : CategoryRow) × (from : ℕ) × (to : ℕ) × IsRowOf s c image who row from to × (from ≤ at) × (at ≤ to) × IsBadHeader s at to said left (record_at s c image who at)
-BreaksRule s c image (Row who start recorded found) =
-    (row : CategoryRow) × (from : ℕ) × (to : ℕ) × (part : IsRowOf s c image who row from to) × (row.start ≡ start) × (row.bytes ≡ recorded) × (found ≡ sum_by (λ r. 36 + r.length) (part_records part.part)) × (found ≢ recorded)
-BreaksRule s c image (Body who at recorded found) =
-    (recorded.0 ≡ (record_at s c image who at).mark) × (found.0 ≡ mark (record_at s c image who at).body) × (found ≢ recorded)
-BreaksRule s c image (Length v m recorded found) =
-    (r : Stored) × (slice_get (with_mark m.0 (records_for s c image v)) 0 ≡ Some r) × (r.length ≡ found) × (found ≢ recorded)
-BreaksRule s c image (Missing v index m) =
-    (e : RecipeEntry) × (slice_get (recipe_of s c image v) index ≡ Some e) × (e.mark ≡ m) × (with_mark m.0 (records_for s c image v) ≡ [])
+-- fewer bytes are left in the row than a header has; or the header was read, and says a length that no record there has
+abbrev pub IsBadHeader : Sizes → RowPlace → Spot → ℕ → ℕ → List ℕ → Type 0
+IsBadHeader s p x said left places =
+    ((left < 36) × (x.at + left ≡ row_end p) × (said ≡ 0) × (places ≡ []))
+    ⊎ ((x.at + 36 + left ≡ row_end p) × (said ≡ x.stored.length) × IsFalse (header_holds s p x) × (places ≡ header_places s x))
 
--- where the bytes lie that it names
-abbrev pub named_places : Sizes → Catalogue → List ℕ → Damage → List ℕ
-named_places s c image (Entry v index said start) = places_at s (recipe_extents c v) (40 * index) 40
-named_places s c image (Sum v recorded found) = places_at s (recipe_extents c v) 0 (40 * length (recipe_of s c image v))
-named_places s c image (Header who at said left) = []
-named_places s c image (Row who start recorded found) = []
-named_places s c image (Body who at recorded found) = places_at s (extents_of c who) at (36 + (record_at s c image who at).length)
-named_places s c image (Length v m recorded found) = []
-named_places s c image (Missing v index m) = places_at s (recipe_extents c v) (40 * index) 40
+-- the header holds, and the body has another mark than it says
+abbrev pub IsBadBody : Sizes → RowPlace → Spot → Mark → Mark → List ℕ → Type 0
+IsBadBody s p x recorded found places =
+    IsTrue (header_holds s p x) × (recorded.0 ≡ x.stored.mark) × (found.0 ≡ mark x.stored.body) × (found ≢ recorded) × (places ≡ record_places s x)
 
-abbrev pub IsWalked : ℕ → Owner → Type 0
-IsWalked v (Volume j) = v ≤ j
-IsWalked v (Active i) = i ≤ v
+-- the headers of the row hold, and its records take another number of bytes than it has
+abbrev pub IsBadRow : Sizes → List ℕ → RowPlace → ℕ → List ℕ → Type 0
+IsBadRow s image p found places =
+    IsTrue (list_all (header_holds s p) (row_spots s image p)) × (found ≡ sum_by (λ x. 36 + x.stored.length) (row_spots s image p)) × (found ≢ p.row.bytes) × (places ≡ flat_map (header_places s) (row_spots s image p))
 
--- of the recipe of version v, or of a row or open category that its walk goes through
-abbrev pub IsOfRestore : ℕ → Damage → Type 0
-IsOfRestore v (Entry u index said start) = u ≡ v
-IsOfRestore v (Sum u recorded found) = u ≡ v
-IsOfRestore v (Header who at said left) = IsWalked v who
-IsOfRestore v (Row who start recorded found) = IsWalked v who
-IsOfRestore v (Body who at recorded found) = IsWalked v who
-IsOfRestore v (Length u m recorded found) = u ≡ v
-IsOfRestore v (Missing u index m) = u ≡ v
+-- the records with the entry's mark whose length isn't the entry's
+abbrev pub unlike : RecipeEntry → List Spot → List Spot
+unlike e spots = filter (λ x. bytes_eq x.stored.mark e.mark.0 && not (x.stored.length == e.length)) spots
 
-abbrev pub IsActive : Owner → Type 0
-IsActive (Volume j) = ⊥
-IsActive (Active i) = Unit {0}
+-- The damage names the bytes at these places, and they break its rule. That of a header, body or row is in one of these
+-- rows, that of a recipe is among the records where a restore of its version looks.
+abbrev pub BreaksRule : Sizes → Catalogue → List ℕ → List RowPlace → Damage → List ℕ → Type 0
+BreaksRule s c image rows (Entry v index said start) places =
+    (e : RecipeEntry) × (slice_get (recipe_of s c image v) index ≡ Some e) × (e.length ≡ said) × (e.start ≡ start) × IsFalse (entry_holds s c v e) × (places ≡ entry_places s c v index)
+BreaksRule s c image rows (Sum v recorded found) places =
+    IsTrue (list_all (entry_holds s c v) (recipe_of s c image v)) × (recorded ≡ slice_index_or (map (λ e. e.length) c.versions) (v - oldest_in c) 0) × (found ≡ sum_by (λ e. e.length) (recipe_of s c image v)) × (found ≢ recorded)
+    × (places ≡ places_at s (recipe_extents c v) 0 (40 * length (recipe_of s c image v)))
+BreaksRule s c image rows (Header who at said left) places =
+    (p : RowPlace) × (x : Spot) × IsRecordOf s image rows who at p x × IsBadHeader s p x said left places
+BreaksRule s c image rows (Row who start recorded found) places =
+    (p : RowPlace) × Contains rows p × (p.who ≡ who) × (p.row.start ≡ start) × (p.row.bytes ≡ recorded) × IsBadRow s image p found places
+BreaksRule s c image rows (Body who at recorded found) places =
+    (p : RowPlace) × (x : Spot) × IsRecordOf s image rows who at p x × IsBadBody s p x recorded found places
+BreaksRule s c image rows (Length v m recorded found) places =
+    (e : RecipeEntry) × (x : Spot) × Contains (recipe_of s c image v) e × (e.mark ≡ m) × (e.length ≡ recorded)
+    × (slice_get (unlike e (spots_in s image (walk c v))) 0 ≡ Some x) × (x.stored.length ≡ found) × (places ≡ record_places s x)
+BreaksRule s c image rows (Missing v index m) places =
+    (e : RecipeEntry) × (slice_get (recipe_of s c image v) index ≡ Some e) × (e.mark ≡ m) × (with_mark m.0 (records_for s c image v) ≡ []) × (places ≡ entry_places s c v index)
 
--- of the newest recipe, or of an open category
-abbrev pub IsOfArranging : ℕ → Damage → Type 0
-IsOfArranging newest (Entry u index said start) = u ≡ newest
-IsOfArranging newest (Sum u recorded found) = u ≡ newest
-IsOfArranging newest (Header who at said left) = IsActive who
-IsOfArranging newest (Row who start recorded found) = IsActive who
-IsOfArranging newest (Body who at recorded found) = IsActive who
-IsOfArranging newest (Length u m recorded found) = u ≡ newest
-IsOfArranging newest (Missing u index m) = u ≡ newest
+-- a damage of a recipe is of this version's
+abbrev pub IsOfVersion : ℕ → Damage → Type 0
+IsOfVersion v (Entry u index said start) = u ≡ v
+IsOfVersion v (Sum u recorded found) = u ≡ v
+IsOfVersion v (Header who at said left) = Unit {0}
+IsOfVersion v (Row who start recorded found) = Unit {0}
+IsOfVersion v (Body who at recorded found) = Unit {0}
+IsOfVersion v (Length u m recorded found) = u ≡ v
+IsOfVersion v (Missing u index m) = u ≡ v
 
--- the bytes that the damage names were read between these moments, and break its rule
-pub record IsSeen (s : Sizes) (c : Catalogue) (image : List ℕ) (damage : Damage) (old new : History) : Type 0 where
+-- these places were read between the two moments
+pub record HasRead (places : List ℕ) (old new : History) : Type 0 where
   pub more : List ℕ
   pub so : reads new ≡ reads old ++ more
-  pub read : All (λ place. Contains more place) (named_places s c image damage)
-  pub breaks : BreaksRule s c image damage
+  pub all : All (λ place. Contains more place) places
+
+-- the bytes that the damage names were read between these moments, and break its rule
+pub record IsSeen (s : Sizes) (c : Catalogue) (image : List ℕ) (rows : List RowPlace) (damage : Damage) (old new : History) : Type 0 where
+  pub places : List ℕ
+  pub read : HasRead places old new
+  pub breaks : BreaksRule s c image rows damage places

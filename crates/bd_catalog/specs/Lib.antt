@@ -5,6 +5,7 @@ pub mod Growing
 pub mod Ledger
 pub mod Loading
 pub mod Opening
+pub mod Rows
 pub mod Rules
 pub mod Shown
 pub mod Sound

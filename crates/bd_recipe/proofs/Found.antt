@@ -16,7 +16,7 @@ use Rattle.bd_model.specs.declared.layout.RecipeEntry.{RecipeEntry}
 use Rattle.bd_model.specs.declared.damage.Damage.{Damage}
 use Rattle.bd_model.specs.declared.damage.Damage.TheVariants.{Entry, Sum}
 use Rattle.bd_catalog.specs.Catalogue.{Catalogue, recipe_extents}
-use Rattle.bd_catalog.specs.Damages.{IsSeen}
+use Rattle.bd_catalog.specs.Damages.{IsSeen, entry_places}
 use Rattle.bd_catalog.specs.Sound.{recipe_of, entry_holds}
 use Rattle.bd_recipe.specs.Entries.{first_bad, limits_for}
 use Rattle.bd_recipe.specs.Reading.{IsRecipe, ReadsTo, chunks_in, length_in, recipe_found, total, with_sum}
@@ -68,18 +68,17 @@ module _ (s : Sizes) (c : Catalogue) (v : ℕ) (image : List ℕ) where
       let more = entries_in (chunks_in c v - r.count) (drop (40 * r.count) owner) in
       ap (with_sum v (length_in c v) entries) (ap (first_bad (entry_holds s c v) v 0) (front_of r) ∙ first_bad-front (entry_holds s c v) v 0 (entries_in r.count owner) more damage r.bad)
 
-  pub seen-damaged : {damage : Damage} {old new : History} → ReadsTo (limits_for s c v) s (recipe_extents c v) owner (chunks_in c v) damage old new → IsSeen s c image damage old new
+  pub seen-damaged : {damage : Damage} {old new : History} → ReadsTo (limits_for s c v) s (recipe_extents c v) owner (chunks_in c v) damage old new → IsSeen s c image [] damage old new
   seen-damaged {damage} {old} {new} r =
       let bad = first_bad-is (entry_holds s c v) v 0 (entries_in r.count owner) damage r.bad in
       let more = entries_in (chunks_in c v - r.count) (drop (40 * r.count) owner) in
       let index : 0 + bad.place ≡ bad.place = omega arith in
       let there : slice_get entries bad.place ≡ Some bad.entry = ap (λ l. slice_get l bad.place) (front_of r) ∙ slice_get-front (entries_in r.count owner) more bad.place bad.entry bad.there in
       let inside : suc bad.place ≤ r.count = omega (arith, slice_get_within (entries_in r.count owner) bad.place bad.entry bad.there, length-entries_in r.count owner) in
-      subst (λ d. IsSeen s c image d old new) (sym (bad.so ∙ ap (λ k. Entry v k bad.entry.length bad.entry.start) index)) (record {
-        more = places_at s (recipe_extents c v) 0 (40 * r.count);
-        so = r.reads.so;
-        read = places_of_entry s (recipe_extents c v) bad.place r.count inside;
-        breaks = (bad.entry, there, refl, refl, bad.fails);
+      subst (λ d. IsSeen s c image [] d old new) (sym (bad.so ∙ ap (λ k. Entry v k bad.entry.length bad.entry.start) index)) (record {
+        places = entry_places s c v bad.place;
+        read = record { more = places_at s (recipe_extents c v) 0 (40 * r.count); so = r.reads.so; all = places_of_entry s (recipe_extents c v) bad.place r.count inside };
+        breaks = (bad.entry, there, refl, refl, bad.fails, refl);
       })
 
   -- ---- another sum
@@ -95,15 +94,14 @@ module _ (s : Sizes) (c : Catalogue) (v : ℕ) (image : List ℕ) where
         ap (with_sum v (length_in c v) entries) (first_bad-none (entry_holds s c v) v 0 entries hold)
         ∙ ap (λ b. cond b (Ok entries) (Err (Sum v (length_in c v) (total entries)))) (eq-eqb (total entries) (length_in c v) same)
 
-  pub seen-sum : {old new : History} → total entries ≢ length_in c v → ReadsOnly (places_at s (recipe_extents c v) 0 (40 * chunks_in c v)) old new → IsSeen s c image (Sum v (length_in c v) (total entries)) old new
-  seen-sum {old} {new} differ reads =
-      let all = places_at s (recipe_extents c v) 0 (40 * chunks_in c v) in
-      record {
-        more = all;
-        so = reads.so;
-        read = subst (λ n. All (Contains all) (places_at s (recipe_extents c v) 0 (40 * n))) (sym (length-entries_in (chunks_in c v) owner)) (All-contains_itself all);
-        breaks = (refl, refl, differ);
-      }
+    pub seen-sum : {old new : History} → total entries ≢ length_in c v → ReadsOnly (places_at s (recipe_extents c v) 0 (40 * chunks_in c v)) old new → IsSeen s c image [] (Sum v (length_in c v) (total entries)) old new
+    seen-sum {old} {new} differ reads =
+        let all = places_at s (recipe_extents c v) 0 (40 * chunks_in c v) in
+        record {
+          places = all;
+          read = record { more = all; so = reads.so; all = All-contains_itself all };
+          breaks = (hold, refl, refl, differ, ap (λ n. places_at s (recipe_extents c v) 0 (40 * n)) (sym (length-entries_in (chunks_in c v) owner)));
+        }
 
 -- entries that were read over any disk
 pub is_recipe : (s : Sizes) (c : Catalogue) (v : ℕ) (entries : List RecipeEntry) → length entries ≡ chunks_in c v → list_all (entry_holds s c v) entries ≡ true → total entries ≡ length_in c v → IsRecipe s c v entries

@@ -7,7 +7,7 @@ use Rattle.bd_model.specs.declared.damage.Damage.{Damage}
 use Rattle.bd_model.specs.declared.damage.Damage.TheVariants.{Entry, Sum}
 use Rattle.bd_model.specs.declared.layout.RecipeEntry.{RecipeEntry}
 use Rattle.bd_catalog.specs.Catalogue.{Catalogue}
-use Rattle.bd_catalog.specs.Damages.{IsOfRestore}
+use Rattle.bd_catalog.specs.Damages.{IsOfVersion}
 use Rattle.bd_catalog.specs.Sound.{recipe_of, recipe_holds, entry_holds}
 use Rattle.bd_recipe.specs.Entries.{first_bad}
 use Rattle.bd_recipe.specs.Reading.{length_in, recipe_found, total, with_sum}
@@ -48,20 +48,20 @@ module _ (s : Sizes) (c : Catalogue) (v : ℕ) (image : List ℕ) where
     by_bad (Some damage) e is = absurd (no_ok damage is)
 
   -- the damage that is found is one of version v
-  pub found-of_version : (damage : Damage) → recipe_found s c image v ≡ Err damage → IsOfRestore v damage
+  pub found-of_version : (damage : Damage) → recipe_found s c image v ≡ Err damage → IsOfVersion v damage
   found-of_version damage = by_bad (first_bad (entry_holds s c v) v 0 entries) refl where
     no_err : Ok entries ≡ Err damage → ⊥
     no_err e = cc
 
-    by_sum : (b : Bool) → cond b (Ok entries) (Err (Sum v (length_in c v) (total entries))) ≡ Err damage → IsOfRestore v damage
+    by_sum : (b : Bool) → cond b (Ok entries) (Err (Sum v (length_in c v) (total entries))) ≡ Err damage → IsOfVersion v damage
     by_sum true is = absurd (no_err is)
     by_sum false is =
         let same : Sum v (length_in c v) (total entries) ≡ damage = cc in
-        subst (IsOfRestore v) same refl
+        subst (IsOfVersion v) same refl
 
-    by_bad : (bad : Option Damage) → first_bad (entry_holds s c v) v 0 entries ≡ bad → with_sum v (length_in c v) entries bad ≡ Err damage → IsOfRestore v damage
+    by_bad : (bad : Option Damage) → first_bad (entry_holds s c v) v 0 entries ≡ bad → with_sum v (length_in c v) entries bad ≡ Err damage → IsOfVersion v damage
     by_bad None e is = by_sum (total entries == length_in c v) is
     by_bad (Some found) e is =
         let bad = first_bad-is (entry_holds s c v) v 0 entries found e in
         let same : found ≡ damage = cc in
-        subst (IsOfRestore v) (sym bad.so ∙ same) refl
+        subst (IsOfVersion v) (sym bad.so ∙ same) refl

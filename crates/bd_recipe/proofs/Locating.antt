@@ -1,5 +1,5 @@
 -- What a call reads of a retained version, as the catalogue has it.
-use Rattle.std.proofs.Common.{◌≡◌, ◌≢◌, ℕ, ◌-◌, ◌*◌, ◌≤◌, true, List, length, sym, ◌∙◌, ap, subst, Option, Some}
+use Rattle.std.proofs.Common.{◌≡◌, ◌≢◌, ℕ, ◌-◌, ◌*◌, ◌≤◌, true, List, [], length, sym, ◌∙◌, ap, subst, Option, Some}
 use Rattle.std.specs.Prelude.{IsTrue, IfSome, Ok, Err, slice_get}
 use Rattle.std.specs.Borrow.{Bor}
 use Rattle.std.specs.List.{list_all}
@@ -59,7 +59,7 @@ module _ {s : Sizes} {c : Catalogue} {v : ℕ} {t : Sizes} {extents : List ℕ} 
   pub finds_damage : (image : List ℕ) {damage : Damage} {a b : History} → ReadsTo limits t extents (owner_bytes t extents image) chunks damage a b → recipe_found s c image v ≡ Err damage
   finds_damage image r = found-damaged s c v image (damaged_there image r)
 
-  pub sees_damage : (image : List ℕ) {damage : Damage} {a b : History} → ReadsTo limits t extents (owner_bytes t extents image) chunks damage a b → IsSeen s c image damage a b
+  pub sees_damage : (image : List ℕ) {damage : Damage} {a b : History} → ReadsTo limits t extents (owner_bytes t extents image) chunks damage a b → IsSeen s c image [] damage a b
   sees_damage image r = seen-damaged s c v image (damaged_there image r)
 
   -- all entries were read
@@ -89,5 +89,5 @@ module _ {s : Sizes} {c : Catalogue} {v : ℕ} {t : Sizes} {extents : List ℕ} 
       pub finds_sum : (found : ℕ) → found ≡ total items → found ≢ bytes → recipe_found s c image v ≡ Err (Sum v bytes found)
       finds_sum found sum differ = found-sum s c v image all_hold (other_sum (λ same. differ (sum ∙ same))) ∙ ap Err (sum_there found sum)
 
-      pub sees_sum : (found : ℕ) {a b : History} → found ≡ total items → found ≢ bytes → ReadsOnly (places_at t extents 0 (40 * chunks)) a b → IsSeen s c image (Sum v bytes found) a b
-      sees_sum found {a} {b} sum differ reads = subst (λ d. IsSeen s c image d a b) (sum_there found sum) (seen-sum s c v image (other_sum (λ same. differ (sum ∙ same))) (reads_there reads))
+      pub sees_sum : (found : ℕ) {a b : History} → found ≡ total items → found ≢ bytes → ReadsOnly (places_at t extents 0 (40 * chunks)) a b → IsSeen s c image [] (Sum v bytes found) a b
+      sees_sum found {a} {b} sum differ reads = subst (λ d. IsSeen s c image [] d a b) (sum_there found sum) (seen-sum s c v image all_hold (other_sum (λ same. differ (sum ∙ same))) (reads_there reads))

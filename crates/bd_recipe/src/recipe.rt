@@ -1,4 +1,4 @@
-ghost use Rattle.std.specs.Prelude.{◌≡◌, ◌+◌, ◌*◌, ◌≤◌, ◌<◌, ◌++◌, ◌^◌, length, All, IsTrue, OnOk, IfOk, IfErr, Some};
+ghost use Rattle.std.specs.Prelude.{◌≡◌, ◌+◌, ◌*◌, ◌≤◌, ◌<◌, ◌++◌, ◌^◌, [], length, All, IsTrue, OnOk, IfOk, IfErr, Some};
 ghost use Rattle.std.specs.List.{list_all};
 ghost use Rattle.bd_disk.specs.Calls.{FailsByCount};
 ghost use Rattle.bd_disk.specs.History.{contents};
@@ -43,7 +43,7 @@ pub fn read_recipe<D: Disk>(
     ensures recipe { IfOk result (λ recipe. IsRecipe catalog.now.found.sizes catalog.now.found.catalogue version recipe.items) }
     ensures entries { D.tells → AnswersRecipe (recipe_found catalog.now.found.sizes catalog.now.found.catalogue (contents (D.history disk.old)) version) result }
     ensures places { OnOk result (D.tells → ReadsOnly (recipe_places catalog.now.found.sizes catalog.now.found.catalogue version) (D.history disk.old) (D.history disk.new)) }
-    ensures seen { IfDamaged result (λ damage. D.tells → IsSeen catalog.now.found.sizes catalog.now.found.catalogue (contents (D.history disk.old)) damage (D.history disk.old) (D.history disk.new)) }
+    ensures seen { IfDamaged result (λ damage. D.tells → IsSeen catalog.now.found.sizes catalog.now.found.catalogue (contents (D.history disk.old)) [] damage (D.history disk.old) (D.history disk.new)) }
 {
     let place = locate(catalog, version);
     let recipe = read_entries(

@@ -1,51 +1,23 @@
--- The records of a row, one behind the other, and a record that lies within its row.
-use Rattle.std.proofs.Common.{◌≡◌, ℕ, zero, suc, ◌+◌, ◌-◌, ◌<◌, ◌≤◌, List, [], ◌∷◌, ◌++◌, take, drop, ◌∙◌, ap, arith}
+-- The records of a row, one behind the other.
+use Rattle.std.proofs.Common.{◌≡◌, ℕ, zero, suc, ◌+◌, ◌-◌, ◌<◌, ◌≤◌, List, [], ◌∷◌, ◌++◌, take, drop, sym, ◌∙◌, ap, arith}
 use Rattle.std.specs.List.{sum_by}
 use Rattle.std.specs.Int.{w32, from_be_bytes}
 use Rattle.std.proofs.lemmas.List.{drop-take, take-take}
 use Rattle.std.proofs.lemmas.List.Sums.{sum_by-cons}
 use Rattle.bd_model.specs.Records.{Stored, stored_at}
-use Rattle.bd_restore.specs.Walk.{Spot, past, records_at, spots_from}
+use Rattle.bd_catalog.specs.Rows.{Spot, past, records_at, spots_from}
+use Rattle.bd_restore.proofs.Splits.{split_none}
 
 -- ---- a record of a front of the bytes
 
-module _ (at end : ℕ) (bytes : List ℕ) where
-  abbrev whole : List ℕ
-  whole = drop at bytes
-
-  abbrev part : List ℕ
-  part = drop at (take end bytes)
-
-  part_is : at ≤ end → part ≡ take (end - at) whole
-  part_is low = let size : end ≡ at + (end - at) = omega (arith, low) in ap (λ n. drop at (take n bytes)) size ∙ drop-take at (end - at) bytes
-
-  -- the bytes from one place behind the first on
-  later_part : (k n : ℕ) → at + k + n ≤ end → take n (drop k part) ≡ take n (drop k whole)
-  later_part k n fits =
-      let size : end - at ≡ k + (end - at - k) = omega (arith, fits) in
-      ap (λ l. take n (drop k l)) (part_is (omega (arith, fits))) ∙ ap (λ m. take n (drop k (take m whole))) size
-      ∙ ap (take n) (drop-take k (end - at - k) whole) ∙ take-take n (end - at - k) (drop k whole) (omega (arith, fits))
-
-  first_part : at + 4 ≤ end → take 4 part ≡ take 4 whole
-  first_part fits = ap (take 4) (part_is (omega (arith, fits))) ∙ take-take 4 (end - at) whole (omega (arith, fits))
-
-  pub same_length : at + 36 ≤ end → (stored_at part).length ≡ (stored_at whole).length
-  same_length fits = ap (from_be_bytes w32) (first_part (omega (arith, fits)))
-
-  pub same_mark : at + 36 ≤ end → (stored_at part).mark ≡ (stored_at whole).mark
-  same_mark fits = later_part 4 32 (omega (arith, fits))
-
-  pub same_body : at + 36 + (stored_at whole).length ≤ end → (stored_at part).body ≡ (stored_at whole).body
-  same_body fits =
-      ap (λ n. take n (drop 36 part)) (same_length (omega (arith, fits))) ∙ later_part 36 (stored_at whole).length fits
+-- its length is that of the record among all bytes
+pub same_length : (at end : ℕ) (bytes : List ℕ) → at + 4 ≤ end → (stored_at (drop at (take end bytes))).length ≡ (stored_at (drop at bytes)).length
+same_length at end bytes fits =
+    let size : end ≡ at + (end - at) = omega (arith, fits) in
+    ap (λ l. from_be_bytes w32 (take 4 l)) (ap (λ n. drop at (take n bytes)) size ∙ drop-take at (end - at) bytes)
+    ∙ ap (from_be_bytes w32) (take-take 4 (end - at) (drop at bytes) (omega (arith, fits)))
 
 -- ---- records end to end
-
-pub past_later : (extents bytes : List ℕ) (n at : ℕ) → at ≤ past at (spots_from extents bytes n at)
-past_later extents bytes zero at = omega arith
-past_later extents bytes (suc n) at =
-    let r = stored_at (drop at bytes) in
-    omega (arith, past_later extents bytes n (at + 36 + r.length))
 
 abbrev pub taken : List Stored → ℕ
 taken records = sum_by (λ r. 36 + r.length) records
@@ -69,3 +41,15 @@ pub spots_split : (extents bytes : List ℕ) (count chunks at : ℕ) → count <
 spots_split extents bytes count chunks at lt =
     let size : chunks ≡ count + suc (chunks - count - 1) = omega (arith, lt) in
     (_, spots_add extents bytes count (suc (chunks - count - 1)) chunks at size)
+
+-- a record lies where those before it end
+pub place_is : (extents bytes : List ℕ) (n at : ℕ) (before : List Spot) (x : Spot) (behind : List Spot) → spots_from extents bytes n at ≡ before ++ (x ∷ behind) → x.at ≡ past at before
+place_is extents bytes zero at before x behind e = absurd (split_none before x behind e)
+place_is extents bytes (suc n) at [] x behind e =
+    let here : record { extents = extents; at = at; stored = stored_at (drop at bytes) } ≡ x = cc in
+    sym (ap (λ (y : Spot). y.at) here)
+place_is extents bytes (suc n) at (b ∷ before) x behind e =
+    let r = stored_at (drop at bytes) in
+    let first : record { extents = extents; at = at; stored = r } ≡ b = cc in
+    let rest : spots_from extents bytes n (at + 36 + r.length) ≡ before ++ (x ∷ behind) = cc in
+    place_is extents bytes n (at + 36 + r.length) before x behind rest ∙ ap (λ (y : Spot). past (at + 36 + y.stored.length) before) first

@@ -1,7 +1,7 @@
 -- Walks that follow each other, what is met on them, and the records and rows that they go over.
 use Rattle.std.proofs.Common.{◌≡◌, ℕ, zero, suc, ◌+◌, ◌-◌, ◌<◌, ◌≤◌, Bool, cond, List, [], ◌∷◌, ◌++◌, length, take, drop, get_or, refl, sym, ◌∙◌, ap, subst, arith, append_assoc}
-use Rattle.std.specs.Prelude.{if◌then◌else◌, Contains, nat_le, Result, Ok, Err, IsErrAnd}
-use Rattle.std.specs.List.{flat_map, range_with_len}
+use Rattle.std.specs.Prelude.{if◌then◌else◌, Contains, nat_le, Result, Ok, Err, IsErrAnd, IsTrue}
+use Rattle.std.specs.List.{flat_map, list_all, range_with_len}
 use Rattle.std.proofs.lemmas.List.{append-nil, map-append, take-append-drop, take_more}
 use Rattle.std.proofs.lemmas.List.Elements.{filter-append, All-weaker, Contains-append_right}
 use Rattle.std.proofs.lemmas.List.Sums.{sum_by-append, sum_by-cons}
@@ -12,7 +12,7 @@ use Rattle.bd_disk.specs.Made.{Made}
 use Rattle.bd_disk.specs.Trace.{reads, ReadsOnly}
 use Rattle.bd_disk.proofs.Traces.{part, reads_both, reads_none, reads_on}
 use Rattle.bd_model.specs.Sizes.{Sizes}
-use Rattle.bd_model.specs.Extents.{owner_bytes, places_at}
+use Rattle.bd_model.specs.Extents.{places_at}
 use Rattle.bd_model.specs.Records.{Stored, stored_at}
 use Rattle.bd_model.specs.declared.damage.Damage.{Damage}
 use Rattle.bd_model.specs.declared.damage.Owner.{Owner}
@@ -21,11 +21,14 @@ use Rattle.bd_model.specs.declared.layout.RecipeEntry.{RecipeEntry}
 use Rattle.bd_model.specs.Chunks.{numbers}
 use Rattle.bd_model.proofs.ListLemmas.{numbers-split, range_with_len-suc}
 use Rattle.bd_catalog.specs.Catalogue.{Catalogue, bytes_of_rows}
+use Rattle.bd_catalog.specs.Damages.{HasRead, header_holds}
+use Rattle.bd_catalog.specs.Rows.{row_bytes, spot_in, RowPlace, Spot, begun_by, first_spots, records_at, row_place, row_spots, rows_from, spots_in, volume_rows, spots_from, past}
 use Rattle.bd_restore.specs.declared.fault.RestoreFault.{RestoreFault}
 use Rattle.bd_restore.specs.declared.fault.RestoreFault.TheVariants.{TargetFault, DiskFault, Damaged, OutOfMemory}
 use Rattle.bd_restore.specs.Faults.{IfDamaged}
-use Rattle.bd_restore.specs.Met.{places_met, BreaksAt, HasRead, MetAt, MetOn}
-use Rattle.bd_restore.specs.Walk.{RowPlace, Spot, begun_by, first_spots, records_at, is_wanted, row_place, row_spots, rows_from, spots_in, volume_rows, walk_reads, spots_from, past, AreFlags, AreGiven, Walks, Gives}
+use Rattle.bd_restore.specs.Met.{BreaksAt, MetAt, MetOn}
+use Rattle.bd_restore.specs.Walk.{is_wanted, walk_reads, AreFlags, AreGiven, Walks, Gives}
+use Rattle.bd_restore.proofs.Cuts.{spots_split}
 
 -- ---- walks
 
@@ -79,21 +82,26 @@ module _ (s : Sizes) (v : ℕ) (entries : List RecipeEntry) (image : List ℕ) (
   spots-append xs ys = flat_map-append (row_spots s image) xs ys
 
   -- at the record behind the first ones of a row
-  pub met_here : {Kind : Call → Type 0} (f g : List Bool) (p : RowPlace) (count at : ℕ) (owner : List ℕ) {a b c : History} → count < p.row.chunks → at ≡ past p.from (first_spots s image p count) → owner ≡ owner_bytes s p.extents image → Made Kind a b →
+  pub met_here : {Kind : Call → Type 0} (f g : List Bool) (p : RowPlace) (count at : ℕ) {a b c : History} → count < p.row.chunks → at ≡ past p.from (first_spots s image p count) → IsTrue (list_all (header_holds s p) (first_spots s image p count)) → Made Kind a b →
       ((seen : List Stored) → AreFlags entries seen f → AreFlags entries (seen ++ records_at (first_spots s image p count)) g) →
-      MetAt s v entries g p at owner damage b c → MetOn s v entries image f (p ∷ []) damage a c
-  met_here f g p count at owner {a} {b} {c} lt there same made flags met = record {
-    before = [];
-    place = p;
-    behind = [];
-    so = refl;
-    count = count;
-    inside = lt;
-    breaks = λ seen are. subst (λ o. BreaksAt s v entries (seen ++ records_at (first_spots s image p count)) p (past p.from (first_spots s image p count)) o damage) same
-        (subst (λ k. BreaksAt s v entries (seen ++ records_at (first_spots s image p count)) p k owner damage) there
-        (met.breaks (seen ++ records_at (first_spots s image p count)) (flags seen are)));
-    read = has_read_later (places_met s p (owner_bytes s p.extents image) damage) made (subst (λ o. HasRead (places_met s p o damage) b c) same met.read);
-  }
+      MetAt s v entries g p (spot_in s image p at) damage b c → MetOn s v entries image f (p ∷ []) damage a c
+  met_here f g p count at {a} {b} {c} lt there good made flags met =
+      let first = first_spots s image p count in
+      let split = spots_split p.extents (row_bytes s image p) count p.row.chunks p.from lt in
+      record {
+        before = [];
+        place = p;
+        behind = [];
+        so = refl;
+        first = first;
+        spot = spot_in s image p at;
+        later = split.0;
+        spots = split.1 ∙ ap (λ k. first ++ (spot_in s image p k ∷ split.0)) (sym there);
+        good = good;
+        places = met.places;
+        breaks = λ seen are. met.breaks (seen ++ records_at first) (flags seen are);
+        read = has_read_later met.places made met.read;
+      }
 
   -- what is met on these rows is met where others follow
   pub met_before : (f : List Bool) (xs ys : List RowPlace) {a b : History} → MetOn s v entries image f xs damage a b → MetOn s v entries image f (xs ++ ys) damage a b
@@ -102,8 +110,12 @@ module _ (s : Sizes) (v : ℕ) (entries : List RecipeEntry) (image : List ℕ) (
     place = met.place;
     behind = met.behind ++ ys;
     so = ap (λ l. l ++ ys) met.so ∙ append_assoc met.before (met.place ∷ met.behind) ys;
-    count = met.count;
-    inside = met.inside;
+    first = met.first;
+    spot = met.spot;
+    later = met.later;
+    spots = met.spots;
+    good = met.good;
+    places = met.places;
     breaks = met.breaks;
     read = met.read;
   }
@@ -112,24 +124,25 @@ module _ (s : Sizes) (v : ℕ) (entries : List RecipeEntry) (image : List ℕ) (
   pub met_after : {Kind : Call → Type 0} (f g : List Bool) (xs ys : List RowPlace) {a b c : History} → Made Kind a b → ((seen : List Stored) → AreFlags entries seen f → AreFlags entries (seen ++ records_at (spots_in s image xs)) g) →
       MetOn s v entries image g ys damage b c → MetOn s v entries image f (xs ++ ys) damage a c
   met_after f g xs ys made flags met =
-      let first = first_spots s image met.place met.count in
       let mine = spots_in s image xs in
       let theirs = spots_in s image met.before in
-      let owner = owner_bytes s met.place.extents image in
-      let at = past met.place.from first in
       record {
         before = xs ++ met.before;
         place = met.place;
         behind = met.behind;
         so = ap (λ l. xs ++ l) met.so ∙ sym (append_assoc xs met.before (met.place ∷ met.behind));
-        count = met.count;
-        inside = met.inside;
+        first = met.first;
+        spot = met.spot;
+        later = met.later;
+        spots = met.spots;
+        good = met.good;
+        places = met.places;
         breaks = λ seen are.
-            let spots : mine ++ (theirs ++ first) ≡ spots_in s image (xs ++ met.before) ++ first = sym (append_assoc mine theirs first) ∙ ap (λ l. l ++ first) (sym (spots-append xs met.before)) in
-            subst (λ l. BreaksAt s v entries (seen ++ records_at l) met.place at owner damage) spots
-            (subst (λ l. BreaksAt s v entries l met.place at owner damage) (seen_both s entries seen mine (theirs ++ first))
+            let spots : mine ++ (theirs ++ met.first) ≡ spots_in s image (xs ++ met.before) ++ met.first = sym (append_assoc mine theirs met.first) ∙ ap (λ l. l ++ met.first) (sym (spots-append xs met.before)) in
+            subst (λ l. BreaksAt s v entries (seen ++ records_at l) met.place met.spot damage met.places) spots
+            (subst (λ l. BreaksAt s v entries l met.place met.spot damage met.places) (seen_both s entries seen mine (theirs ++ met.first))
             (met.breaks (seen ++ records_at mine) (flags seen are)));
-        read = has_read_later (places_met s met.place owner damage) made met.read;
+        read = has_read_later met.places made met.read;
       }
 
 -- what is known of the damage that is answered, also where the fault is passed on

@@ -6,7 +6,6 @@ mod Marks
 mod Meeting
 mod Putting
 mod Reading
-mod Rows
 mod Seeing
 mod Splits
 pub mod Standing

@@ -11,11 +11,17 @@ use Rattle.bd_model.specs.declared.damage.Owner.{Owner}
 use Rattle.bd_category.specs.declared.fault.Header.{Header}
 use Rattle.bd_category.specs.Records.{header_at, header_in, body_at}
 
-second : (b : Bool) (e : Damage) (x : Result Header Damage) (h : Header) → (if b then Err e else x) ≡ Ok h → (b ≡ false) × (x ≡ Ok h)
+pub second : (b : Bool) (e : Damage) (x : Result Header Damage) (h : Header) → (if b then Err e else x) ≡ Ok h → (b ≡ false) × (x ≡ Ok h)
 second true e x h is = absurd (wrong is) where
   wrong : Err e ≡ Ok h → ⊥
   wrong eq = cc
 second false e x h is = (refl, is)
+
+pub passed : (b : Bool) (x h : Header) (e : Damage) → (if b then Ok x else Err e) ≡ Ok h → b ≡ true
+passed true x h e is = refl
+passed false x h e is = absurd (wrong is) where
+  wrong : Err e ≡ Ok h → ⊥
+  wrong eq = cc
 
 first : (b : Bool) (x h : Header) (e : Damage) → (if b then Ok x else Err e) ≡ Ok h → x ≡ h
 first true x h e is = cc
@@ -68,8 +74,3 @@ is_stored s who at to owner h low fits is =
     let middle : take 32 (drop 4 part) ≡ take 32 (drop (at + 4) owner) = (λ i. take 32 (drop (sym four_on i) part)) ∙ of_front at 32 (at + 4) to owner (omega arith) (omega (arith, fits)) in
     let whole : take h.length (drop 36 part) ≡ take h.length (drop (at + 36) owner) = (λ i. take h.length (drop (sym body_on i) part)) ∙ of_front at h.length (at + 36) to owner (omega arith) (omega (arith, fits)) in
     stored_in s who at to owner part h is front middle whole
-
--- the same among all bytes of the owner
-pub is_stored_there : (s : Sizes) (who : Owner) (at to : ℕ) (owner : List ℕ) (h : Header) → header_at s who at to owner ≡ Ok h → IsStored at to owner h (stored_at (drop at owner))
-is_stored_there s who at to owner h is =
-    stored_in s who at to owner (drop at owner) h is refl (ap (take 32) (drop-drop 4 at owner)) (ap (take h.length) (drop-drop 36 at owner))

@@ -1,11 +1,11 @@
--- A damage that a walk meets is one of its restore, breaks its rule, and doesn't come where the walk is whole.
-use Rattle.std.proofs.Common.{◌≡◌, ◌≢◌, ℕ, zero, suc, ◌+◌, ◌*◌, ◌<◌, ◌≤◌, Bool, true, false, cond, List, [], ◌∷◌, ◌++◌, drop, get_or, map, inl, inr, append_assoc, refl, sym, ◌∙◌, ap, subst, arith, Some, slice_get}
-use Rattle.std.specs.Prelude.{length, nat_le, nat_lt, bytes_eq, ◌&&◌, ◌==◌, IsTrue}
-use Rattle.std.specs.List.{All, Contains, list_all}
-use Rattle.std.proofs.lemmas.Bool.{leb-true, eqb-true, lt-ltb}
+-- A damage that a walk meets breaks its rule where a restore looks, and doesn't come where the walk is whole.
+use Rattle.std.proofs.Common.{◌≡◌, ◌≢◌, ℕ, zero, suc, ◌+◌, ◌*◌, ◌<◌, ◌≤◌, Bool, true, false, cond, not, List, [], ◌∷◌, ◌++◌, get_or, map, inl, inr, append_assoc, le-leb, refl, sym, ◌∙◌, ap, subst, arith, Some, slice_get}
+use Rattle.std.specs.Prelude.{length, nat_lt, bytes_eq, ◌&&◌, ◌==◌}
+use Rattle.std.specs.List.{Contains, list_all}
+use Rattle.std.proofs.lemmas.Bool.{eqb-true, lt-ltb, ne_eqb}
 use Rattle.std.proofs.lemmas.List.{get_or-map, map-append}
 use Rattle.std.proofs.lemmas.Grind.{flat_map-append}
-use Rattle.std.proofs.lemmas.List.Elements.{All-nil, All-weaker, Contains-append_left, Contains-append_right, filter-append}
+use Rattle.std.proofs.lemmas.List.Elements.{All-weaker, Contains-append_left, Contains-append_right, Contains-get_or, filter-append}
 use Rattle.std.proofs.lemmas.List.Folds.{list_all-append}
 use Rattle.std.proofs.lemmas.List.Sums.{sum_by-append, sum_by-cons}
 use Rattle.std.proofs.lemmas.Option.{slice_get-get_or}
@@ -15,25 +15,26 @@ use Rattle.bd_disk.specs.Trace.{ReadsOnly}
 use Rattle.bd_model.specs.Sizes.{Sizes}
 use Rattle.bd_model.specs.Extents.{owner_bytes, places_at}
 use Rattle.bd_model.specs.Marks.{mark}
-use Rattle.bd_model.specs.Records.{Stored, stored_at}
+use Rattle.bd_model.specs.Records.{Stored}
 use Rattle.bd_model.specs.declared.damage.Damage.{Damage}
 use Rattle.bd_model.specs.declared.damage.Damage.TheVariants.{Entry, Sum, Header, Row, Body, Length, Missing}
+use Rattle.bd_model.specs.declared.damage.Owner.{Owner}
 use Rattle.bd_model.specs.declared.layout.RecipeEntry.{RecipeEntry}
 use Rattle.bd_model.specs.declared.mark.Mark.{Mark}
 use Rattle.bd_model.proofs.ListLemmas.{left_and, right_and}
 use Rattle.bd_catalog.specs.Catalogue.{Catalogue, recipe_extents}
-use Rattle.bd_catalog.specs.Damages.{BreaksRule, IsBadHeader, IsOfRestore, IsRowOf, IsWalked, extents_of, named_places}
-use Rattle.bd_catalog.specs.Rules.{obeys}
+use Rattle.bd_catalog.specs.Damages.{BreaksRule, IsBadHeader, IsOfVersion, IsRecordOf, entry_places, header_holds, unlike}
+use Rattle.bd_catalog.specs.Rows.{RowPlace, Spot, records_at, row_bytes, row_end, row_spots, spots_in, walk}
 use Rattle.bd_catalog.specs.Sound.{is_stored, part_holds, part_records, recipe_of, records_for, stored_holds, length_holds, with_mark}
 use Rattle.bd_recipe.specs.Reading.{chunks_in, recipe_places}
 use Rattle.bd_recipe.proofs.Entries.{length-entries_in}
 use Rattle.bd_recipe.proofs.Found.{places_of_entry}
-use Rattle.bd_restore.specs.Met.{BreaksAt, HasEntry, IsNeeded, IsSeenAfter, IsWhole, MetOn, places_met}
+use Rattle.bd_restore.specs.Met.{BreaksAt, HasEntry, IsNeeded, IsSeenAfter, IsWhole, MetOn}
 use Rattle.bd_restore.specs.Target.{flag_at, length_at, mark_at}
-use Rattle.bd_restore.specs.Walk.{AreFlags, RowPlace, Spot, first_spots, is_found, past, records_at, row_bytes, row_end, row_spots, spots_in, walk}
-use Rattle.bd_restore.proofs.Cuts.{past_later, past_sum, same_body, same_length, same_mark, spots_split, taken}
-use Rattle.bd_restore.proofs.Rows.{Whose, extents_are, on_walk, row_of, walked}
+use Rattle.bd_restore.specs.Walk.{AreFlags, is_found}
+use Rattle.bd_restore.proofs.Cuts.{past_sum, place_is, taken}
 use Rattle.bd_restore.proofs.WalkRecords.{part_at, records_both, row_records, walk_parts, walk_records}
+use Rattle.bd_restore.proofs.Walking.{bool_cases}
 
 clash : true ≡ false → ⊥
 clash e = cc
@@ -48,53 +49,74 @@ passing_entry test [] k lt all = absurd (omega arith)
 passing_entry test (e ∷ entries) zero lt all = (e, left_and (test e) (list_all test entries) all, refl, refl)
 passing_entry test (e ∷ entries) (suc k) lt all = passing_entry test entries k (omega arith) (right_and (test e) (list_all test entries) all)
 
+-- the entry with a mark and a length
+entry_of : (entries : List RecipeEntry) (m : Mark) (n : ℕ) → HasEntry entries m.0 n → (e : RecipeEntry) × Contains entries e × (e.mark ≡ m) × (e.length ≡ n)
+entry_of entries m n has =
+    let e = get_or entries has.index (record { mark = m; length = n; start = 0 }) in
+    let marks : e.mark.0 ≡ m.0 = sym (get_or-map (λ (x : RecipeEntry). x.mark.0) entries has.index (record { mark = m; length = n; start = 0 }) [] has.inside) ∙ has.is_mark in (
+      e,
+      Contains-get_or entries has.index (record { mark = m; length = n; start = 0 }) has.inside,
+      (λ i. record { 0 = marks i }),
+      sym (get_or-map (λ (x : RecipeEntry). x.length) entries has.index (record { mark = m; length = n; start = 0 }) 0 has.inside) ∙ has.is_length,
+    )
+
+-- of records without the entry's mark none is unlike it
+none_unlike : (e : RecipeEntry) (xs : List Spot) → with_mark e.mark.0 (records_at xs) ≡ [] → unlike e xs ≡ []
+none_unlike e [] none = refl
+none_unlike e (y ∷ xs) none =
+    let m = e.mark.0 in
+    let rest = with_mark m (records_at xs) in
+    elim (bool_cases (bytes_eq y.stored.mark m)) [
+      | inl hit ↦ absurd (some (sym (ap (λ b. cond b (y.stored ∷ rest) rest) hit) ∙ none))
+      | inr miss ↦ ap (λ b. cond (b && not (y.stored.length == e.length)) (y ∷ unlike e xs) (unlike e xs)) miss ∙ none_unlike e xs (sym (ap (λ b. cond b (y.stored ∷ rest) rest) miss) ∙ none)
+    ] where
+      some : y.stored ∷ with_mark e.mark.0 (records_at xs) ≡ [] → ⊥
+      some h = cc
+
 module _ (s : Sizes) (c : Catalogue) (image : List ℕ) (v : ℕ) where
   module _ (entries : List RecipeEntry) (filled : List Bool) (damage : Damage) (old new : History) (none : AreFlags entries [] filled) (met : MetOn s v entries image filled (walk c v) damage old new) where
     abbrev p : RowPlace
     p = met.place
 
-    abbrev owner : List ℕ
-    owner = owner_bytes s p.extents image
+    abbrev x : Spot
+    x = met.spot
 
-    abbrev firsts : List Spot
-    firsts = first_spots s image p met.count
+    -- the records of the walk up to it, and those behind it
+    abbrev ahead : List Spot
+    ahead = spots_in s image met.before ++ met.first
 
-    abbrev at : ℕ
-    at = past p.from firsts
+    abbrev rest : List Spot
+    rest = met.later ++ spots_in s image met.behind
 
-    abbrev seen : List Stored
-    seen = records_at (spots_in s image met.before ++ firsts)
-
-    -- the record as it lies within its row, and as it lies among the owner's bytes
-    abbrev cut : Stored
-    cut = stored_at (drop at (row_bytes s image p))
-
-    abbrev uncut : Stored
-    uncut = stored_at (drop at owner)
-
-    breaks : BreaksAt s v entries seen p at owner damage
+    breaks : BreaksAt s v entries (records_at ahead) p x damage met.places
     breaks = met.breaks [] none
 
-    place : (p.row.start ≤ v) × Whose s c image v p
-    place = on_walk s c image v met.before p met.behind met.so
+    spots_are : spots_in s image (walk c v) ≡ ahead ++ (x ∷ rest)
+    spots_are =
+        let front = spots_in s image met.before in
+        let behind = spots_in s image met.behind in
+        ap (spots_in s image) met.so ∙ flat_map-append (row_spots s image) met.before (p ∷ met.behind)
+        ∙ ap (λ l. front ++ (l ++ behind)) met.spots
+        ∙ ap (λ l. front ++ l) (append_assoc met.first (x ∷ met.later) behind)
+        ∙ sym (append_assoc front met.first (x ∷ rest))
 
     -- ---- the damage is one of this restore
 
-    part_of : (d : Damage) → BreaksAt s v entries seen p at owner d → IsOfRestore v d
-    part_of (Header who a said left) b = subst (IsWalked v) (sym b.0) (walked s c image v p place.0 place.1)
-    part_of (Body who a recorded found) b = subst (IsWalked v) (sym b.0) (walked s c image v p place.0 place.1)
+    part_of : (d : Damage) → BreaksAt s v entries (records_at ahead) p x d met.places → IsOfVersion v d
+    part_of (Header who at said left) b = tt
+    part_of (Body who at recorded found) b = tt
     part_of (Length u m recorded found) b = b.0
     part_of (Entry u index said start) b = absurd b
     part_of (Sum u recorded found) b = absurd b
-    part_of (Row who start recorded found) b = absurd b
+    part_of (Row who start recorded found) b = tt
     part_of (Missing u index m) b = absurd b
 
-    pub met_part : IsOfRestore v damage
+    pub met_part : IsOfVersion v damage
     met_part = part_of damage breaks
 
-    needed_by : (d : Damage) → BreaksAt s v entries seen p at owner d → IsNeeded entries d
-    needed_by (Header who a said left) b = tt
-    needed_by (Body who a recorded found) b = b.5
+    needed_by : (d : Damage) → BreaksAt s v entries (records_at ahead) p x d met.places → IsNeeded entries d
+    needed_by (Header who at said left) b = tt
+    needed_by (Body who at recorded found) b = b.3
     needed_by (Length u m recorded found) b = tt
     needed_by (Entry u index said start) b = tt
     needed_by (Sum u recorded found) b = tt
@@ -104,92 +126,56 @@ module _ (s : Sizes) (c : Catalogue) (image : List ℕ) (v : ℕ) where
     pub met_needed : IsNeeded entries damage
     met_needed = needed_by damage breaks
 
-    -- ---- the records of the walk, up to the one that is met
+    -- ---- its bytes break its rule
 
-    abbrev others : List Spot
-    others = (spots_split p.extents (row_bytes s image p) met.count p.row.chunks p.from met.inside).0
+    record_of : (who : Owner) (at : ℕ) → p.who ≡ who → x.at ≡ at → IsRecordOf s image (walk c v) who at p x
+    record_of who at whose there = record {
+      is_row = subst (λ l. Contains l p) (sym met.so) (Contains-append_right met.before (p ∷ met.behind) p (0, omega arith, refl));
+      is_owner = whose;
+      is_at = there;
+      before = met.first;
+      behind = met.later;
+      so = met.spots;
+      good = met.good;
+    }
 
-    row_is : records_at (row_spots s image p) ≡ records_at firsts ++ (cut ∷ records_at others)
-    row_is = ap records_at (spots_split p.extents (row_bytes s image p) met.count p.row.chunks p.from met.inside).1 ∙ records_both s image firsts (record { extents = p.extents; at = at; stored = cut } ∷ others)
+    first_unlike : (e : RecipeEntry) → x.stored.mark ≡ e.mark.0 → x.stored.length ≢ e.length → is_found (records_at ahead) e.mark.0 ≡ false → slice_get (unlike e (spots_in s image (walk c v))) 0 ≡ Some x
+    first_unlike e same differ unseen =
+        let test = λ (y : Spot). bytes_eq y.stored.mark e.mark.0 && not (y.stored.length == e.length) in
+        let hit : test x ≡ true = (λ i. (bytes_eq-Decides x.stored.mark e.mark.0).1 same i && not (ne_eqb x.stored.length e.length differ i)) in
+        ap (λ l. slice_get l 0)
+        (ap (unlike e) spots_are ∙ filter-append test ahead (x ∷ rest)
+        ∙ (λ i. none_unlike e ahead (no_element (with_mark e.mark.0 (records_at ahead)) unseen) i ++ cond (hit i) (x ∷ unlike e rest) (unlike e rest)))
 
-    abbrev rest : List Stored
-    rest = records_at others ++ records_at (spots_in s image met.behind)
-
-    all_are : records_for s c image v ≡ seen ++ (cut ∷ rest)
-    all_are =
-        let front = spots_in s image met.before in
-        let behind = spots_in s image met.behind in
-        let row = row_spots s image p in
-        let in_order : records_at (spots_in s image (met.before ++ (p ∷ met.behind))) ≡ records_at front ++ (records_at row ++ records_at behind) =
-        ap records_at (joined_both met.before (p ∷ met.behind)) ∙ records_both s image front (row ++ behind) ∙ ap (λ l. records_at front ++ l) (records_both s image row behind) in
-        sym (walk_records s image c v) ∙ ap (λ l. records_at (spots_in s image l)) met.so ∙ in_order
-        ∙ ap (λ l. records_at front ++ (l ++ records_at behind)) row_is
-        ∙ ap (λ l. records_at front ++ l) (append_assoc (records_at firsts) (cut ∷ records_at others) (records_at behind))
-        ∙ sym (append_assoc (records_at front) (records_at firsts) (cut ∷ rest))
-        ∙ ap (λ l. l ++ (cut ∷ rest)) (sym (records_both s image front firsts)) where
-          joined_both : (xs ys : List RowPlace) → spots_in s image (xs ++ ys) ≡ spots_in s image xs ++ spots_in s image ys
-          joined_both xs ys = flat_map-append (row_spots s image) xs ys
-
-    -- ---- the damage was read, and breaks its rule
-
-    module _ (before : List ℕ) (rules : IsTrue (obeys s c)) where
-      extents : extents_of c p.who ≡ p.extents
-      extents = extents_are s c image v rules p place.1
-
-      read_of : (d : Damage) → BreaksAt s v entries seen p at owner d → All (λ x. Contains met.read.more x) (places_met s p owner d) → All (λ x. Contains (before ++ met.read.more) x) (named_places s c image d)
-      read_of (Header who a said left) b all = All-nil (λ x. Contains (before ++ met.read.more) x)
-      read_of (Body who a recorded found) b all =
-          let same : p.extents ≡ extents_of c who = sym (ap (extents_of c) b.0 ∙ extents) in
-          subst (λ es. All (λ x. Contains (before ++ met.read.more) x) (places_at s es a (36 + (stored_at (drop a (owner_bytes s es image))).length))) same
-          (All-weaker (λ x. Contains met.read.more x) (λ x. Contains (before ++ met.read.more) x) (λ x h. Contains-append_right before met.read.more x h) (places_at s p.extents a (36 + (stored_at (drop a owner)).length)) all)
-      read_of (Length u m recorded found) b all = All-nil (λ x. Contains (before ++ met.read.more) x)
-      read_of (Entry u index said start) b all = absurd b
-      read_of (Sum u recorded found) b all = absurd b
-      read_of (Row who start recorded found) b all = absurd b
-      read_of (Missing u index m) b all = absurd b
-
-      low : p.from ≤ at
-      low = past_later p.extents (row_bytes s image p) met.count p.from
-
-      bad_ends : (to said left : ℕ) (r : Stored) → IsBadHeader s at to said left r → at ≤ to
-      bad_ends to said left r (inl bad) = omega (arith, bad.2)
-      bad_ends to said left r (inr bad) = omega (arith, bad.0)
-
-      rule_of : (d : Damage) → BreaksAt s v entries seen p at owner d → BreaksRule s c image d
-      rule_of (Header who a said left) b =
-          let same : p.extents ≡ extents_of c who = sym (ap (extents_of c) b.0 ∙ extents) in (
-            p.row,
-            p.from,
-            row_end p,
-            subst (λ w. IsRowOf s c image w p.row p.from (row_end p)) (sym b.0) (row_of s c image v rules p place.1),
-            subst (λ n. p.from ≤ n) (sym b.1) low,
-            subst (λ n. n ≤ row_end p) (sym b.1) (bad_ends (row_end p) said left uncut b.2),
-            subst (λ es. IsBadHeader s a (row_end p) said left (stored_at (drop a (owner_bytes s es image)))) same (subst (λ n. IsBadHeader s n (row_end p) said left (stored_at (drop n owner))) (sym b.1) b.2),
-          )
-      rule_of (Body who a recorded found) b =
-          let same : p.extents ≡ extents_of c who = sym (ap (extents_of c) b.0 ∙ extents) in
-          subst (λ es. (recorded.0 ≡ (stored_at (drop a (owner_bytes s es image))).mark) × (found.0 ≡ mark (stored_at (drop a (owner_bytes s es image))).body) × (found ≢ recorded)) same
-          (subst (λ n. (recorded.0 ≡ (stored_at (drop n owner)).mark) × (found.0 ≡ mark (stored_at (drop n owner)).body) × (found ≢ recorded)) (sym b.1) (b.2, b.3, b.4))
+    module _ (are : entries ≡ recipe_of s c image v) where
+      rule_of : (d : Damage) → BreaksAt s v entries (records_at ahead) p x d met.places → BreaksRule s c image (walk c v) d met.places
+      rule_of (Header who at said left) b = (p, x, record_of who at b.0 b.1, b.2)
+      rule_of (Body who at recorded found) b = (p, x, record_of who at b.0 b.1, b.2)
       rule_of (Length u m recorded found) b =
-          let fits : at + 36 ≤ row_end p = omega (arith, b.6) in
-          let marked : cut.mark ≡ m.0 = same_mark at (row_end p) owner fits ∙ sym b.1 in
-          let size : cut.length ≡ found = same_length at (row_end p) owner fits ∙ sym b.2 in
-          let nothing : with_mark m.0 seen ≡ [] = no_element (with_mark m.0 seen) b.5 in
-          let hit : bytes_eq cut.mark m.0 ≡ true = (bytes_eq-Decides cut.mark m.0).1 marked in
-          let first : with_mark m.0 (records_for s c image v) ≡ cut ∷ with_mark m.0 rest =
-          ap (with_mark m.0) all_are ∙ filter-append (λ (r : Stored). bytes_eq r.mark m.0) seen (cut ∷ rest) ∙ ap (λ l. l ++ with_mark m.0 (cut ∷ rest)) nothing
-          ∙ ap (λ t. cond t (cut ∷ with_mark m.0 rest) (with_mark m.0 rest)) hit in
-          subst (λ w. (r : Stored) × (slice_get (with_mark m.0 (records_for s c image w)) 0 ≡ Some r) × (r.length ≡ found) × (found ≢ recorded)) (sym b.0)
-          (cut, ap (λ l. slice_get l 0) first, size, b.3)
+          let entry = entry_of (recipe_of s c image v) m recorded (subst (λ es. HasEntry es m.0 recorded) are b.1) in
+          let e = entry.0 in
+          let same : m.0 ≡ e.mark.0 = sym (ap (λ (k : Mark). k.0) entry.2) in
+          let differ : x.stored.length ≢ e.length = λ equal. b.4 (sym b.3 ∙ equal ∙ entry.3) in
+          let first : slice_get (unlike e (spots_in s image (walk c v))) 0 ≡ Some x = first_unlike e (b.2 ∙ same) differ (ap (is_found (records_at ahead)) (sym same) ∙ b.5) in
+          subst (λ w. BreaksRule s c image (walk c v) (Length w m recorded found) met.places) (sym b.0) (e, x, entry.1, entry.2, entry.3, first, b.3, b.6)
       rule_of (Entry u index said start) b = absurd b
       rule_of (Sum u recorded found) b = absurd b
       rule_of (Row who start recorded found) b = absurd b
       rule_of (Missing u index m) b = absurd b
 
-      pub met_seen : IsSeenAfter before s c image damage old new
-      met_seen = record { more = met.read.more; so = met.read.so; read = read_of damage breaks met.read.all; breaks = rule_of damage breaks }
+      pub met_seen : IsSeenAfter s c image v damage old new
+      met_seen = record {
+        places = met.places;
+        more = met.read.more;
+        so = met.read.so;
+        read = All-weaker (λ k. Contains met.read.more k) (λ k. Contains (recipe_places s c v ++ met.read.more) k) (λ k h. Contains-append_right (recipe_places s c v) met.read.more k h) met.places met.read.all;
+        breaks = rule_of damage breaks;
+      }
 
     -- ---- where the walk is whole no damage is met
+
+    all_are : records_for s c image v ≡ records_at ahead ++ (x.stored ∷ records_at rest)
+    all_are = sym (walk_records s image c v) ∙ ap records_at spots_are ∙ records_both s image ahead (x ∷ rest)
 
     module _ (sound : IsWhole s c image v entries) where
       part_is : part_holds s (part_at s image p) ≡ true
@@ -200,78 +186,66 @@ module _ (s : Sizes) (c : Catalogue) (image : List ℕ) (v : ℕ) where
           let behind = right_and (list_all (part_holds s) (map (part_at s image) met.before)) (list_all (part_holds s) (map (part_at s image) (p ∷ met.behind))) (sym (list_all-append (part_holds s) (map (part_at s image) met.before) (map (part_at s image) (p ∷ met.behind))) ∙ joined) in
           left_and (part_holds s (part_at s image p)) (list_all (part_holds s) (map (part_at s image) met.behind)) behind
 
-      records_are : part_records (part_at s image p) ≡ records_at firsts ++ (cut ∷ records_at others)
-      records_are = sym (row_records s image p) ∙ row_is
+      abbrev front : List Stored
+      front = records_at met.first
 
-      each_holds : list_all (stored_holds s) (records_at firsts ++ (cut ∷ records_at others)) ≡ true
+      abbrev back : List Stored
+      back = x.stored ∷ records_at met.later
+
+      records_are : part_records (part_at s image p) ≡ front ++ back
+      records_are = sym (row_records s image p) ∙ ap records_at met.spots ∙ records_both s image met.first (x ∷ met.later)
+
+      each_holds : list_all (stored_holds s) (front ++ back) ≡ true
       each_holds = ap (list_all (stored_holds s)) (sym records_are) ∙ left_and (list_all (stored_holds s) (part_records (part_at s image p))) (taken (part_records (part_at s image p)) == p.row.bytes) part_is
 
-      cut_holds : stored_holds s cut ≡ true
-      cut_holds =
-          left_and (stored_holds s cut) (list_all (stored_holds s) (records_at others))
-          (right_and (list_all (stored_holds s) (records_at firsts)) (list_all (stored_holds s) (cut ∷ records_at others)) (sym (list_all-append (stored_holds s) (records_at firsts) (cut ∷ records_at others)) ∙ each_holds))
+      stored_is : stored_holds s x.stored ≡ true
+      stored_is =
+          left_and (stored_holds s x.stored) (list_all (stored_holds s) (records_at met.later))
+          (right_and (list_all (stored_holds s) front) (list_all (stored_holds s) back) (sym (list_all-append (stored_holds s) front back) ∙ each_holds))
 
-      size_is : taken (records_at firsts ++ (cut ∷ records_at others)) ≡ p.row.bytes
-      size_is = ap taken (sym records_are) ∙ eqb-true (taken (part_records (part_at s image p))) p.row.bytes (right_and (list_all (stored_holds s) (part_records (part_at s image p))) (taken (part_records (part_at s image p)) == p.row.bytes) part_is)
-
-      fits_in : at + 36 + cut.length ≤ row_end p
+      fits_in : x.at + 36 + x.stored.length ≤ row_end p
       fits_in =
-          let sum : taken (records_at firsts ++ (cut ∷ records_at others)) ≡ taken (records_at firsts) + taken (cut ∷ records_at others) = sum_by-append (λ (r : Stored). 36 + r.length) (records_at firsts) (cut ∷ records_at others) in
-          let one : taken (cut ∷ records_at others) ≡ 36 + cut.length + taken (records_at others) = sum_by-cons (λ (r : Stored). 36 + r.length) cut (records_at others) in
-          omega (arith, past_sum p.from firsts, size_is, sum, one)
+          let size : taken (front ++ back) ≡ p.row.bytes = ap taken (sym records_are) ∙ eqb-true (taken (part_records (part_at s image p))) p.row.bytes (right_and (list_all (stored_holds s) (part_records (part_at s image p))) (taken (part_records (part_at s image p)) == p.row.bytes) part_is) in
+          let sum : taken (front ++ back) ≡ taken front + taken back = sum_by-append (λ (r : Stored). 36 + r.length) front back in
+          let one : taken back ≡ 36 + x.stored.length + taken (records_at met.later) = sum_by-cons (λ (r : Stored). 36 + r.length) x.stored (records_at met.later) in
+          omega (arith, place_is p.extents (row_bytes s image p) p.row.chunks p.from met.first x met.later met.spots, past_sum p.from met.first, size, sum, one)
 
-      length_is : cut.length ≡ uncut.length
-      length_is = same_length at (row_end p) owner (omega (arith, fits_in))
+      fronts : (length_holds s x.stored.length && length x.stored.body == x.stored.length) ≡ true
+      fronts = left_and (length_holds s x.stored.length && length x.stored.body == x.stored.length) (bytes_eq (mark x.stored.body) x.stored.mark) stored_is
 
-      mark_is : cut.mark ≡ uncut.mark
-      mark_is = same_mark at (row_end p) owner (omega (arith, fits_in))
+      header_is : header_holds s p x ≡ true
+      header_is = (λ i. left_and (length_holds s x.stored.length) (length x.stored.body == x.stored.length) fronts i && le-leb (x.at + 36 + x.stored.length) (row_end p) fits_in i)
 
-      body_is : cut.body ≡ uncut.body
-      body_is = same_body at (row_end p) owner (omega (arith, fits_in, length_is))
+      marked : mark x.stored.body ≡ x.stored.mark
+      marked = (bytes_eq-Decides (mark x.stored.body) x.stored.mark).0 (right_and (length_holds s x.stored.length && length x.stored.body == x.stored.length) (bytes_eq (mark x.stored.body) x.stored.mark) stored_is)
 
-      fronts : (length_holds s cut.length && length cut.body == cut.length) ≡ true
-      fronts = left_and (length_holds s cut.length && length cut.body == cut.length) (bytes_eq (mark cut.body) cut.mark) cut_holds
+      good_header : (said left : ℕ) → IsBadHeader s p x said left met.places → ⊥
+      good_header said left (inl bad) = omega (arith, bad.0, bad.1, fits_in)
+      good_header said left (inr bad) = clash (sym header_is ∙ bad.2)
 
-      bounds : length_holds s cut.length ≡ true
-      bounds = left_and (length_holds s cut.length) (length cut.body == cut.length) fronts
-
-      least : 1 ≤ cut.length
-      least = leb-true 1 cut.length (left_and (nat_le 1 cut.length) (nat_le cut.length s.max) bounds)
-
-      most : cut.length ≤ s.max
-      most = leb-true cut.length s.max (right_and (nat_le 1 cut.length) (nat_le cut.length s.max) bounds)
-
-      good_header : (said left : ℕ) → IsBadHeader s at (row_end p) said left uncut → ⊥
-      good_header said left (inl bad) = omega (arith, bad.0, fits_in)
-      good_header said left (inr (ends, is, inl bad)) = omega (arith, is, bad, length_is, least)
-      good_header said left (inr (ends, is, inr (inl bad))) = omega (arith, is, bad, length_is, most)
-      good_header said left (inr (ends, is, inr (inr bad))) = omega (arith, is, bad, ends, length_is, fits_in)
-
-      marked : mark cut.body ≡ cut.mark
-      marked = (bytes_eq-Decides (mark cut.body) cut.mark).0 (right_and (length_holds s cut.length && length cut.body == cut.length) (bytes_eq (mark cut.body) cut.mark) cut_holds)
-
-      good_length : (m : Mark) (recorded found : ℕ) → m.0 ≡ uncut.mark → found ≡ uncut.length → found ≢ recorded → HasEntry entries m.0 recorded → ⊥
-      good_length m recorded found same is differs has =
+      good_length : (m : Mark) (recorded : ℕ) → x.stored.mark ≡ m.0 → x.stored.length ≢ recorded → HasEntry entries m.0 recorded → ⊥
+      good_length m recorded same differs has =
           let entry = passing_entry (is_stored (records_for s c image v)) entries has.index has.inside sound.entries_stored in
           let e = entry.0 in
-          let em : e.mark.0 ≡ cut.mark = sym entry.2 ∙ has.is_mark ∙ same ∙ sym mark_is in
-          let hit : bytes_eq cut.mark e.mark.0 ≡ true = (bytes_eq-Decides cut.mark e.mark.0).1 (sym em) in
+          let hit : bytes_eq x.stored.mark e.mark.0 ≡ true = (bytes_eq-Decides x.stored.mark e.mark.0).1 (same ∙ sym has.is_mark ∙ entry.2) in
           let marks = λ (l : List Stored). with_mark e.mark.0 l in
           let same_size = λ (r : Stored). r.length == e.length in
-          let with_it : marks (records_for s c image v) ≡ marks seen ++ (cut ∷ marks rest) =
-          ap marks all_are ∙ filter-append (λ (r : Stored). bytes_eq r.mark e.mark.0) seen (cut ∷ rest) ∙ ap (λ t. marks seen ++ cond t (cut ∷ marks rest) (marks rest)) hit in
-          let all : list_all same_size (marks seen ++ (cut ∷ marks rest)) ≡ true =
+          let before = marks (records_at ahead) in
+          let behind = marks (records_at rest) in
+          let with_it : marks (records_for s c image v) ≡ before ++ (x.stored ∷ behind) =
+          ap marks all_are ∙ filter-append (λ (r : Stored). bytes_eq r.mark e.mark.0) (records_at ahead) (x.stored ∷ records_at rest) ∙ ap (λ t. before ++ cond t (x.stored ∷ behind) behind) hit in
+          let all : list_all same_size (before ++ (x.stored ∷ behind)) ≡ true =
           ap (list_all same_size) (sym with_it) ∙ right_and (nat_lt 0 (length (marks (records_for s c image v)))) (list_all same_size (marks (records_for s c image v))) entry.1 in
-          let here : list_all same_size (cut ∷ marks rest) ≡ true = right_and (list_all same_size (marks seen)) (list_all same_size (cut ∷ marks rest)) (sym (list_all-append same_size (marks seen) (cut ∷ marks rest)) ∙ all) in
-          let equal : cut.length ≡ e.length = eqb-true cut.length e.length (left_and (same_size cut) (list_all same_size (marks rest)) here) in
-          differs (is ∙ sym length_is ∙ equal ∙ sym entry.3 ∙ has.is_length)
+          let here : list_all same_size (x.stored ∷ behind) ≡ true = right_and (list_all same_size before) (list_all same_size (x.stored ∷ behind)) (sym (list_all-append same_size before (x.stored ∷ behind)) ∙ all) in
+          let equal : x.stored.length ≡ e.length = eqb-true x.stored.length e.length (left_and (same_size x.stored) (list_all same_size behind) here) in
+          differs (equal ∙ sym entry.3 ∙ has.is_length)
 
-      no_damage : (d : Damage) → BreaksAt s v entries seen p at owner d → ⊥
-      no_damage (Header who a said left) b = good_header said left b.2
-      no_damage (Body who a recorded found) b =
-          let same : found.0 ≡ recorded.0 = b.3 ∙ ap mark (sym body_is) ∙ marked ∙ mark_is ∙ sym b.2 in
-          b.4 (λ i. record { 0 = same i })
-      no_damage (Length u m recorded found) b = good_length m recorded found b.1 b.2 b.3 b.4
+      no_damage : (d : Damage) → BreaksAt s v entries (records_at ahead) p x d met.places → ⊥
+      no_damage (Header who at said left) b = good_header said left b.2
+      no_damage (Body who at recorded found) b =
+          let same : found.0 ≡ recorded.0 = b.2.2 ∙ marked ∙ sym b.2.1 in
+          b.2.3 (λ i. record { 0 = same i })
+      no_damage (Length u m recorded found) b = good_length m recorded b.2 (λ equal. b.4 (sym b.3 ∙ equal)) b.1
       no_damage (Entry u index said start) b = b
       no_damage (Sum u recorded found) b = b
       no_damage (Row who start recorded found) b = b
@@ -286,7 +260,7 @@ module _ (s : Sizes) (c : Catalogue) (image : List ℕ) (v : ℕ) where
     not_found : is_found (records_for s c image v) (mark_at entries k) ≡ false
     not_found = sym (flags.each k lt) ∙ miss
 
-    pub missing_seen : (m : Mark) (more : List ℕ) {old new : History} → m.0 ≡ mark_at entries k → entries ≡ recipe_of s c image v → ReadsOnly more old new → IsSeenAfter (recipe_places s c v) s c image (Missing v k m) old new
+    pub missing_seen : (m : Mark) (more : List ℕ) {old new : History} → m.0 ≡ mark_at entries k → entries ≡ recipe_of s c image v → ReadsOnly more old new → IsSeenAfter s c image v (Missing v k m) old new
     missing_seen m more is_mark is reads =
         let no_one : RecipeEntry = record { mark = m; length = 0; start = 0 } in
         let recipe = recipe_of s c image v in
@@ -295,11 +269,12 @@ module _ (s : Sizes) (c : Catalogue) (image : List ℕ) (v : ℕ) where
         let count : length recipe ≡ chunks_in c v = length-entries_in (chunks_in c v) (owner_bytes s (recipe_extents c v) image) in
         let marks : e.mark.0 ≡ m.0 = sym (get_or-map (λ (x : RecipeEntry). x.mark.0) recipe k no_one [] inside) ∙ ap (λ l. mark_at l k) (sym is) ∙ sym is_mark in
         record {
+          places = entry_places s c v k;
           more = more;
           so = reads.so;
           read = All-weaker (λ x. Contains (recipe_places s c v) x) (λ x. Contains (recipe_places s c v ++ more) x) (λ x h. Contains-append_left (recipe_places s c v) more x h) (places_at s (recipe_extents c v) (40 * k) 40)
               (places_of_entry s (recipe_extents c v) k (chunks_in c v) (omega (arith, inside, count)));
-          breaks = (e, slice_get-get_or recipe k no_one inside, (λ i. record { 0 = marks i }), no_element (with_mark m.0 (records_for s c image v)) (ap (λ l. nat_lt 0 (length (with_mark l (records_for s c image v)))) is_mark ∙ not_found));
+          breaks = (e, slice_get-get_or recipe k no_one inside, (λ i. record { 0 = marks i }), no_element (with_mark m.0 (records_for s c image v)) (ap (λ l. nat_lt 0 (length (with_mark l (records_for s c image v)))) is_mark ∙ not_found), refl);
         }
 
     pub missing_whole : IsWhole s c image v entries → ⊥

@@ -22,6 +22,7 @@ use Rattle.bd_model.proofs.ListLemmas.{left_and, flat_map-numbers, numbers-none}
 use Rattle.bd_model.proofs.NeedLemmas.{TellsApart}
 use Rattle.bd_catalog.specs.Catalogue.{Catalogue, recipe_extents, volume_extents, active_extents}
 use Rattle.bd_catalog.specs.Opening.{Found, opened}
+use Rattle.bd_catalog.specs.Rows.{begun_by, open_row, spots_in, volume_rows, walk}
 use Rattle.bd_catalog.specs.Rules.{phase_holds}
 use Rattle.bd_catalog.specs.Sound.{active_parts, part_holds, part_records, records_for, is_stored, volume_parts}
 use Rattle.bd_catalog.specs.Standing.{HasActives, StandsFor}
@@ -30,7 +31,7 @@ use Rattle.bd_catalog.proofs.Standing.{Shows, stands-shows}
 use Rattle.bd_catalog.proofs.StandingFound.{Obeys, numbers-each, obeys-each, opened-found}
 use Rattle.bd_recipe.specs.Reading.{recipe_found, recipe_places, total}
 use Rattle.bd_restore.specs.Met.{IsWhole}
-use Rattle.bd_restore.specs.Walk.{begun_by, joined, open_row, spots_in, volume_rows, walk, walk_reads}
+use Rattle.bd_restore.specs.Walk.{joined, walk_reads}
 use Rattle.bd_restore.proofs.StandingChunks.{EachOnce, times}
 use Rattle.bd_restore.proofs.StandingContent.{all_wanted, recipe_joined, recipe_stored}
 use Rattle.bd_restore.proofs.StandingEntries.{chunks-stand, recipe-found, total-recipe, version-bounded, version-joined}

@@ -6,8 +6,9 @@ use Rattle.bd_model.specs.Extents.{places_at}
 use Rattle.bd_model.specs.Records.{Stored, records_of, stored_at}
 use Rattle.bd_model.specs.Sizes.{Sizes}
 use Rattle.bd_model.specs.declared.layout.RecipeEntry.{RecipeEntry}
+use Rattle.bd_catalog.specs.Rows.{Spot, records_at, spots_from}
 use Rattle.bd_catalog.specs.Walks.{record_reads}
-use Rattle.bd_restore.specs.Walk.{Spot, records_at, spots_from, is_wanted, walk_reads}
+use Rattle.bd_restore.specs.Walk.{is_wanted, walk_reads}
 use Rattle.bd_restore.proofs.StandingRecords.{Bounded, stored_of, contains_first, contains_later, chunk-read, behind_chunk, small_first, bounded_later}
 
 -- headers and bodies of all

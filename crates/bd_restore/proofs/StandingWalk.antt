@@ -14,10 +14,10 @@ use Rattle.bd_model.specs.Sizes.{Sizes}
 use Rattle.bd_model.proofs.PlaceLemmas.{a_version_uses_a_front}
 use Rattle.bd_model.proofs.RecordLemmas.{length-records}
 use Rattle.bd_catalog.specs.Catalogue.{Catalogue, OpenEntry, active_extents}
+use Rattle.bd_catalog.specs.Rows.{Spot, records_at, row_spots, spots_in, spots_from, open_row, begun_by}
 use Rattle.bd_catalog.specs.Sound.{Part, part_holds, part_records}
 use Rattle.bd_catalog.specs.Standing.{HasActives}
 use Rattle.bd_catalog.specs.Walks.{is_used, record_reads}
-use Rattle.bd_restore.specs.Walk.{Spot, records_at, row_spots, spots_in, spots_from, open_row, begun_by}
 use Rattle.bd_restore.proofs.StandingReads.{all_reads, chunks-read}
 use Rattle.bd_restore.proofs.StandingRecords.{Bounded, stored_of, stored-records, part_stands}
 use Rattle.bd_restore.proofs.StandingRows.{IsOpen, each_open}

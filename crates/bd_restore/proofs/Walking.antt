@@ -14,11 +14,12 @@ use Rattle.bd_model.specs.Marks.{mark}
 use Rattle.bd_model.specs.Recipe.{has_mark}
 use Rattle.bd_model.specs.Records.{Stored}
 use Rattle.bd_model.specs.declared.layout.RecipeEntry.{RecipeEntry}
+use Rattle.bd_catalog.specs.Rows.{Spot}
 use Rattle.bd_catalog.specs.Sound.{with_mark, first_body}
 use Rattle.bd_recipe.specs.Marked.{first_from}
 use Rattle.bd_recipe.proofs.Marking.{first_from-some}
 use Rattle.bd_restore.specs.Target.{mark_at, flag_at, Fills, Puts}
-use Rattle.bd_restore.specs.Walk.{Spot, is_found, is_wanted, AreFlags, AreGiven, Walks, Gives}
+use Rattle.bd_restore.specs.Walk.{is_found, is_wanted, AreFlags, AreGiven, Walks, Gives}
 use Rattle.bd_restore.proofs.Marks.{mark_here, no_entry, first_is}
 
 -- ---- tests

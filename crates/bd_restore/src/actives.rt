@@ -3,11 +3,12 @@ ghost use Rattle.bd_disk.specs.History.{contents};
 ghost use Rattle.bd_disk.specs.Made.{WritesNothing};
 ghost use Rattle.bd_files.specs.Files.{ChangesOnly};
 ghost use Rattle.bd_model.specs.Sizes.{sizes_of, disk_bytes};
+ghost use Rattle.bd_catalog.specs.Rows.{begun_by, open_row, spots_in};
 ghost use Rattle.bd_catalog.specs.Shown.{open_entry};
 ghost use Rattle.bd_restore.specs.Faults.{FailsByDisk, FailsByTarget, IfDamaged};
 ghost use Rattle.bd_restore.specs.Met.{MetOn};
 ghost use Rattle.bd_restore.specs.Target.{held, IsTarget};
-ghost use Rattle.bd_restore.specs.Walk.{begun_by, open_row, spots_in, Gives, IsInRoom, Walks};
+ghost use Rattle.bd_restore.specs.Walk.{Gives, IsInRoom, Walks};
 
 use crate::fault::RestoreFault;
 use crate::piece::run_begun;

@@ -1,12 +1,13 @@
 ghost use Rattle.std.specs.Prelude.{◌≡◌, ◌≢◌, [], ◌∷◌, ◌≤◌, length, OnOk, Err};
 ghost use Rattle.bd_disk.specs.History.{contents};
 ghost use Rattle.bd_disk.specs.Made.{WritesNothing};
+ghost use Rattle.bd_catalog.specs.Rows.{begun_by, row_place, row_spots, spots_in};
 ghost use Rattle.bd_files.specs.Files.{ChangesOnly};
 ghost use Rattle.bd_model.specs.Sizes.{sizes_of, disk_bytes};
 ghost use Rattle.bd_restore.specs.Faults.{FailsByDisk, FailsByTarget, IfDamaged};
 ghost use Rattle.bd_restore.specs.Met.{MetOn};
 ghost use Rattle.bd_restore.specs.Target.{held, IsTarget};
-ghost use Rattle.bd_restore.specs.Walk.{begun_by, row_place, row_spots, spots_in, Gives, IsInRoom, Walks};
+ghost use Rattle.bd_restore.specs.Walk.{Gives, IsInRoom, Walks};
 
 use crate::fault::RestoreFault;
 use crate::record::{Piece, read_record};

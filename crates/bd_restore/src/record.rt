@@ -1,15 +1,15 @@
-ghost use Rattle.std.specs.Prelude.{◌≡◌, ◌≢◌, ◌+◌, ◌*◌, ◌≤◌, [], ◌∷◌, List, drop, length, OnOk, IfOk, Err};
+ghost use Rattle.std.specs.Prelude.{◌≡◌, ◌≢◌, ◌+◌, ◌*◌, ◌≤◌, [], ◌∷◌, List, length, OnOk, IfOk, Err};
 ghost use Rattle.bd_disk.specs.History.{contents};
 ghost use Rattle.bd_disk.specs.Made.{WritesNothing};
+ghost use Rattle.bd_catalog.specs.Rows.{row_place, spot_in};
 ghost use Rattle.bd_files.specs.Files.{ChangesOnly};
 ghost use Rattle.bd_model.specs.Sizes.{sizes_of, disk_bytes};
-ghost use Rattle.bd_model.specs.Extents.{owner_bytes};
-ghost use Rattle.bd_model.specs.Records.{Stored, stored_at};
+ghost use Rattle.bd_model.specs.Records.{Stored};
 ghost use Rattle.bd_extio.specs.Ranges.{AreExtents};
 ghost use Rattle.bd_restore.specs.Faults.{FailsByDisk, FailsByTarget, IfDamaged};
 ghost use Rattle.bd_restore.specs.Met.{MetAt};
 ghost use Rattle.bd_restore.specs.Target.{held, IsTarget};
-ghost use Rattle.bd_restore.specs.Walk.{is_wanted, row_bytes, row_place, AreFlags, Gives, Walks};
+ghost use Rattle.bd_restore.specs.Walk.{is_wanted, AreFlags, Gives, GoesOver, Walks};
 
 use crate::fault::RestoreFault;
 use crate::put::put_everywhere;
@@ -69,11 +69,11 @@ pub(crate) fn read_record<D: Disk, F: Files>(
     ensures others { F.tells → ChangesOnly name.now (F.files files.old) (F.files files.new) }
     ensures writes { D.tells → WritesNothing (D.history disk.old) (D.history disk.new) }
     ensures within { IfOk result (λ next. next ≤ piece.now.from + piece.now.row.bytes) }
-    ensures next { IfOk result (λ next. D.tells → next ≡ at + 36 + (stored_at (drop at (row_bytes (sizes_of shape.now) (contents (D.history disk.old)) (row_place piece.now.who piece.now.extents.now piece.now.from piece.now.row)))).length) }
+    ensures next { IfOk result (λ next. D.tells → GoesOver (sizes_of shape.now) (contents (D.history disk.old)) (row_place piece.now.who piece.now.extents.now piece.now.from piece.now.row) at next) }
     ensures there { OnOk result (F.tells → IsTarget tables.now name.now (F.files files.new)) }
-    ensures damage { IfDamaged result (λ damage. D.tells → MetAt (sizes_of shape.now) version tables.now filled.old (row_place piece.now.who piece.now.extents.now piece.now.from piece.now.row) at (owner_bytes (sizes_of shape.now) piece.now.extents.now (contents (D.history disk.old))) damage (D.history disk.old) (D.history disk.new)) }
-    ensures walk { OnOk result (D.tells → Walks (sizes_of shape.now) tables.now (record { extents = piece.now.extents.now; at = at; stored = stored_at (drop at (row_bytes (sizes_of shape.now) (contents (D.history disk.old)) (row_place piece.now.who piece.now.extents.now piece.now.from piece.now.row))) } ∷ []) filled.old filled.new (D.history disk.old) (D.history disk.new)) }
-    ensures gives { OnOk result (D.tells → F.tells → Gives tables.now (record { extents = piece.now.extents.now; at = at; stored = stored_at (drop at (row_bytes (sizes_of shape.now) (contents (D.history disk.old)) (row_place piece.now.who piece.now.extents.now piece.now.from piece.now.row))) } ∷ []) filled.old (held (F.files files.old) name.now) (held (F.files files.new) name.now)) }
+    ensures damage { IfDamaged result (λ damage. D.tells → MetAt (sizes_of shape.now) version tables.now filled.old (row_place piece.now.who piece.now.extents.now piece.now.from piece.now.row) (spot_in (sizes_of shape.now) (contents (D.history disk.old)) (row_place piece.now.who piece.now.extents.now piece.now.from piece.now.row) at) damage (D.history disk.old) (D.history disk.new)) }
+    ensures walk { OnOk result (D.tells → Walks (sizes_of shape.now) tables.now (spot_in (sizes_of shape.now) (contents (D.history disk.old)) (row_place piece.now.who piece.now.extents.now piece.now.from piece.now.row) at ∷ []) filled.old filled.new (D.history disk.old) (D.history disk.new)) }
+    ensures gives { OnOk result (D.tells → F.tells → Gives tables.now (spot_in (sizes_of shape.now) (contents (D.history disk.old)) (row_place piece.now.who piece.now.extents.now piece.now.from piece.now.row) at ∷ []) filled.old (held (F.files files.old) name.now) (held (F.files files.new) name.now)) }
 {
     let end = piece.from + piece.row.bytes;
     let header = read_header(disk, shape, piece.extents, piece.who, at, end)?;

@@ -6,14 +6,15 @@ ghost use Rattle.bd_disk.specs.Trace.{ReadsOnly};
 ghost use Rattle.bd_files.specs.Files.{ChangesOnly};
 ghost use Rattle.bd_model.specs.Sizes.{disk_bytes, sizes_of};
 ghost use Rattle.bd_catalog.specs.Catalogue.{oldest_in};
-ghost use Rattle.bd_catalog.specs.Damages.{IsOfRestore};
+ghost use Rattle.bd_catalog.specs.Damages.{IsOfVersion};
+ghost use Rattle.bd_catalog.specs.Rows.{spots_in, walk};
 ghost use Rattle.bd_catalog.specs.Rules.{obeys};
 ghost use Rattle.bd_catalog.specs.Sound.{recipe_of, records_for};
-ghost use Rattle.bd_recipe.specs.Reading.{recipe_places, total};
+ghost use Rattle.bd_recipe.specs.Reading.{total};
 ghost use Rattle.bd_restore.specs.Faults.{FailsByDisk, FailsByTarget, IfDamaged};
 ghost use Rattle.bd_restore.specs.Met.{IsNeeded, IsSeenAfter, IsWhole, MetOn};
 ghost use Rattle.bd_restore.specs.Target.{held, HasChunks, IsTarget};
-ghost use Rattle.bd_restore.specs.Walk.{joined, spots_in, walk, walk_reads, Gives, Walks};
+ghost use Rattle.bd_restore.specs.Walk.{joined, walk_reads, Gives, Walks};
 
 use crate::actives::run_actives;
 use crate::fault::RestoreFault;
@@ -100,9 +101,9 @@ pub fn run_plan<D: Disk, F: Files>(
     ensures checked { OnOk result (D.tells → F.tells → HasChunks plan.entries (held (F.files files.new) name.now)) }
     ensures places { OnOk result (D.tells → ReadsOnly (walk_reads catalog.now.found.sizes plan.entries [] (spots_in catalog.now.found.sizes (contents (D.history disk.old)) (walk catalog.now.found.catalogue plan.version))) (D.history disk.old) (D.history disk.new)) }
     // A damage is one of this restore, its bytes were read, and they break its rule.
-    ensures part { IfDamaged result (λ damage. D.tells → IsOfRestore plan.version damage) }
+    ensures part { IfDamaged result (λ damage. D.tells → IsOfVersion plan.version damage) }
     ensures needed { IfDamaged result (λ damage. D.tells → IsNeeded plan.entries damage) }
-    ensures seen { IfDamaged result (λ damage. D.tells → plan.entries ≡ recipe_of catalog.now.found.sizes catalog.now.found.catalogue (contents (D.history disk.old)) plan.version → IsSeenAfter (recipe_places catalog.now.found.sizes catalog.now.found.catalogue plan.version) catalog.now.found.sizes catalog.now.found.catalogue (contents (D.history disk.old)) damage (D.history disk.old) (D.history disk.new)) }
+    ensures seen { IfDamaged result (λ damage. D.tells → plan.entries ≡ recipe_of catalog.now.found.sizes catalog.now.found.catalogue (contents (D.history disk.old)) plan.version → IsSeenAfter catalog.now.found.sizes catalog.now.found.catalogue (contents (D.history disk.old)) plan.version damage (D.history disk.old) (D.history disk.new)) }
     // Where the rows of the walk hold and have the entries' chunks, no damage is answered.
     ensures whole { IfDamaged result (λ damage. D.tells → ¬ IsWhole catalog.now.found.sizes catalog.now.found.catalogue (contents (D.history disk.old)) plan.version plan.entries) }
 {

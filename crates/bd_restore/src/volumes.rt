@@ -6,11 +6,12 @@ ghost use Rattle.bd_model.specs.Sizes.{sizes_of, disk_bytes};
 ghost use Rattle.bd_model.specs.Chunks.{numbers};
 ghost use Rattle.bd_extio.specs.Ranges.{AreExtents};
 ghost use Rattle.bd_catalog.specs.Catalogue.{bytes_of_rows, oldest_in};
+ghost use Rattle.bd_catalog.specs.Rows.{begun_by, rows_from, spots_in, volume_rows};
 ghost use Rattle.bd_catalog.specs.Rules.{obeys};
 ghost use Rattle.bd_restore.specs.Faults.{FailsByDisk, FailsByTarget, IfDamaged};
 ghost use Rattle.bd_restore.specs.Met.{MetOn};
 ghost use Rattle.bd_restore.specs.Target.{held, IsTarget};
-ghost use Rattle.bd_restore.specs.Walk.{begun_by, rows_from, spots_in, volume_rows, Gives, Walks};
+ghost use Rattle.bd_restore.specs.Walk.{Gives, Walks};
 
 use crate::fault::RestoreFault;
 use crate::piece::run_begun;

@@ -12,7 +12,7 @@ use Rattle.bd_gate.specs.Halves.{InHalves}
 use Rattle.bd_model.specs.FileMap.{FileMap}
 use Rattle.bd_model.specs.declared.shape.Shape.{Shape}
 use Rattle.bd_model.specs.declared.damage.Damage.{Damage}
-use Rattle.bd_model.specs.declared.damage.Damage.TheVariants.{Sum}
+use Rattle.bd_model.specs.declared.damage.Damage.TheVariants.{Entry, Sum, Header, Row, Body, Length, Missing}
 use Rattle.bd_model.specs.declared.layout.Phase.{Phase}
 use Rattle.bd_model.specs.declared.layout.RecipeEntry.{RecipeEntry}
 use Rattle.bd_model.specs.declared.answer.Answer.TheVariants.{Restored}
@@ -25,8 +25,9 @@ use Rattle.bd_model.specs.State.{VersionState, history, stream_of}
 use Rattle.bd_model.specs.Step.{restore}
 use Rattle.bd_catalog.specs.Agreement.{Agrees}
 use Rattle.bd_catalog.specs.Catalogue.{Catalogue, retained_in}
-use Rattle.bd_catalog.specs.Damages.{IsOfRestore, IsSeen}
+use Rattle.bd_catalog.specs.Damages.{BreaksRule, IsOfVersion, IsSeen}
 use Rattle.bd_catalog.specs.Opening.{Found, opened}
+use Rattle.bd_catalog.specs.Rows.{RowPlace, spots_in, walk}
 use Rattle.bd_catalog.specs.Sound.{content, entry_holds, is_stored, part_holds, parts_for, recipe_of, records_for}
 use Rattle.bd_catalog.specs.Standing.{StandsFor, Stands}
 use Rattle.bd_catalog.specs.Walks.{restore_reads, IsLean}
@@ -40,7 +41,7 @@ use Rattle.bd_recipe.proofs.Holding.{found-of_version, holds-found}
 use Rattle.bd_restore.specs.Faults.{IfDamaged as IfMet}
 use Rattle.bd_restore.specs.Met.{IsNeeded, IsSeenAfter, IsWhole}
 use Rattle.bd_restore.specs.Plan.{AnswersPlan, Planned}
-use Rattle.bd_restore.specs.Walk.{joined, spots_in, walk, walk_reads}
+use Rattle.bd_restore.specs.Walk.{joined, walk_reads}
 use Rattle.bd_restore.specs.declared.fault.RestoreFault.{RestoreFault}
 use Rattle.bd_restore.specs.declared.fault.RestoreFault.TheVariants.{TargetFault, DiskFault, Damaged, OutOfMemory}
 use Rattle.bd_files.specs.Files.{ChangesOnly}
@@ -73,44 +74,59 @@ needed_reading s c image v others damage = by_bad (recipe_of s c image v) (first
       let same : found ≡ damage = cc in
       subst (IsNeeded others) (sym bad.so ∙ same) tt
 
+-- what is in no row is so whichever the rows are
+in_rows : (s : Sizes) (c : Catalogue) (image : List ℕ) (rows : List RowPlace) (damage : Damage) (places : List ℕ) → BreaksRule s c image [] damage places → BreaksRule s c image rows damage places
+in_rows s c image rows (Entry v index said start) places breaks = breaks
+in_rows s c image rows (Sum v recorded found) places breaks = breaks
+in_rows s c image rows (Header who at said left) places breaks = let none : ⊥ = omega (arith, breaks.2.is_row.1) in absurd none
+in_rows s c image rows (Row who start recorded found) places breaks = let none : ⊥ = omega (arith, breaks.1.1) in absurd none
+in_rows s c image rows (Body who at recorded found) places breaks = let none : ⊥ = omega (arith, breaks.2.is_row.1) in absurd none
+in_rows s c image rows (Length v m recorded found) places breaks = breaks
+in_rows s c image rows (Missing v index m) places breaks = breaks
+
 module _ (found : Found) (v : ℕ) (h0 h1 : History) {Tells : Type 0} (told : Tells) where
   -- a damage of the recipe
   pub reading_names : (fault : ReadFault) → AnswersPlan (recipe_found found.sizes found.catalogue (contents h0) v) (Err fault) →
-      IfDamaged {T = Planned} (Err fault) (λ damage. Tells → IsSeen found.sizes found.catalogue (contents h0) damage h0 h1) → NamesDamage found v h0 h1 (Err (fault_of_reading fault))
+      IfDamaged {T = Planned} (Err fault) (λ damage. Tells → IsSeen found.sizes found.catalogue (contents h0) [] damage h0 h1) → NamesDamage found v h0 h1 (Err (fault_of_reading fault))
   reading_names ReadDisk answers seen = tt
   reading_names ReadMemory answers seen = tt
-  reading_names (ReadDamaged damage) answers seen = (
-    found-of_version found.sizes found.catalogue v (contents h0) damage answers,
-    needed_reading found.sizes found.catalogue (contents h0) v _ damage answers,
-    seen told,
-  )
+  reading_names (ReadDamaged damage) answers seen = record {
+    part = found-of_version found.sizes found.catalogue v (contents h0) damage answers;
+    needed = needed_reading found.sizes found.catalogue (contents h0) v _ damage answers;
+    seen = record { places = (seen told).places; read = (seen told).read; breaks = in_rows found.sizes found.catalogue (contents h0) (walk found.catalogue v) damage (seen told).places (seen told).breaks };
+  }
 
   -- a damage on the walk
   module _ (entries : List RecipeEntry) (is : recipe_found found.sizes found.catalogue (contents h0) v ≡ Ok entries) (n : ℕ) (same : n ≡ v) (quiet : WritesNothing h0 h1) (reads : ReadsOnly (recipe_places found.sizes found.catalogue v) h0 h1) where
     are_entries : entries ≡ recipe_of found.sizes found.catalogue (contents h0) v
     are_entries = (holds-found found.sizes found.catalogue v (contents h0) entries is).same
 
-    seen_both : (damage : Damage) (h2 : History) → IsSeenAfter (recipe_places found.sizes found.catalogue n) found.sizes found.catalogue (contents h1) damage h1 h2 → IsSeen found.sizes found.catalogue (contents h0) damage h0 h2
-    seen_both damage h2 seen = subst (λ image. IsSeen found.sizes found.catalogue image damage h0 h2) (unchanged quiet) (record {
-      more = recipe_places found.sizes found.catalogue n ++ seen.more;
-      so =
-          seen.so ∙ ap (λ l. l ++ seen.more) (reads.so ∙ ap (λ m. reads_of h0 ++ recipe_places found.sizes found.catalogue m) (sym same))
-          ∙ append_assoc (reads_of h0) (recipe_places found.sizes found.catalogue n) seen.more;
-      read = seen.read;
-      breaks = seen.breaks;
-    })
+    seen_both : (damage : Damage) (h2 : History) → IsSeenAfter found.sizes found.catalogue (contents h1) n damage h1 h2 → IsSeen found.sizes found.catalogue (contents h0) (walk found.catalogue v) damage h0 h2
+    seen_both damage h2 seen =
+        let recipe = recipe_places found.sizes found.catalogue n in
+        subst (λ image. IsSeen found.sizes found.catalogue image (walk found.catalogue v) damage h0 h2) (unchanged quiet) (record {
+          places = seen.places;
+          read = record {
+            more = recipe ++ seen.more;
+            so =
+                seen.so ∙ ap (λ l. l ++ seen.more) (reads.so ∙ ap (λ m. reads_of h0 ++ recipe_places found.sizes found.catalogue m) (sym same))
+                ∙ append_assoc (reads_of h0) recipe seen.more;
+            all = seen.read;
+          };
+          breaks = subst (λ m. BreaksRule found.sizes found.catalogue (contents h1) (walk found.catalogue m) damage seen.places) same seen.breaks;
+        })
 
-    pub walk_names : (h2 : History) (fault : RestoreFault) → IfMet {T = ℕ} (Err fault) (λ damage. Tells → IsOfRestore n damage) → IfMet {T = ℕ} (Err fault) (λ damage. Tells → IsNeeded entries damage) →
-        IfMet {T = ℕ} (Err fault) (λ damage. Tells → entries ≡ recipe_of found.sizes found.catalogue (contents h1) n → IsSeenAfter (recipe_places found.sizes found.catalogue n) found.sizes found.catalogue (contents h1) damage h1 h2) →
+    pub walk_names : (h2 : History) (fault : RestoreFault) → IfMet {T = ℕ} (Err fault) (λ damage. Tells → IsOfVersion n damage) → IfMet {T = ℕ} (Err fault) (λ damage. Tells → IsNeeded entries damage) →
+        IfMet {T = ℕ} (Err fault) (λ damage. Tells → entries ≡ recipe_of found.sizes found.catalogue (contents h1) n → IsSeenAfter found.sizes found.catalogue (contents h1) n damage h1 h2) →
         NamesDamage found v h0 h2 (Err (fault_of_restore fault))
     walk_names h2 TargetFault part needed seen = tt
     walk_names h2 DiskFault part needed seen = tt
     walk_names h2 OutOfMemory part needed seen = tt
-    walk_names h2 (Damaged damage) part needed seen = (
-      subst (λ m. IsOfRestore m damage) same (part told),
-      subst (λ es. IsNeeded es damage) are_entries (needed told),
-      seen_both damage h2 (seen told (are_entries ∙ ap (λ image. recipe_of found.sizes found.catalogue image v) (sym (unchanged quiet)) ∙ ap (recipe_of found.sizes found.catalogue (contents h1)) (sym same))),
-    )
+    walk_names h2 (Damaged damage) part needed seen = record {
+      part = subst (λ m. IsOfVersion m damage) same (part told);
+      needed = subst (λ es. IsNeeded es damage) are_entries (needed told);
+      seen = seen_both damage h2 (seen told (are_entries ∙ ap (λ image. recipe_of found.sizes found.catalogue image v) (sym (unchanged quiet)) ∙ ap (recipe_of found.sizes found.catalogue (contents h1)) (sym same)));
+    }
 
 -- ---- the step
 

@@ -2,14 +2,16 @@
 -- failed.
 use Rattle.std.specs.Prelude.{ℕ, Result, Ok, Err}
 use Rattle.bd_disk.specs.History.{History, contents}
-use Rattle.bd_catalog.specs.Damages.{IsOfRestore, IsSeen}
+use Rattle.bd_catalog.specs.Damages.{IsOfVersion, IsSeen}
 use Rattle.bd_catalog.specs.Opening.{Found}
+use Rattle.bd_catalog.specs.Rows.{walk}
 use Rattle.bd_catalog.specs.Sound.{recipe_of}
 use Rattle.bd_recipe.specs.declared.fault.ReadFault.{ReadFault}
 use Rattle.bd_recipe.specs.declared.fault.ReadFault.TheVariants.{DiskFault as ReadDisk, Damaged as ReadDamaged, OutOfMemory as ReadMemory}
 use Rattle.bd_restore.specs.Met.{IsNeeded}
 use Rattle.bd_restore.specs.declared.fault.RestoreFault.{RestoreFault}
 use Rattle.bd_restore.specs.declared.fault.RestoreFault.TheVariants.{TargetFault as RestoreTarget, DiskFault as RestoreDisk, Damaged as RestoreDamaged, OutOfMemory as RestoreMemory}
+use Rattle.bd_model.specs.declared.damage.Damage.{Damage}
 use Rattle.bd_model.specs.declared.answer.Answer.{Answer}
 use Rattle.bd_model.specs.declared.answer.Answer.TheVariants.{FullExtents}
 use Rattle.bd_intake.specs.declared.fault.IntakeFault.{IntakeFault}
@@ -35,10 +37,16 @@ fault_of_restore RestoreDisk = DiskFailed
 fault_of_restore (RestoreDamaged damage) = DamageFound damage
 fault_of_restore RestoreMemory = MemoryFailed
 
--- a damage that is answered is of this restore, was read in this call, and breaks its rule
+-- the damage is one of a restore of version v: of its recipe, or in a row of its walk; the bytes that it names were read
+-- between these moments, and break its rule
+pub record IsDamageOf (found : Found) (v : ℕ) (damage : Damage) (old new : History) : Type 0 where
+  pub part : IsOfVersion v damage
+  pub needed : IsNeeded (recipe_of found.sizes found.catalogue (contents old) v) damage
+  pub seen : IsSeen found.sizes found.catalogue (contents old) (walk found.catalogue v) damage old new
+
+-- and so is a damage that is answered
 abbrev pub NamesDamage : Found → ℕ → History → History → Result Answer StoreFault → Type 0
-NamesDamage found v old new (Err (DamageFound damage)) =
-    IsOfRestore v damage × IsNeeded (recipe_of found.sizes found.catalogue (contents old) v) damage × IsSeen found.sizes found.catalogue (contents old) damage old new
+NamesDamage found v old new (Err (DamageFound damage)) = IsDamageOf found v damage old new
 NamesDamage found v old new result = Unit {0}
 
 -- this holds unless the disk failed

@@ -8,14 +8,15 @@ use Rattle.bd_model.specs.declared.command.Command.{Command}
 use Rattle.bd_model.specs.declared.command.Command.TheVariants.{Backup, Restore, Expire, Reorganise, Scrub, List as Listing}
 use Rattle.bd_model.specs.declared.damage.Damage.{Damage}
 use Rattle.bd_model.specs.declared.place.Place.{Place}
-use Rattle.bd_catalog.specs.Damages.{IsSeen, named_places}
+use Rattle.bd_catalog.specs.Damages.{BreaksRule}
 use Rattle.bd_catalog.specs.Opening.{Found, opened}
+use Rattle.bd_catalog.specs.Rows.{walk}
 use Rattle.bd_catalog.specs.Sound.{recipe_of}
 use Rattle.bd_recover.specs.declared.fault.OpenFault.{OpenFault}
 use Rattle.bd_recover.specs.declared.fault.OpenFault.TheVariants.{NotAStore as OpenNotAStore, DiskFault as OpenDisk, OutOfMemory as OpenMemory}
-use Rattle.bd_restore.specs.Met.{HasRead, IsNeeded}
+use Rattle.bd_restore.specs.Met.{IsNeeded}
 use Rattle.bd_restore.proofs.Joining.{has_read_later}
-use Rattle.bd_store.specs.Naming.{NamesDamage as StoreNames}
+use Rattle.bd_store.specs.Naming.{NamesDamage as StoreNames, IsDamageOf}
 use Rattle.bd_store.specs.Openings.{AnswersOpening}
 use Rattle.bd_store.specs.declared.fault.StoreFault.{StoreFault}
 use Rattle.bd_store.specs.declared.fault.StoreFault.TheVariants.{SourceFault as StoreSource, TargetFault as StoreTarget, DiskFault as StoreDisk, Damaged as StoreDamaged, OutOfMemory as StoreMemory, Unbuilt as StoreUnbuilt}
@@ -73,36 +74,28 @@ pub fault_damages : (found : Found) (command : Command) (fault : StoreFault) (ol
 fault_damages found command StoreSource old new fits names = tt
 fault_damages found command StoreTarget old new fits names = tt
 fault_damages found command StoreDisk old new fits names = tt
-fault_damages found command (StoreDamaged damage) old new (v, name, e) names =
-    let said = names v name e in
-    (v, name, e, record { part = said.0; needed = said.1; seen = said.2 })
+fault_damages found command (StoreDamaged damage) old new (v, name, e) names = (v, name, e, names v name e)
 fault_damages found command StoreMemory old new fits names = tt
 fault_damages found command StoreUnbuilt old new fits names = tt
 
 -- ---- the opening before it
 
 -- what was read and found after quiet calls is so from before them
-seen_before : (found : Found) (damage : Damage) (a b c : History) → WritesNothing a b → IsSeen found.sizes found.catalogue (contents b) damage b c → IsSeen found.sizes found.catalogue (contents a) damage a c
-seen_before found damage a b c quiet seen =
+seen_before : (found : Found) (v : ℕ) (damage : Damage) (a b c : History) → WritesNothing a b → IsDamageOf found v damage b c → IsDamageOf found v damage a c
+seen_before found v damage a b c quiet is =
     let same : contents b ≡ contents a = unchanged quiet in
-    let moved : IsSeen found.sizes found.catalogue (contents a) damage b c = subst (λ image. IsSeen found.sizes found.catalogue image damage b c) same seen in
-    let places = named_places found.sizes found.catalogue (contents a) damage in
-    let read : HasRead places a c = has_read_later places quiet (record { more = moved.more; so = moved.so; all = moved.read }) in
-    record { more = read.more; so = read.so; read = read.all; breaks = moved.breaks }
+    record {
+      part = is.part;
+      needed = subst (λ image. IsNeeded (recipe_of found.sizes found.catalogue image v) damage) same is.needed;
+      seen = record {
+        places = is.seen.places;
+        read = has_read_later is.seen.places quiet is.seen.read;
+        breaks = subst (λ image. BreaksRule found.sizes found.catalogue image (walk found.catalogue v) damage is.seen.places) same is.seen.breaks;
+      };
+    }
 
 pub damage_before : (found : Found) (command : Command) (ending : End) (a b c : History) → WritesNothing a b → opened (contents a) ≡ Ok found → NamesDamageOn found command ending b c → NamesDamage (ToRun command) ending a c
-damage_before found command (Damaged damage) a b c quiet opens (v, name, e, is) = (
-  v,
-  name,
-  found,
-  ap ToRun e,
-  opens,
-  record {
-    part = is.part;
-    needed = subst (λ image. IsNeeded (recipe_of found.sizes found.catalogue image v) damage) (unchanged quiet) is.needed;
-    seen = seen_before found damage a b c quiet is.seen;
-  },
-)
+damage_before found command (Damaged damage) a b c quiet opens (v, name, e, is) = (v, name, found, ap ToRun e, opens, seen_before found v damage a b c quiet is)
 damage_before found command Done a b c quiet opens names = tt
 damage_before found command OutputFault a b c quiet opens names = tt
 damage_before found command OutOfMemory a b c quiet opens names = tt

@@ -3,20 +3,11 @@ use Rattle.std.specs.Prelude.{◌≡◌, ℕ, List, Ok}
 use Rattle.bd_disk.specs.History.{History, contents}
 use Rattle.bd_model.specs.declared.command.Command.{Command}
 use Rattle.bd_model.specs.declared.command.Command.TheVariants.{Restore}
-use Rattle.bd_model.specs.declared.damage.Damage.{Damage}
-use Rattle.bd_catalog.specs.Damages.{IsOfRestore, IsSeen}
 use Rattle.bd_catalog.specs.Opening.{Found, opened}
-use Rattle.bd_catalog.specs.Sound.{recipe_of}
-use Rattle.bd_restore.specs.Met.{IsNeeded}
+use Rattle.bd_store.specs.Naming.{IsDamageOf}
 use Rattle.mfdedup.specs.Words.{Reading, ToRun}
 use Rattle.mfdedup.specs.declared.report.End.{End}
 use Rattle.mfdedup.specs.declared.report.End.TheVariants.{Damaged}
-
--- it is one of a restore of version v, was read between these moments, and breaks its rule
-pub record IsDamageOf (found : Found) (v : ℕ) (damage : Damage) (old new : History) : Type 0 where
-  pub part : IsOfRestore v damage
-  pub needed : IsNeeded (recipe_of found.sizes found.catalogue (contents old) v) damage
-  pub seen : IsSeen found.sizes found.catalogue (contents old) damage old new
 
 -- a damage that ends a command on an open store
 abbrev pub NamesDamageOn : Found → Command → End → History → History → Type 0

@@ -4,11 +4,12 @@ use Rattle.bd_disk.specs.History.{contents}
 use Rattle.bd_disk.proofs.Frames.{made_both, unchanged}
 use Rattle.bd_model.specs.Sizes.{sizes_of}
 use Rattle.bd_model.specs.declared.damage.Owner.TheVariants.{Active}
+use Rattle.bd_catalog.specs.Rows.{RowPlace, begun_by, open_row, row_place}
 use Rattle.bd_catalog.specs.Shown.{open_entry}
 use Rattle.bd_catalog.specs.declared.rows.ActiveCategory.{ActiveCategory}
 use Rattle.bd_restore.specs.Met.{MetOn}
 use Rattle.bd_restore.specs.Target.{held}
-use Rattle.bd_restore.specs.Walk.{RowPlace, begun_by, open_row, row_place, IsInRoom}
+use Rattle.bd_restore.specs.Walk.{IsInRoom}
 use Rattle.bd_restore.proofs.Joining.{damaged_by, gives_on, met_on, row_next, row_rest, walks_on}
 use Rattle.bd_restore.proofs.Putting.{changes_both}
 use Rattle.bd_restore.proofs.actives.run_actives.Goals as goal

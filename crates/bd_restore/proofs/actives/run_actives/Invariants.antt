@@ -3,9 +3,10 @@ use Rattle.bd_disk.specs.History.{contents}
 use Rattle.bd_disk.specs.Made.{WritesNothing}
 use Rattle.bd_files.specs.Files.{ChangesOnly}
 use Rattle.bd_model.specs.Sizes.{sizes_of}
+use Rattle.bd_catalog.specs.Rows.{begun_by, open_row, spots_in}
 use Rattle.bd_catalog.specs.Shown.{open_entry}
 use Rattle.bd_restore.specs.Target.{held, IsTarget}
-use Rattle.bd_restore.specs.Walk.{begun_by, open_row, spots_in, Gives, Walks}
+use Rattle.bd_restore.specs.Walk.{Gives, Walks}
 use Rattle.bd_restore.proofs.actives.run_actives.Given as goal
 
 abbrev pub invariant-loop-active : goal.invariant-loop-active

@@ -1,12 +1,14 @@
-use Rattle.std.proofs.Common.{◌≡◌, ℕ, suc, ◌+◌, List, [], ◌∷◌, ◌++◌, drop, sym, ◌∙◌, ap, subst, arith}
+use Rattle.std.proofs.Common.{◌≡◌, ℕ, suc, ◌+◌, ◌&&◌, true, List, [], ◌∷◌, ◌++◌, sym, ◌∙◌, ap, subst, arith}
+use Rattle.std.specs.List.{list_all}
+use Rattle.std.proofs.lemmas.List.Folds.{list_all-append}
 use Rattle.bd_disk.specs.History.{contents}
 use Rattle.bd_disk.proofs.Frames.{made_both, unchanged}
 use Rattle.bd_model.specs.Sizes.{sizes_of}
-use Rattle.bd_model.specs.Extents.{owner_bytes}
-use Rattle.bd_model.specs.Records.{stored_at}
+use Rattle.bd_catalog.specs.Damages.{header_holds}
+use Rattle.bd_catalog.specs.Rows.{RowPlace, Spot, first_spots, past, row_bytes, row_place, spot_in}
 use Rattle.bd_restore.specs.Met.{MetAt, MetOn}
 use Rattle.bd_restore.specs.Target.{held}
-use Rattle.bd_restore.specs.Walk.{RowPlace, Spot, first_spots, past, row_bytes, row_place, Gives, Walks}
+use Rattle.bd_restore.specs.Walk.{Gives, Walks}
 use Rattle.bd_restore.proofs.Joining.{damaged_by, walks_both, gives_both, met_here, spots-more, past-more}
 use Rattle.bd_restore.proofs.Putting.{changes_both}
 use Rattle.bd_restore.proofs.piece.run_piece.Goals as goal
@@ -26,9 +28,9 @@ returns-in_err-at-clause-damage g c =
     let first = g.D.Disk.history c.args.disk.now in
     let before = g.D.Disk.history c.loop-done.disk in
     let after = g.D.Disk.history c.read_record.new.disk in
-    let owner = owner_bytes s p.extents (contents before) in
-    damaged_by ℕ (λ damage. g.D.Disk.tells → MetAt s v entries c.loop-done.filled p c.loop-done.at owner damage before after) (λ damage. g.D.Disk.tells → MetOn s v entries image c.args.filled.now (p ∷ []) damage first after) c.in_err-at.field-0.0 c.from_residual.result c.from_residual.ensures.1
-    (λ damage met told. met_here s v entries image damage c.args.filled.now c.loop-done.filled p c.loop-done.done c.loop-done.at owner c.loop-done-test.true (inv.next told) (ap (owner_bytes s p.extents) (unchanged (inv.writes told))) (inv.writes told) (inv.walk told).flags (met told))
+    damaged_by ℕ (λ damage. g.D.Disk.tells → MetAt s v entries c.loop-done.filled p (spot_in s (contents before) p c.loop-done.at) damage before after) (λ damage. g.D.Disk.tells → MetOn s v entries image c.args.filled.now (p ∷ []) damage first after) c.in_err-at.field-0.0 c.from_residual.result c.from_residual.ensures.1
+    (λ damage met told. met_here s v entries image damage c.args.filled.now c.loop-done.filled p c.loop-done.done c.loop-done.at c.loop-done-test.true (inv.next told) (inv.good told) (inv.writes told) (inv.walk told).flags
+    (subst (λ i. MetAt s v entries c.loop-done.filled p (spot_in s i p c.loop-done.at) damage before after) (unchanged (inv.writes told)) (met told)))
     c.in_err-at.ensures.damage
 
 pub returns-clause-walk : goal.returns-clause-walk
@@ -54,7 +56,7 @@ loop-done-preserved g c =
     let first = g.D.Disk.history c.args.disk.now in
     let before = g.D.Disk.history c.loop-done.disk in
     let after = g.D.Disk.history c.read_record.new.disk in
-    let spot : List ℕ → ℕ → Spot = λ i at. record { extents = p.extents; at = at; stored = stored_at (drop at (row_bytes s i p)) } in
+    let spot : List ℕ → ℕ → Spot = λ i at. spot_in s i p at in
     let more : done + 1 ≡ suc done = omega arith in
     let last = spot image (past p.from spots) in
     let list : first_spots s image p (done + 1) ≡ spots ++ last ∷ [] = ap (first_spots s image p) more ∙ spots-more p.extents (row_bytes s image p) done p.from in
@@ -71,9 +73,12 @@ loop-done-preserved g c =
       next = λ told.
           let same : contents before ≡ image = unchanged (inv.writes told) in
           let at = inv.next told in
-          c.in_ok-at.ensures.next told
+          (c.in_ok-at.ensures.next told).ends
           ∙ (λ i. at i + 36 + (spot (same i) (at i)).stored.length)
           ∙ sym (ap (λ n. past p.from (first_spots s image p n)) more ∙ past-more p.extents (row_bytes s image p) done p.from);
+      good = λ told.
+          let at : header_holds s p last ≡ true = subst (λ k. header_holds s p (spot image k) ≡ true) (inv.next told) (subst (λ i. header_holds s p (spot i c.loop-done.at) ≡ true) (unchanged (inv.writes told)) (c.in_ok-at.ensures.next told).good) in
+          ap (list_all (header_holds s p)) list ∙ list_all-append (header_holds s p) spots (last ∷ []) ∙ (λ i. inv.good told i && (at i && true));
       walk = λ told.
           let same : contents before ≡ image = unchanged (inv.writes told) in
           let one : Walks s entries (last ∷ []) c.loop-done.filled c.read_record.new.filled before after =

@@ -15,11 +15,12 @@ use Rattle.bd_model.specs.declared.mark.Mark.{Mark}
 use Rattle.bd_extio.proofs.Places.{range_small}
 use Rattle.bd_category.specs.Places.{ReadsHeader, ReadsBody}
 use Rattle.bd_category.specs.Records.{AnswersBody, AnswersHeader, body_at, header_at}
+use Rattle.bd_catalog.specs.Rows.{row_end, row_place, spot_in}
 use Rattle.bd_restore.specs.Met.{HasEntry, MetAt}
 use Rattle.bd_restore.specs.Target.{held, Fills, Puts}
-use Rattle.bd_restore.specs.Walk.{is_wanted, row_end, row_place}
+use Rattle.bd_restore.specs.Walk.{is_wanted}
 use Rattle.bd_restore.proofs.Answering.{disk_stays, record_damage, same_damage}
-use Rattle.bd_restore.proofs.Meeting.{header_met, body_met, length_met}
+use Rattle.bd_restore.proofs.Meeting.{body_met, good_header, header_met, length_met}
 use Rattle.bd_restore.proofs.Reading.{IsStored, is_stored}
 use Rattle.bd_restore.proofs.Walking.{walks_unwanted, gives_unwanted, walks_wanted, gives_wanted}
 use Rattle.bd_restore.proofs.record.read_record.Goals as goal
@@ -38,10 +39,10 @@ returns-in_err-header-clause-damage g c =
     let at = c.args.at in
     let before = g.D.Disk.history c.args.disk.now in
     let now = g.D.Disk.history c.read_header.new.disk in
-    let owner = owner_bytes s piece.extents.now (contents before) in
-    record_damage (λ damage. g.D.Disk.tells → MetAt s c.args.version c.args.tables.now c.args.filled.now p at owner damage before now) c.in_err-header.field-0.0 c.from_residual.result c.from_residual.ensures.1 (λ damage is told.
-    header_met s c.args.version c.args.tables.now c.args.filled.now p at owner damage c.requires.from
-    (subst (λ f. AnswersHeader (header_at s p.who at (row_end p) owner) (Err f)) is (c.in_err-header.ensures.header told))
+    let image = contents before in
+    record_damage (λ damage. g.D.Disk.tells → MetAt s c.args.version c.args.tables.now c.args.filled.now p (spot_in s image p at) damage before now) c.in_err-header.field-0.0 c.from_residual.result c.from_residual.ensures.1 (λ damage is told.
+    header_met s image p at c.args.version c.args.tables.now c.args.filled.now damage c.requires.from
+    (subst (λ f. AnswersHeader (header_at s p.who at (row_end p) (owner_bytes s p.extents image)) (Err f)) is (c.in_err-header.ensures.header told))
     (subst (λ f. ReadsHeader s p.extents at (row_end p) before now (Err f)) is (c.in_err-header.ensures.places told)))
 
 pub overflow_add-next : goal.overflow_add-next
@@ -55,9 +56,16 @@ returns-then-not-wants-clause-writes g c = λ told. nothing_written c.read_heade
 
 pub returns-then-not-wants-clause-next : goal.returns-then-not-wants-clause-next
 returns-then-not-wants-clause-next g c = λ told.
-    let owner = owner_bytes (sizes_of c.args.shape.now) c.args.piece.now.extents.now (contents (g.D.Disk.history c.args.disk.now)) in
-    let st = is_stored (sizes_of c.args.shape.now) c.args.piece.now.who c.args.at (c.args.piece.now.from + c.args.piece.now.row.bytes) owner c.in_ok-header.header c.requires.from c.in_ok-header.ensures.within (c.in_ok-header.ensures.header told) in
-    ap (λ n. c.args.at + 36 + n) (c.from.ensures ∙ st.size)
+    let s = sizes_of c.args.shape.now in
+    let piece = c.args.piece.now in
+    let p = row_place piece.who piece.extents.now piece.from piece.row in
+    let image = contents (g.D.Disk.history c.args.disk.now) in
+    let h = c.in_ok-header.header in
+    let st : IsStored c.args.at (row_end p) (owner_bytes s p.extents image) h (spot_in s image p c.args.at).stored = is_stored s p.who c.args.at (row_end p) (owner_bytes s p.extents image) h c.requires.from c.in_ok-header.ensures.within (c.in_ok-header.ensures.header told) in
+    record {
+      good = good_header s image p c.args.at h c.in_ok-header.ensures.within (c.in_ok-header.ensures.header told);
+      ends = ap (λ n. c.args.at + 36 + n) (c.from.ensures ∙ st.size);
+    }
 
 pub returns-then-not-wants-clause-walk : goal.returns-then-not-wants-clause-walk
 returns-then-not-wants-clause-walk g c = λ told.
@@ -99,14 +107,14 @@ returns-in_err-read_body-clause-damage g c =
     let before = g.D.Disk.history c.args.disk.now in
     let between = g.D.Disk.history c.read_header.new.disk in
     let now = g.D.Disk.history c.read_body.new.disk in
-    let owner = owner_bytes s piece.extents.now (contents before) in
+    let image = contents before in
     let some : nat_lt (row_end p - at) 36 ≡ false = le-ltb (row_end p - at) 36 (omega (arith, c.in_ok-header.ensures.within)) in
-    record_damage (λ damage. g.D.Disk.tells → MetAt s c.args.version c.args.tables.now c.args.filled.now p at owner damage before now) c.in_err-read_body.field-0.0 c.from_residual-in_err-read_body.result c.from_residual-in_err-read_body.ensures.1 (λ damage is told.
+    record_damage (λ damage. g.D.Disk.tells → MetAt s c.args.version c.args.tables.now c.args.filled.now p (spot_in s image p at) damage before now) c.in_err-read_body.field-0.0 c.from_residual-in_err-read_body.result c.from_residual-in_err-read_body.ensures.1 (λ damage is told.
     let body = body_at h (owner_bytes s piece.extents.now (contents between)) in
     let answer : (damage ≡ BadBody p.who h.at h.mark (record { 0 = mark body })) × (mark body ≡ h.mark.0 → ⊥) = subst (λ f. AnswersBody p.who h body c.read_body.new.into (Err f)) is (c.in_err-read_body.ensures.body told) in
     let header : ReadsOnly (places_at s p.extents at 36) before between = subst (λ b. ReadsOnly (if b then [] else places_at s p.extents at 36) before between) some (c.in_ok-header.ensures.places told) in
     let rest : ReadsOnly (places_at s p.extents (h.at + 36) h.length) between now = subst (λ f. ReadsBody s p.extents h between now (Err f)) is (c.in_err-read_body.ensures.places told) in
-    body_met s c.args.version c.args.tables.now c.args.filled.now p at owner h (c.in_ok-header.ensures.header told) c.in_ok-header.ensures.within (λ seen flags. sym c.if-not-wants.false ∙ c.wants.ensures seen flags) damage body
+    body_met s image p at c.args.version c.args.tables.now c.args.filled.now h (c.in_ok-header.ensures.header told) c.in_ok-header.ensures.within (λ seen flags. sym c.if-not-wants.false ∙ c.wants.ensures seen flags) damage body
     (ap (λ i. body_at h (owner_bytes s piece.extents.now i)) (same_contents c.read_header.ensures.disk told)) answer.0 answer.1 (reads_both header rest))
 
 pub returns-in_err-put_everywhere-clause-damage : goal.returns-in_err-put_everywhere-clause-damage
@@ -121,14 +129,14 @@ returns-in_err-put_everywhere-clause-damage g c =
     let before = g.D.Disk.history c.args.disk.now in
     let between = g.D.Disk.history c.read_header.new.disk in
     let now = g.D.Disk.history c.read_body.new.disk in
-    let owner = owner_bytes s piece.extents.now (contents before) in
+    let image = contents before in
     let some : nat_lt (row_end p - at) 36 ≡ false = le-ltb (row_end p - at) 36 (omega (arith, c.in_ok-header.ensures.within)) in
     let size : length into ≡ h.length = search rules in
     same_damage (Unit {0}) (λ damage. (e : ℕ) × (m : Mark) × (damage ≡ BadLength c.args.version m e (length into)) × (m.0 ≡ h.mark.0) × (length into ≢ e) × HasEntry entries h.mark.0 e)
-    (λ damage. g.D.Disk.tells → MetAt s c.args.version entries c.args.filled.now p at owner damage before now) c.in_err-put_everywhere.field-0.0 c.from_residual-in_err-put_everywhere.result c.from_residual-in_err-put_everywhere.ensures.1 c.in_err-put_everywhere.ensures.damage (λ damage is told.
+    (λ damage. g.D.Disk.tells → MetAt s c.args.version entries c.args.filled.now p (spot_in s image p at) damage before now) c.in_err-put_everywhere.field-0.0 c.from_residual-in_err-put_everywhere.result c.from_residual-in_err-put_everywhere.ensures.1 c.in_err-put_everywhere.ensures.damage (λ damage is told.
     let header : ReadsOnly (places_at s p.extents at 36) before between = subst (λ b. ReadsOnly (if b then [] else places_at s p.extents at 36) before between) some (c.in_ok-header.ensures.places told) in
     let body : ReadsOnly (places_at s p.extents (h.at + 36) h.length) between now = c.in_ok-read_body.ensures.places told in
-    length_met s c.args.version entries c.args.filled.now p at owner h (c.in_ok-header.ensures.header told) c.in_ok-header.ensures.within (λ seen flags. sym c.if-not-wants.false ∙ c.wants.ensures seen flags) damage is.1 is.0 (length into)
+    length_met s image p at c.args.version entries c.args.filled.now h (c.in_ok-header.ensures.header told) c.in_ok-header.ensures.within (λ seen flags. sym c.if-not-wants.false ∙ c.wants.ensures seen flags) damage is.1 is.0 (length into)
     is.2 is.3 size is.4 is.5 (reads_both header body))
 
 pub returns-in_err-put_everywhere-clause-cause : goal.returns-in_err-put_everywhere-clause-cause
@@ -142,9 +150,16 @@ returns-clause-writes g c = λ told. made_both (nothing_written c.read_header.en
 
 pub returns-clause-next : goal.returns-clause-next
 returns-clause-next g c = λ told.
-    let owner = owner_bytes (sizes_of c.args.shape.now) c.args.piece.now.extents.now (contents (g.D.Disk.history c.args.disk.now)) in
-    let st = is_stored (sizes_of c.args.shape.now) c.args.piece.now.who c.args.at (c.args.piece.now.from + c.args.piece.now.row.bytes) owner c.in_ok-header.header c.requires.from c.in_ok-header.ensures.within (c.in_ok-header.ensures.header told) in
-    ap (λ n. c.args.at + 36 + n) (c.from.ensures ∙ st.size)
+    let s = sizes_of c.args.shape.now in
+    let piece = c.args.piece.now in
+    let p = row_place piece.who piece.extents.now piece.from piece.row in
+    let image = contents (g.D.Disk.history c.args.disk.now) in
+    let h = c.in_ok-header.header in
+    let st : IsStored c.args.at (row_end p) (owner_bytes s p.extents image) h (spot_in s image p c.args.at).stored = is_stored s p.who c.args.at (row_end p) (owner_bytes s p.extents image) h c.requires.from c.in_ok-header.ensures.within (c.in_ok-header.ensures.header told) in
+    record {
+      good = good_header s image p c.args.at h c.in_ok-header.ensures.within (c.in_ok-header.ensures.header told);
+      ends = ap (λ n. c.args.at + 36 + n) (c.from.ensures ∙ st.size);
+    }
 
 pub returns-clause-walk : goal.returns-clause-walk
 returns-clause-walk g c = λ told.

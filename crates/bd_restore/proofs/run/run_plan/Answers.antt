@@ -5,12 +5,13 @@ use Rattle.bd_disk.specs.History.{contents}
 use Rattle.bd_disk.specs.Trace.{ReadsOnly}
 use Rattle.bd_model.specs.declared.damage.Damage.TheVariants.{Missing}
 use Rattle.bd_files.specs.Files.{ChangesOnly}
-use Rattle.bd_catalog.specs.Damages.{IsOfRestore}
+use Rattle.bd_catalog.specs.Damages.{IsOfVersion}
+use Rattle.bd_catalog.specs.Rows.{spots_in, walk}
 use Rattle.bd_catalog.specs.Sound.{recipe_of, records_for}
-use Rattle.bd_recipe.specs.Reading.{recipe_places, total}
+use Rattle.bd_recipe.specs.Reading.{total}
 use Rattle.bd_restore.specs.Met.{IsNeeded, IsSeenAfter, IsWhole, MetOn}
 use Rattle.bd_restore.specs.Target.{held, flag_at, HasChunks, IsTarget}
-use Rattle.bd_restore.specs.Walk.{joined, spots_in, walk, walk_reads, AreFlags, AreGiven}
+use Rattle.bd_restore.specs.Walk.{joined, walk_reads, AreFlags, AreGiven}
 use Rattle.bd_restore.proofs.Finishing.{ok_of, flags_none, given_none, target_begun, all_given, all_marked, only_put}
 use Rattle.bd_restore.proofs.Joining.{damaged_by}
 use Rattle.bd_restore.proofs.Seeing.{met_needed, met_part, met_seen, met_whole, missing_seen, missing_whole}
@@ -34,8 +35,8 @@ returns-in_err-run_walk-clause-part g c =
     let new = g.D.Disk.history c.run_walk.new.disk in
     let image = contents old in
     let flags : AreFlags tables [] c.deref_mut.result.now = flags_none tables c.deref_mut.result.now (c.deref_mut.ensures.value ∙ c.into_parts-version.ensures.flags ∙ ap (λ es. replicate (length es) false) (sym c.into_parts-version.ensures.entries)) in
-    damaged_by (Unit {0}) (λ damage. g.D.Disk.tells → MetOn s v tables image c.deref_mut.result.now (walk cat v) damage old new) (λ damage. g.D.Disk.tells → IsOfRestore plan.version damage) c.in_err-run_walk.field-0.0 c.from_residual.result c.from_residual.ensures.1
-    (λ damage met told. subst (λ n. IsOfRestore n damage) c.into_parts-version.ensures.version (met_part s cat image v tables c.deref_mut.result.now damage old new flags (met told)))
+    damaged_by (Unit {0}) (λ damage. g.D.Disk.tells → MetOn s v tables image c.deref_mut.result.now (walk cat v) damage old new) (λ damage. g.D.Disk.tells → IsOfVersion plan.version damage) c.in_err-run_walk.field-0.0 c.from_residual.result c.from_residual.ensures.1
+    (λ damage met told. subst (λ n. IsOfVersion n damage) c.into_parts-version.ensures.version (met_part s cat image v tables c.deref_mut.result.now damage old new flags (met told)))
     c.in_err-run_walk.ensures.damage
 
 pub returns-in_err-run_walk-clause-needed : goal.returns-in_err-run_walk-clause-needed
@@ -64,8 +65,9 @@ returns-in_err-run_walk-clause-seen g c =
     let new = g.D.Disk.history c.run_walk.new.disk in
     let image = contents old in
     let flags : AreFlags tables [] c.deref_mut.result.now = flags_none tables c.deref_mut.result.now (c.deref_mut.ensures.value ∙ c.into_parts-version.ensures.flags ∙ ap (λ es. replicate (length es) false) (sym c.into_parts-version.ensures.entries)) in
-    damaged_by (Unit {0}) (λ damage. g.D.Disk.tells → MetOn s v tables image c.deref_mut.result.now (walk cat v) damage old new) (λ damage. g.D.Disk.tells → plan.entries ≡ recipe_of s cat image plan.version → IsSeenAfter (recipe_places s cat plan.version) s cat image damage old new) c.in_err-run_walk.field-0.0 c.from_residual.result c.from_residual.ensures.1
-    (λ damage met told is. met_seen s cat image v tables c.deref_mut.result.now damage old new flags (met told) (recipe_places s cat plan.version) c.shape-shape.ensures.rules)
+    damaged_by (Unit {0}) (λ damage. g.D.Disk.tells → MetOn s v tables image c.deref_mut.result.now (walk cat v) damage old new) (λ damage. g.D.Disk.tells → plan.entries ≡ recipe_of s cat image plan.version → IsSeenAfter s cat image plan.version damage old new) c.in_err-run_walk.field-0.0 c.from_residual.result c.from_residual.ensures.1
+    (λ damage met told is. subst (λ n. IsSeenAfter s cat image n damage old new) c.into_parts-version.ensures.version
+    (met_seen s cat image v tables c.deref_mut.result.now damage old new flags (met told) (c.into_parts-version.ensures.entries ∙ is ∙ ap (recipe_of s cat image) (sym c.into_parts-version.ensures.version))))
     c.in_err-run_walk.ensures.damage
 
 pub returns-in_err-run_walk-clause-whole : goal.returns-in_err-run_walk-clause-whole
@@ -103,7 +105,7 @@ returns-in-Some-clause-seen g c = λ told is.
     let same : tables ≡ recipe_of s cat image v = c.into_parts-version.ensures.entries ∙ is ∙ ap (recipe_of s cat image) (sym c.into_parts-version.ensures.version) in
     let more = walk_reads s tables [] (spots_in s image (walk cat v)) in
     let reads : ReadsOnly more old new = (c.in_ok-run_walk.ensures.walk told).reads [] flags in
-    subst (λ n. IsSeenAfter (recipe_places s cat n) s cat image (Missing v k c.entry.result.mark) old new) c.into_parts-version.ensures.version
+    subst (λ n. IsSeenAfter s cat image n (Missing v k c.entry.result.mark) old new) c.into_parts-version.ensures.version
     (missing_seen s cat image v tables c.run_walk.new.filled after k lt miss c.entry.result.mark more c.entry.ensures.mark same reads)
 
 pub returns-in-Some-clause-whole : goal.returns-in-Some-clause-whole

@@ -6,10 +6,11 @@ use Rattle.bd_disk.specs.History.{contents}
 use Rattle.bd_disk.proofs.Frames.{made_both, unchanged}
 use Rattle.bd_model.specs.Chunks.{numbers}
 use Rattle.bd_model.specs.Sizes.{Sizes, sizes_of}
+use Rattle.bd_catalog.specs.Rows.{RowPlace, begun_by, open_row, spots_in, volume_rows, walk}
 use Rattle.bd_catalog.specs.Shown.{open_entry}
 use Rattle.bd_restore.specs.Met.{MetOn}
 use Rattle.bd_restore.specs.Target.{held}
-use Rattle.bd_restore.specs.Walk.{RowPlace, begun_by, open_row, spots_in, volume_rows, walk, Gives, IsInRoom, Walks}
+use Rattle.bd_restore.specs.Walk.{Gives, IsInRoom, Walks}
 use Rattle.bd_restore.proofs.Finishing.{are_open}
 use Rattle.bd_restore.proofs.Joining.{damaged_by, gives_on, met_first, met_on, walks_on}
 use Rattle.bd_restore.proofs.run.run_walk.Goals as goal

@@ -5,9 +5,10 @@ use Rattle.bd_model.specs.Sizes.{sizes_of}
 use Rattle.bd_model.specs.declared.damage.Owner.TheVariants.{Volume}
 use Rattle.bd_model.specs.declared.layout.CategoryRow.{CategoryRow}
 use Rattle.bd_catalog.specs.Catalogue.{bytes_of_rows}
+use Rattle.bd_catalog.specs.Rows.{RowPlace, begun_by, row_place, rows_from}
 use Rattle.bd_restore.specs.Met.{MetOn}
 use Rattle.bd_restore.specs.Target.{held}
-use Rattle.bd_restore.specs.Walk.{RowPlace, begun_by, row_place, rows_from, IsInRoom}
+use Rattle.bd_restore.specs.Walk.{IsInRoom}
 use Rattle.bd_restore.proofs.Joining.{damaged_by, gives_on, met_on, owner_next, owner_place, owner_rest, owner_within, walks_on}
 use Rattle.bd_restore.proofs.Putting.{changes_both}
 use Rattle.bd_restore.proofs.volumes.run_volume.Goals as goal

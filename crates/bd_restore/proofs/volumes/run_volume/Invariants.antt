@@ -5,8 +5,9 @@ use Rattle.bd_files.specs.Files.{ChangesOnly}
 use Rattle.bd_model.specs.Sizes.{sizes_of}
 use Rattle.bd_model.specs.declared.damage.Owner.TheVariants.{Volume}
 use Rattle.bd_catalog.specs.Catalogue.{bytes_of_rows}
+use Rattle.bd_catalog.specs.Rows.{begun_by, rows_from, spots_in}
 use Rattle.bd_restore.specs.Target.{held, IsTarget}
-use Rattle.bd_restore.specs.Walk.{begun_by, rows_from, spots_in, Gives, Walks}
+use Rattle.bd_restore.specs.Walk.{Gives, Walks}
 use Rattle.bd_restore.proofs.volumes.run_volume.Given as goal
 
 abbrev pub invariant-loop-row : goal.invariant-loop-row

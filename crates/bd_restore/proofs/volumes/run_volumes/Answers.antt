@@ -7,11 +7,12 @@ use Rattle.bd_model.specs.Chunks.{numbers}
 use Rattle.bd_model.specs.Sizes.{Sizes, sizes_of}
 use Rattle.bd_model.specs.declared.damage.Owner.TheVariants.{Volume}
 use Rattle.bd_catalog.specs.Catalogue.{Catalogue, VolumeEntry, oldest_in}
+use Rattle.bd_catalog.specs.Rows.{begun_by, rows_from, spots_in, volume_rows}
 use Rattle.bd_catalog.specs.Rules.{obeys}
 use Rattle.bd_catalog.specs.Shown.{volume_entry}
 use Rattle.bd_restore.specs.Met.{MetOn}
 use Rattle.bd_restore.specs.Target.{held}
-use Rattle.bd_restore.specs.Walk.{begun_by, rows_from, spots_in, volume_rows, Gives, Walks}
+use Rattle.bd_restore.specs.Walk.{Gives, Walks}
 use Rattle.bd_restore.proofs.Finishing.{VolumeIs, oldest_some, volume_is}
 use Rattle.bd_restore.proofs.Joining.{damaged_by, gives_on, met_on, volumes_next, volumes_rest, walks_none, walks_on, gives_none}
 use Rattle.bd_restore.proofs.Putting.{changes_both, changes_none}

@@ -2,10 +2,11 @@ use Rattle.std.proofs.Common.{◌≡◌, ◌-◌}
 use Rattle.std.specs.List.{flat_map, range_with_len}
 use Rattle.bd_disk.specs.History.{contents}
 use Rattle.bd_disk.specs.Made.{WritesNothing}
+use Rattle.bd_catalog.specs.Rows.{begun_by, spots_in, volume_rows}
 use Rattle.bd_files.specs.Files.{ChangesOnly}
 use Rattle.bd_model.specs.Sizes.{sizes_of}
 use Rattle.bd_restore.specs.Target.{held, IsTarget}
-use Rattle.bd_restore.specs.Walk.{begun_by, spots_in, volume_rows, Gives, Walks}
+use Rattle.bd_restore.specs.Walk.{Gives, Walks}
 use Rattle.bd_restore.proofs.volumes.run_volumes.Given as goal
 
 abbrev pub invariant-loop-number : goal.invariant-loop-number
