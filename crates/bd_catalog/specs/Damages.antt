@@ -53,19 +53,23 @@ IsBadBody s p x recorded found places =
 -- the headers of the row hold, and its records take another number of bytes than it has
 abbrev pub IsBadRow : Sizes → List ℕ → RowPlace → ℕ → List ℕ → Type 0
 IsBadRow s image p found places =
-    IsTrue (list_all (header_holds s p) (row_spots s image p)) × (found ≡ sum_by (λ x. 36 + x.stored.length) (row_spots s image p)) × (found ≢ p.row.bytes) × (places ≡ flat_map (header_places s) (row_spots s image p))
+    IsTrue (list_all (header_holds s p) (row_spots s image p))
+    × (found ≡ sum_by (λ x. 36 + x.stored.length) (row_spots s image p)) × (found ≢ p.row.bytes)
+    × (places ≡ flat_map (header_places s) (row_spots s image p))
 
 -- the records with the entry's mark whose length isn't the entry's
 abbrev pub unlike : RecipeEntry → List Spot → List Spot
 unlike e spots = filter (λ x. bytes_eq x.stored.mark e.mark.0 && not (x.stored.length == e.length)) spots
 
--- The damage names the bytes at these places, and they break its rule. That of a header, body or row is in one of these
--- rows, that of a recipe is among the records where a restore of its version looks.
+-- The damage names the bytes at these places, and they break its rule. A header, a body and a row are of one of these rows;
+-- the records that an entry is held against are those where a restore of its version looks.
 abbrev pub BreaksRule : Sizes → Catalogue → List ℕ → List RowPlace → Damage → List ℕ → Type 0
 BreaksRule s c image rows (Entry v index said start) places =
-    (e : RecipeEntry) × (slice_get (recipe_of s c image v) index ≡ Some e) × (e.length ≡ said) × (e.start ≡ start) × IsFalse (entry_holds s c v e) × (places ≡ entry_places s c v index)
+    (e : RecipeEntry) × (slice_get (recipe_of s c image v) index ≡ Some e) × (e.length ≡ said) × (e.start ≡ start) × IsFalse (entry_holds s c v e)
+    × (places ≡ entry_places s c v index)
 BreaksRule s c image rows (Sum v recorded found) places =
-    IsTrue (list_all (entry_holds s c v) (recipe_of s c image v)) × (recorded ≡ slice_index_or (map (λ e. e.length) c.versions) (v - oldest_in c) 0) × (found ≡ sum_by (λ e. e.length) (recipe_of s c image v)) × (found ≢ recorded)
+    IsTrue (list_all (entry_holds s c v) (recipe_of s c image v)) × (recorded ≡ slice_index_or (map (λ e. e.length) c.versions) (v - oldest_in c) 0)
+    × (found ≡ sum_by (λ e. e.length) (recipe_of s c image v)) × (found ≢ recorded)
     × (places ≡ places_at s (recipe_extents c v) 0 (40 * length (recipe_of s c image v)))
 BreaksRule s c image rows (Header who at said left) places =
     (p : RowPlace) × (x : Spot) × IsRecordOf s image rows who at p x × IsBadHeader s p x said left places
@@ -77,7 +81,8 @@ BreaksRule s c image rows (Length v m recorded found) places =
     (e : RecipeEntry) × (x : Spot) × Contains (recipe_of s c image v) e × (e.mark ≡ m) × (e.length ≡ recorded)
     × (slice_get (unlike e (spots_in s image (walk c v))) 0 ≡ Some x) × (x.stored.length ≡ found) × (places ≡ record_places s x)
 BreaksRule s c image rows (Missing v index m) places =
-    (e : RecipeEntry) × (slice_get (recipe_of s c image v) index ≡ Some e) × (e.mark ≡ m) × (with_mark m.0 (records_for s c image v) ≡ []) × (places ≡ entry_places s c v index)
+    (e : RecipeEntry) × (slice_get (recipe_of s c image v) index ≡ Some e) × (e.mark ≡ m) × (with_mark m.0 (records_for s c image v) ≡ [])
+    × (places ≡ entry_places s c v index)
 
 -- a damage of a recipe is of this version's
 abbrev pub IsOfVersion : ℕ → Damage → Type 0

@@ -33,7 +33,8 @@ BreaksAt s v entries seen p x (Header who at said left) places = (p.who ≡ who)
 BreaksAt s v entries seen p x (Body who at recorded found) places =
     (p.who ≡ who) × (x.at ≡ at) × IsBadBody s p x recorded found places × IsTrue (has_mark entries recorded.0)
 BreaksAt s v entries seen p x (Length u m recorded found) places =
-    (u ≡ v) × HasEntry entries m.0 recorded × (x.stored.mark ≡ m.0) × (x.stored.length ≡ found) × (found ≢ recorded) × IsFalse (is_found seen m.0) × (places ≡ record_places s x)
+    (u ≡ v) × HasEntry entries m.0 recorded × (x.stored.mark ≡ m.0) × (x.stored.length ≡ found) × (found ≢ recorded) × IsFalse (is_found seen m.0)
+    × (places ≡ record_places s x)
 BreaksAt s v entries seen p x (Entry u index said start) places = ⊥
 BreaksAt s v entries seen p x (Sum u recorded found) places = ⊥
 BreaksAt s v entries seen p x (Row who start recorded found) places = ⊥
