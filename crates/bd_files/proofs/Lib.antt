@@ -1,2 +1,4 @@
 pub mod FileLemmas
 pub mod TableLemmas
+pub mod TextLemmas
+pub mod SinkLemmas

@@ -1,9 +1,10 @@
 -- What contracts see of files and of a sink in memory.
 use Rattle.std.specs.Prelude.{◌≡◌, ◌⊎◌, ◌+◌, ℕ, List, [], Option, Some, None, Result, OnOk, OnErr, refl}
-use Rattle.std.specs.Coded.{Coded, code_by, coded_ℕ, coded_option, coded×}
+use Rattle.std.specs.Coded.{Coded, code_by, coded_ℕ, coded_list, coded_option, coded×}
 use Rattle.std.specs.FinMap as map
 use Rattle.bd_model.specs.FileMap.{FileMap}
 use Rattle.bd_disk.specs.Calls.{one_more}
+use Rattle.bd_files.specs.Sinks.{Handed}
 use Rattle.bd_files.specs.Table.{coded_files}
 
 -- how many calls of a kind were made, the one that is set to fail, and how many failed
@@ -33,16 +34,15 @@ pub record CountsRefused {T E : Type 0} (calls : CallCount) (old new : ℕ) (res
   pub set : FailsNext calls → new ≡ old
   pub ok : OnOk result (new ≡ old)
 
--- what was written, at which moments, by which calls, and how often no room was given
+-- what was handed on, by which calls, and how often no room was given
 pub record SinkState : Type 0 where
-  pub written : List ℕ
-  pub moments : List ℕ
+  pub handed : List Handed
   pub puts : CallCount
   pub refused : ℕ
 
--- nothing was written, and no fault is to come
+-- nothing was handed on, and no fault is to come
 abbrev pub empty_sink : SinkState
-empty_sink = record { written = []; moments = []; puts = no_call; refused = 0 }
+empty_sink = record { handed = []; puts = no_call; refused = 0 }
 
 -- what is under each name, by which calls, how often a name was missing, and how often no room was given
 pub record FilesState : Type 0 where
@@ -56,7 +56,10 @@ pub record FilesState : Type 0 where
 abbrev pub no_files : FilesState
 no_files = record { files = map.empty; fetches = no_call; targets = no_call; strays = 0; refused = 0 }
 
--- both are told apart by their fields
+-- these are told apart by their fields
+abbrev pub coded_handed : Coded (List Handed)
+coded_handed = coded_list (code_by (Option ℕ × List ℕ) (coded× (coded_option coded_ℕ) (coded_list coded_ℕ)) (λ h. (h.moment, h.bytes)) (λ p. record { moment = p.0; bytes = p.1 }) (λ h. refl))
+
 abbrev pub coded_calls : Coded CallCount
 coded_calls = code_by (ℕ × (Option ℕ × ℕ)) (coded× coded_ℕ (coded× (coded_option coded_ℕ) coded_ℕ)) (λ c. (c.made, (c.failing, c.faults))) (λ p. record { made = p.0; failing = p.1.0; faults = p.1.1 }) (λ c. refl)
 

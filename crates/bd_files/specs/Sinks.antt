@@ -1,12 +1,32 @@
 -- What a sink was given.
-use Rattle.std.specs.Prelude.{◌≡◌, ℕ, List, [], ◌∷◌, ◌++◌, take}
+use Rattle.std.specs.Prelude.{◌≡◌, ◌⊎◌, ℕ, List, [], ◌∷◌, ◌++◌, take, Option, Some, None}
+use Rattle.std.specs.List.{flat_map, filter_map}
 
--- the bytes so far stay, and a first part of these follows, all of them or fewer
-pub record WritesPart (bytes old new : List ℕ) : Type 0 where
-  pub count : ℕ
-  pub so : new ≡ old ++ take count bytes
+-- a text that was taken whole, with its moment, or the part that a failed put took, with none
+pub record Handed : Type 0 where
+  pub moment : Option ℕ
+  pub bytes : List ℕ
 
--- one moment more, of a disk that needn't tell it
-pub record NotesOne (old new : List ℕ) : Type 0 where
-  pub moment : ℕ
-  pub so : new ≡ old ++ moment ∷ []
+abbrev pub whole : ℕ → List ℕ → Handed
+whole moment bytes = record { moment = Some moment; bytes = bytes }
+
+abbrev pub part : List ℕ → Handed
+part bytes = record { moment = None; bytes = bytes }
+
+-- all bytes that were taken
+abbrev pub written_of : List Handed → List ℕ
+written_of handed = flat_map (λ h. h.bytes) handed
+
+-- the moments of the texts that were taken whole
+abbrev pub moments_of : List Handed → List ℕ
+moments_of handed = filter_map (λ h. h.moment) handed
+
+-- one text more, whole: its moment is this one where the disk tells it
+pub record HandsOn (disk_tells : Type 0) (moment : ℕ) (bytes : List ℕ) (old new : List Handed) : Type 0 where
+  pub noted : ℕ
+  pub is : disk_tells → noted ≡ moment
+  pub so : new ≡ old ++ whole noted bytes ∷ []
+
+-- nothing more, or a first part of the bytes
+pub record HandsPart (bytes : List ℕ) (old new : List Handed) : Type 0 where
+  pub so : (new ≡ old) ⊎ ((count : ℕ) × (new ≡ old ++ part (take count bytes) ∷ []))

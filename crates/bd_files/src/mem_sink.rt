@@ -1,20 +1,20 @@
-ghost use Rattle.std.specs.Prelude.{◌≡◌, ◌↔◌, ◌⊎◌, [], ◌∷◌, ◌++◌, OnOk, OnErr, IsErr, Some};
+ghost use Rattle.std.specs.Prelude.{◌≡◌, ◌↔◌, ◌⊎◌, OnOk, OnErr, IsErr, Some};
 ghost use Rattle.bd_disk.specs.Calls.{HasCause, Rose};
 ghost use Rattle.bd_disk.specs.History.{clock};
 ghost use Rattle.bd_files.specs.Fakes.{Counts, CountsRefused, FailsNext, empty_sink};
-ghost use Rattle.bd_files.specs.Sinks.{NotesOne, WritesPart};
+ghost use Rattle.bd_files.specs.Sinks.{HandsOn, HandsPart, moments_of, written_of};
 
 use crate::Sink;
 use crate::calls::Calls;
+use crate::texts::Texts;
 use bd_disk::{Disk, Failed};
-use std::alloc::{AllocError, Global};
+use std::alloc::Global;
 use std::marker::Model;
 
 /// A sink in memory, which tells everything.
 #[derive(Drop)]
 pub struct MemSink {
-    written: Vec<u8>,
-    moments: Vec<u64>,
+    texts: Texts,
     puts: Calls,
     refused: u64,
 }
@@ -24,25 +24,7 @@ impl Model for MemSink {
 
     ghost Value = { SinkState };
 
-    ghost view = { λ s. record { written = s.written.items; moments = s.moments.items; puts = record { made = s.puts.made; failing = s.puts.failing; faults = s.puts.faults }; refused = s.refused } };
-}
-
-// Takes both, or neither.
-fn note(
-    written: &mut Vec<u8>,
-    moments: &mut Vec<u64>,
-    bytes: &[u8],
-    moment: u64,
-) -> Result<(), AllocError>
-    ensures written { OnOk result (written.new.items ≡ written.old.items ++ bytes.now) }
-    ensures moments { OnOk result (moments.new.items ≡ moments.old.items ++ moment ∷ []) }
-    ensures err_written { OnErr result (written.new.items ≡ written.old.items) }
-    ensures err_moments { OnErr result (moments.new.items ≡ moments.old.items) }
-{
-    moments.reserve(1)?;
-    written.extend_from_slice(bytes)?;
-    let _ = moments.push(moment);
-    Ok(())
+    ghost view = { λ s. record { handed = s.texts; puts = record { made = s.puts.made; failing = s.puts.failing; faults = s.puts.faults }; refused = s.refused } };
 }
 
 impl MemSink {
@@ -51,8 +33,7 @@ impl MemSink {
         ensures { result ≡ empty_sink }
     {
         MemSink {
-            written: Vec::new(alloc),
-            moments: Vec::new(alloc),
+            texts: Texts::new(alloc),
             puts: Calls::new(),
             refused: 0,
         }
@@ -60,16 +41,16 @@ impl MemSink {
 
     /// All bytes that were taken.
     pub fn written(&self) -> &[u8]
-        ensures { result.now ≡ self.now.written }
+        ensures { result.now ≡ written_of self.now.handed }
     {
-        self.written.as_slice()
+        self.texts.written()
     }
 
     /// The clock of the disk at each put that answered Ok.
     pub fn moments(&self) -> &[u64]
-        ensures { result.now ≡ self.now.moments }
+        ensures { result.now ≡ moments_of self.now.handed }
     {
-        self.moments.as_slice()
+        self.texts.moments()
     }
 
     /// How often no room was given for a put.
@@ -92,30 +73,25 @@ impl Sink for MemSink {
 
     ghost takes = { λ disks history. Unit {0} };
 
-    ghost written = { λ s. s.written };
-
-    ghost moments = { λ s. s.moments };
+    ghost handed = { λ s. s.handed };
 
     ghost faults = { λ s. s.puts.faults };
 
     fn put<D: Disk>(&mut self, disk: &D, bytes: &[u8]) -> Result<(), Failed>
         ensures cause { HasCause self.old.puts.faults self.new.puts.faults result }
-        ensures ok { OnOk result (self.new.written ≡ self.old.written ++ bytes.now) }
-        ensures moment { OnOk result (D.tells → self.new.moments ≡ self.old.moments ++ clock (D.history disk.now) ∷ []) }
-        ensures one { OnOk result (NotesOne self.old.moments self.new.moments) }
-        ensures part { WritesPart bytes.now self.old.written self.new.written }
-        ensures err { OnErr result (self.new.moments ≡ self.old.moments) }
+        ensures ok { OnOk result (HandsOn D.tells (clock (D.history disk.now)) bytes.now self.old.handed self.new.handed) }
+        ensures part { OnErr result (HandsPart bytes.now self.old.handed self.new.handed) }
 
         // It fails where it was set to, or where no room is given, and then takes nothing.
         ensures fails { IsErr result ↔ (FailsNext self.old.puts ⊎ Rose self.old.refused self.new.refused) }
-        ensures unwritten { OnErr result (self.new.written ≡ self.old.written) }
+        ensures unwritten { OnErr result (self.new.handed ≡ self.old.handed) }
         ensures counts { Counts self.old.puts self.new.puts result }
         ensures refused { CountsRefused self.old.puts self.old.refused self.new.refused result }
     {
         if self.puts.count() || self.refused == u64::MAX {
             return Err(self.puts.fail());
         }
-        match note(&mut self.written, &mut self.moments, bytes, disk.clock()) {
+        match self.texts.add(bytes, disk.clock()) {
             Ok(()) => Ok(()),
             Err(_) => {
                 self.refused += 1;

@@ -36,9 +36,7 @@ impl Sink for StdSink {
 
     ghost takes = { λ disks history. Unit {0} };
 
-    ghost written = { λ s. [] };
-
-    ghost moments = { λ s. [] };
+    ghost handed = { λ s. [] };
 
     ghost faults = { λ s. s };
 

@@ -1,5 +1,6 @@
 -- The program's headline, over a list of commands.
 use Rattle.std.specs.Prelude.{◌≡◌, ℕ, ◌-◌, ◌^◌, ◌<◌, List, ◌++◌}
+use Rattle.bd_files.specs.Sinks.{Handed, written_of}
 use Rattle.bd_model.specs.declared.shape.Shape.{Shape}
 use Rattle.bd_model.specs.State.{VersionState}
 use Rattle.mfdedup.specs.Course.{Course}
@@ -18,5 +19,5 @@ pub record MeetsTheHeadline (shape : Shape) (st : VersionState) (begun : ℕ) (c
   pub reads : ReadsInCourse shape st begun c
 
 -- where the sink took all, it was given these bytes
-pub record Puts (faults_before faults_now : ℕ) (before now text : List ℕ) : Type 0 where
-  pub so : faults_now ≡ faults_before → faults_now < 2 ^ 64 - 1 → now ≡ before ++ text
+pub record Puts (faults_before faults_now : ℕ) (before now : List Handed) (text : List ℕ) : Type 0 where
+  pub so : faults_now ≡ faults_before → faults_now < 2 ^ 64 - 1 → written_of now ≡ written_of before ++ text

@@ -2,6 +2,7 @@ ghost use Rattle.std.specs.Prelude.{◌≡◌, ◌++◌, ℕ, OnOk, replicate};
 ghost use Rattle.std.specs.FinMap as map;
 ghost use Rattle.bd_disk.specs.Calls.{HasCause};
 ghost use Rattle.bd_files.specs.Files.{ChangesOnly};
+ghost use Rattle.bd_files.specs.Sinks.{moments_of};
 ghost use Rattle.bd_model.specs.Texts.{texts};
 ghost use Rattle.mfdedup.specs.Counts.{all_counts, EndsOnlyByCount};
 ghost use Rattle.mfdedup.specs.Fits.{IsOfFormat};
@@ -23,8 +24,8 @@ pub fn format<D: Disk, O: Sink>(alloc: Global, shape: Shape, disk: &mut D, out: 
     requires takes { O.tells → D.tells → O.takes D D.history }
     ensures bytes { D.bytes disk.new ≡ D.bytes disk.old }
     ensures cause { (sources : ℕ) → (targets : ℕ) → EndsOnlyByCount result.end (all_counts (D.faults disk.old) sources targets (O.faults out.old)) (all_counts (D.faults disk.new) sources targets (O.faults out.new)) }
-    ensures written { O.tells → Puts (O.faults out.old) (O.faults out.new) (O.written out.old) (O.written out.new) (texts result.answers.items) }
-    ensures moments { O.tells → D.tells → O.moments out.new ≡ O.moments out.old ++ result.clocks.items }
+    ensures written { O.tells → Puts (O.faults out.old) (O.faults out.new) (O.handed out.old) (O.handed out.new) (texts result.answers.items) }
+    ensures moments { O.tells → D.tells → moments_of (O.handed out.new) ≡ moments_of (O.handed out.old) ++ result.clocks.items }
     ensures ends { IsOfFormat result.end }
     ensures format { D.tells → Formats shape (D.bytes disk.old) result.end result.clocks.items (D.history disk.old) (D.history disk.new) }
 {
@@ -60,8 +61,8 @@ pub fn blank<D: Disk, F: Files, O: Sink>(
 ) -> Progress
     requires takes { O.tells → D.tells → O.takes D D.history }
     ensures cause { EndsOnlyByCount result.end (all_counts (D.faults disk.now) (F.source_faults files.old) (F.target_faults files.old) (O.faults out.old)) (all_counts (D.faults disk.now) (F.source_faults files.new) (F.target_faults files.new) (O.faults out.new)) }
-    ensures written { O.tells → Puts (O.faults out.old) (O.faults out.new) (O.written out.old) (O.written out.new) (texts result.answers.items) }
-    ensures moments { O.tells → D.tells → O.moments out.new ≡ O.moments out.old ++ result.clocks.items }
+    ensures written { O.tells → Puts (O.faults out.old) (O.faults out.new) (O.handed out.old) (O.handed out.new) (texts result.answers.items) }
+    ensures moments { O.tells → D.tells → moments_of (O.handed out.new) ≡ moments_of (O.handed out.old) ++ result.clocks.items }
     ensures strays { F.tells → F.strays files.new ≡ F.strays files.old }
     ensures ends { EndsBlank result.end }
     ensures blank { F.tells → Blanks name.now length result.end (F.files files.old) (F.files files.new) }

@@ -1,6 +1,7 @@
 ghost use Rattle.std.specs.Prelude.{◌≡◌, ◌⊎◌, ◌≤◌, ◌++◌, [], ◌∷◌, ℕ, List, true, false, map, string_bytes, Some};
 ghost use Rattle.bd_disk.specs.History.{History, clock, contents};
 ghost use Rattle.bd_disk.specs.Made.{WritesOnly};
+ghost use Rattle.bd_files.specs.Sinks.{moments_of};
 ghost use Rattle.bd_model.specs.Sizes.{disk_bytes};
 ghost use Rattle.bd_model.specs.State.{VersionState};
 ghost use Rattle.bd_model.specs.Texts.{texts};
@@ -62,8 +63,8 @@ pub fn session<D: Disk, F: Files, O: Sink>(
     ensures commands { result.commands.items ≡ command.now ∷ [] }
     ensures files { F.tells → KeepsFiles command.now (F.files files.old) (F.files files.new) }
     ensures writes { D.tells → WritesOnly (λ place. 64 ≤ place) (D.history disk.old) (D.history disk.new) }
-    ensures written { O.tells → Puts (O.faults out.old) (O.faults out.new) (O.written out.old) (O.written out.new) (texts result.answers.items) }
-    ensures moments { O.tells → D.tells → O.moments out.new ≡ O.moments out.old ++ result.clocks.items }
+    ensures written { O.tells → Puts (O.faults out.old) (O.faults out.new) (O.handed out.old) (O.handed out.new) (texts result.answers.items) }
+    ensures moments { O.tells → D.tells → moments_of (O.handed out.new) ≡ moments_of (O.handed out.old) ++ result.clocks.items }
     ensures strays { F.tells → StraysOnlyFor (command.now ∷ []) (F.files files.new) (F.strays files.old) (F.strays files.new) }
     // Over an honest disk, while no two different chunks given have one mark.
     ensures headline { D.tells → F.tells → (shape : Shape) → (st : VersionState) → IsPromised shape st (D.history disk.old) (F.files files.old) (tried (command.now ∷ []) result.answers.items) → MeetsTheHeadline shape st (clock (D.history disk.old)) (course_of result (D.history disk.old) (D.history disk.new) (F.files files.old) (F.files files.new)) }
@@ -91,8 +92,8 @@ pub fn run_command<D: Disk, F: Files, O: Sink>(
     ensures cause { EndsOnlyByCount result.end (all_counts (D.faults disk.old) (F.source_faults files.old) (F.target_faults files.old) (O.faults out.old)) (all_counts (D.faults disk.new) (F.source_faults files.new) (F.target_faults files.new) (O.faults out.new)) }
     ensures files { F.tells → KeepsFiles command.now (F.files files.old) (F.files files.new) }
     ensures writes { D.tells → WritesOnly (λ place. 64 ≤ place) (D.history disk.old) (D.history disk.new) }
-    ensures written { O.tells → Puts (O.faults out.old) (O.faults out.new) (O.written out.old) (O.written out.new) (texts result.answers.items) }
-    ensures moments { O.tells → D.tells → O.moments out.new ≡ O.moments out.old ++ result.clocks.items }
+    ensures written { O.tells → Puts (O.faults out.old) (O.faults out.new) (O.handed out.old) (O.handed out.new) (texts result.answers.items) }
+    ensures moments { O.tells → D.tells → moments_of (O.handed out.new) ≡ moments_of (O.handed out.old) ++ result.clocks.items }
     ensures strays { F.tells → StraysOnlyFor (command.now ∷ []) (F.files files.new) (F.strays files.old) (F.strays files.new) }
     ensures fits { IsOfOpening result.end ⊎ IsOfCommand command.now result.end }
     ensures opening { D.tells → OpensBy (opened (contents (D.history disk.old))) result.end }
@@ -123,8 +124,8 @@ fn run_asked<D: Disk, F: Files, O: Sink>(
     ensures unbuilt { (command : Asked) → commands.now.items ≡ command ∷ [] → is_built command ≡ false → (result.end ≡ Unbuilt) × ((disk.new ≡ disk.old) × (files.new ≡ files.old)) }
     ensures files { F.tells → (command : Asked) → commands.now.items ≡ command ∷ [] → KeepsFiles command (F.files files.old) (F.files files.new) }
     ensures writes { D.tells → WritesOnly (λ place. 64 ≤ place) (D.history disk.old) (D.history disk.new) }
-    ensures written { O.tells → Puts (O.faults out.old) (O.faults out.new) (O.written out.old) (O.written out.new) (texts result.answers.items) }
-    ensures moments { O.tells → D.tells → O.moments out.new ≡ O.moments out.old ++ result.clocks.items }
+    ensures written { O.tells → Puts (O.faults out.old) (O.faults out.new) (O.handed out.old) (O.handed out.new) (texts result.answers.items) }
+    ensures moments { O.tells → D.tells → moments_of (O.handed out.new) ≡ moments_of (O.handed out.old) ++ result.clocks.items }
     ensures strays { F.tells → (command : Asked) → commands.now.items ≡ command ∷ [] → StraysOnlyFor (command ∷ []) (F.files files.new) (F.strays files.old) (F.strays files.new) }
     ensures fits { (command : Asked) → commands.now.items ≡ command ∷ [] → FitsWords (ToRun command) result.end }
     ensures opening { D.tells → (command : Asked) → commands.now.items ≡ command ∷ [] → is_built command ≡ true → OpensBy (opened (contents (D.history disk.old))) result.end }
@@ -155,8 +156,8 @@ fn act<D: Disk, F: Files, O: Sink>(
     ensures bytes { D.bytes disk.new ≡ D.bytes disk.old }
     ensures cause { EndsOnlyByCount result.end (all_counts (D.faults disk.old) (F.source_faults files.old) (F.target_faults files.old) (O.faults out.old)) (all_counts (D.faults disk.new) (F.source_faults files.new) (F.target_faults files.new) (O.faults out.new)) }
     ensures words { (reading : Reading) → AsksFor reading (Some request.now) → (ending : Ended) → end_by_words reading ≡ Some ending → (result.end ≡ ending) × ((disk.new ≡ disk.old) × (files.new ≡ files.old)) }
-    ensures written { O.tells → Puts (O.faults out.old) (O.faults out.new) (O.written out.old) (O.written out.new) (texts result.answers.items) }
-    ensures moments { O.tells → D.tells → O.moments out.new ≡ O.moments out.old ++ result.clocks.items }
+    ensures written { O.tells → Puts (O.faults out.old) (O.faults out.new) (O.handed out.old) (O.handed out.new) (texts result.answers.items) }
+    ensures moments { O.tells → D.tells → moments_of (O.handed out.new) ≡ moments_of (O.handed out.old) ++ result.clocks.items }
     ensures disk { D.tells → (reading : Reading) → AsksFor reading (Some request.now) → MeetsOnDisk reading (D.bytes disk.old) result.end result.clocks.items (D.history disk.old) (D.history disk.new) }
     ensures files { F.tells → (reading : Reading) → AsksFor reading (Some request.now) → MeetsOnFiles reading result.end (F.files files.old) (F.files files.new) }
     ensures strays { F.tells → (reading : Reading) → AsksFor reading (Some request.now) → StraysOnlyByWords reading (F.files files.new) (F.strays files.old) (F.strays files.new) }
@@ -186,8 +187,8 @@ fn report<D: Disk, O: Sink>(
     ensures request { result.request ≡ request }
     ensures progress { progress_of result ≡ progress }
     ensures status { result.status ≡ status_of progress.end progress.answers.items }
-    ensures written { O.tells → Puts (O.faults out.old) (O.faults out.new) (O.written out.old) (O.written out.new) (end_text progress.end) }
-    ensures moments { O.tells → (more : List ℕ) × (O.moments out.new ≡ O.moments out.old ++ more) }
+    ensures written { O.tells → Puts (O.faults out.old) (O.faults out.new) (O.handed out.old) (O.handed out.new) (end_text progress.end) }
+    ensures moments { O.tells → (more : List ℕ) × (moments_of (O.handed out.new) ≡ moments_of (O.handed out.old) ++ more) }
 {
     put_end(&progress.end, disk, out);
     Report {
@@ -215,8 +216,8 @@ pub fn run<D: Disk, F: Files, O: Sink>(
     ensures request { (result.end ≡ OutOfMemory) ⊎ AsksFor (reading (map string_bytes words.now)) result.request }
     // Words that ask for nothing that is built end so, over any disk, and touch nothing.
     ensures words { (ending : Ended) → end_by_words (reading (map string_bytes words.now)) ≡ Some ending → ((result.end ≡ ending) ⊎ (result.end ≡ OutOfMemory)) × ((disk.new ≡ disk.old) × (files.new ≡ files.old)) }
-    ensures written { O.tells → Puts (O.faults out.old) (O.faults out.new) (O.written out.old) (O.written out.new) (texts result.answers.items ++ end_text result.end) }
-    ensures moments { O.tells → D.tells → (more : List ℕ) × NotedBy (O.moments out.old) (O.moments out.new) result.clocks.items more }
+    ensures written { O.tells → Puts (O.faults out.old) (O.faults out.new) (O.handed out.old) (O.handed out.new) (texts result.answers.items ++ end_text result.end) }
+    ensures moments { O.tells → D.tells → (more : List ℕ) × NotedBy (moments_of (O.handed out.old)) (moments_of (O.handed out.new)) result.clocks.items more }
     ensures disk { D.tells → MeetsOnDisk (reading (map string_bytes words.now)) (D.bytes disk.old) result.end result.clocks.items (D.history disk.old) (D.history disk.new) }
     ensures files { F.tells → MeetsOnFiles (reading (map string_bytes words.now)) result.end (F.files files.old) (F.files files.new) }
     ensures strays { F.tells → StraysOnlyByWords (reading (map string_bytes words.now)) (F.files files.new) (F.strays files.old) (F.strays files.new) }

@@ -1,6 +1,7 @@
-ghost use Rattle.std.specs.Prelude.{◌≡◌, ◌≤◌, [], ◌∷◌, ◌++◌, ℕ, List, IfOk, OnOk, OnErr, Err};
+ghost use Rattle.std.specs.Prelude.{◌≡◌, ◌≤◌, [], ◌++◌, ℕ, List, IfOk, OnOk, OnErr, Err};
 ghost use Rattle.bd_disk.specs.Calls.{Rose};
 ghost use Rattle.bd_disk.specs.History.{clock};
+ghost use Rattle.bd_files.specs.Sinks.{HandsOn, HandsPart, moments_of};
 ghost use Rattle.bd_model.specs.Texts.{answer_text, texts};
 ghost use Rattle.mfdedup.specs.Statuses.{end_text};
 ghost use Rattle.mfdedup.specs.Telling.{EndsBySink, NotesAnswer, ToldByCount};
@@ -31,10 +32,8 @@ fn put_text<D: Disk, O: Sink>(disk: &D, out: &mut O, text: &[u8]) -> Result<u64,
     ensures failed { OnErr result (Rose (O.faults out.old) (O.faults out.new)) }
     ensures output { OnErr result (result ≡ Err Untold.Output) }
     ensures moment { IfOk result (λ moment. D.tells → moment ≡ clock (D.history disk.now)) }
-    ensures noted { IfOk result (λ moment. O.tells → D.tells → O.moments out.new ≡ O.moments out.old ++ moment ∷ []) }
-    ensures written { OnOk result (O.tells → O.written out.new ≡ O.written out.old ++ text.now) }
-    ensures err { OnErr result (O.tells → O.moments out.new ≡ O.moments out.old) }
-    ensures later_moments { O.tells → (more : List ℕ) × (O.moments out.new ≡ O.moments out.old ++ more) }
+    ensures put { IfOk result (λ moment. O.tells → HandsOn D.tells moment text.now (O.handed out.old) (O.handed out.new)) }
+    ensures part { OnErr result (O.tells → HandsPart text.now (O.handed out.old) (O.handed out.new)) }
 {
     match tell(disk, out, text) {
         Ok(moment) => Ok(moment),
@@ -53,9 +52,8 @@ fn tell_answer<D: Disk, O: Sink>(
     ensures later { O.faults out.old ≤ O.faults out.new }
     ensures cause { ToldByCount answer.now result (O.faults out.old) (O.faults out.new) }
     ensures moment { IfOk result (λ moment. D.tells → moment ≡ clock (D.history disk.now)) }
-    ensures noted { IfOk result (λ moment. O.tells → D.tells → O.moments out.new ≡ O.moments out.old ++ moment ∷ []) }
-    ensures written { OnOk result (O.tells → O.written out.new ≡ O.written out.old ++ answer_text answer.now) }
-    ensures err { OnErr result (O.tells → O.moments out.new ≡ O.moments out.old) }
+    ensures put { IfOk result (λ moment. O.tells → HandsOn D.tells moment (answer_text answer.now) (O.handed out.old) (O.handed out.new)) }
+    ensures part { OnErr result (O.tells → HandsPart (answer_text answer.now) (O.handed out.old) (O.handed out.new)) }
     ensures memory { result ≡ Err Untold.Memory → out.new ≡ out.old }
 {
     if let Some(line) = short_line(answer) {
@@ -83,8 +81,8 @@ pub fn note_answer<D: Disk, O: Sink>(
     ensures cause { EndsBySink result.end (O.faults out.old) (O.faults out.new) }
     ensures commands { result.commands.items ≡ progress.commands.items }
     ensures noted { (moment : ℕ) × ((D.tells → moment ≡ clock (D.history disk.now)) × NotesAnswer answer moment result.end result.answers.items result.clocks.items) }
-    ensures written { O.tells → Puts (O.faults out.old) (O.faults out.new) (O.written out.old) (O.written out.new) (texts result.answers.items) }
-    ensures moments { O.tells → D.tells → O.moments out.new ≡ O.moments out.old ++ result.clocks.items }
+    ensures written { O.tells → Puts (O.faults out.old) (O.faults out.new) (O.handed out.old) (O.handed out.new) (texts result.answers.items) }
+    ensures moments { O.tells → D.tells → moments_of (O.handed out.new) ≡ moments_of (O.handed out.old) ++ result.clocks.items }
 {
     let Progress {
         commands,
@@ -123,8 +121,8 @@ pub fn put_end<D: Disk, O: Sink>(end: &End, disk: &D, out: &mut O)
     requires takes { O.tells → D.tells → O.takes D D.history }
     ensures later { O.faults out.old ≤ O.faults out.new }
     ensures quiet { end_text end.now ≡ [] → out.new ≡ out.old }
-    ensures written { O.tells → Puts (O.faults out.old) (O.faults out.new) (O.written out.old) (O.written out.new) (end_text end.now) }
-    ensures moments { O.tells → (more : List ℕ) × (O.moments out.new ≡ O.moments out.old ++ more) }
+    ensures written { O.tells → Puts (O.faults out.old) (O.faults out.new) (O.handed out.old) (O.handed out.new) (end_text end.now) }
+    ensures moments { O.tells → (more : List ℕ) × (moments_of (O.handed out.new) ≡ moments_of (O.handed out.old) ++ more) }
 {
     let line = end_line(end);
     if !line.is_empty() {
