@@ -1,5 +1,5 @@
 -- What is under each name after bytes were put under one.
-use Rattle.std.proofs.Common.{◌≡◌, ℕ, Bool, true, false, cond, T, List, [], refl, sym, ap, ◌∙◌, Some, unwrap_or}
+use Rattle.std.proofs.Common.{◌≡◌, ℕ, Bool, true, false, cond, not, T, List, [], refl, sym, ap, subst, ◌∙◌, Some, unwrap_or, Result, Ok, Err, OnOk}
 use Rattle.std.specs.declared.cmp.Ordering.{Ordering}
 use Rattle.std.specs.declared.cmp.Ordering.TheVariants.{Less, Equal, Greater}
 use Rattle.std.specs.Ordering.{nat_cmp, is_eq, eq_by_cmp}
@@ -7,8 +7,11 @@ use Rattle.std.specs.Cmp.Lexicographic.{slice_cmp, nat_list_cmp_total}
 use Rattle.std.specs.Cmp.{tied_itself}
 use Rattle.std.specs.FinMap as map
 use Rattle.std.specs.FinMap.{get-insert, IsAntisymmetric, nat_cmp-IsAntisymmetric, slice_cmp-IsAntisymmetric}
+use Rattle.std.specs.Str.{bytes_eq}
+use Rattle.std.proofs.lemmas.List.Elements.{All-contains, filter_passes}
 use Rattle.bd_model.specs.FileMap.{FileMap}
-use Rattle.bd_files.specs.Files.{ChangesOnly, Holds}
+use Rattle.bd_model.proofs.ChunkListLemmas.{bytes_eq-refl}
+use Rattle.bd_files.specs.Files.{ChangesOnly, Finishes, Holds, IsFinished, without}
 
 equal : (r : Ordering) → T (is_eq r) → r ≡ Equal
 equal Less p = absurd p
@@ -40,3 +43,18 @@ changes_only_what_was_put old new name bytes is = record {
 -- only these bytes are under the name
 pub held_once : (files : FileMap) (name some other : List ℕ) → Holds files name some → Holds files name other → some ≡ other
 held_once files name some other holds again = ap (λ found. unwrap_or found []) (sym holds.there ∙ again.there)
+
+-- a name that was taken away isn't among the others
+without-finishes : (name : List ℕ) (names : List (List ℕ)) → IsFinished name (without name names)
+without-finishes name names = record {
+  so = λ there.
+      let passes : not (bytes_eq name name) ≡ true = All-contains (λ other. not (bytes_eq other name) ≡ true) (without name names) name (filter_passes (λ other. not (bytes_eq other name)) names) there in
+      clash (sym (ap not (bytes_eq-refl name)) ∙ passes);
+} where
+  clash : false ≡ true → ⊥
+  clash e = cc e
+
+-- where a finish answered Ok, the name is finished
+pub finished : {T E : Type 0} {result : Result T E} (tells : Type 0) (name : List ℕ) (old new : List (List ℕ)) → (tells → Finishes name old new result) → OnOk result (tells → IsFinished name new)
+finished {result = Ok x} tells name old new finishes = λ told. subst (IsFinished name) (sym (finishes told).ok) (without-finishes name old)
+finished {result = Err e} tells name old new finishes = tt

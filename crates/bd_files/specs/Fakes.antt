@@ -44,9 +44,10 @@ pub record SinkState : Type 0 where
 abbrev pub empty_sink : SinkState
 empty_sink = record { handed = []; puts = no_call; refused = 0 }
 
--- what is under each name, by which calls, how often a name was missing, and how often no room was given
+-- what is under each name, which are unfinished, by which calls, how often a name was missing, and how often no room was given
 pub record FilesState : Type 0 where
   pub files : FileMap
+  pub unfinished : List (List ℕ)
   pub fetches : CallCount
   pub targets : CallCount
   pub strays : ℕ
@@ -54,7 +55,7 @@ pub record FilesState : Type 0 where
 
 -- there is no file, and no fault is to come
 abbrev pub no_files : FilesState
-no_files = record { files = map.empty; fetches = no_call; targets = no_call; strays = 0; refused = 0 }
+no_files = record { files = map.empty; unfinished = []; fetches = no_call; targets = no_call; strays = 0; refused = 0 }
 
 -- these are told apart by their fields
 abbrev pub coded_handed : Coded (List Handed)
@@ -65,6 +66,6 @@ coded_calls = code_by (ℕ × (Option ℕ × ℕ)) (coded× coded_ℕ (coded× (
 
 abbrev pub coded_state : Coded FilesState
 coded_state =
-    code_by (FileMap × (CallCount × (CallCount × (ℕ × ℕ)))) (coded× coded_files (coded× coded_calls (coded× coded_calls (coded× coded_ℕ coded_ℕ))))
-    (λ s. (s.files, (s.fetches, (s.targets, (s.strays, s.refused)))))
-    (λ p. record { files = p.0; fetches = p.1.0; targets = p.1.1.0; strays = p.1.1.1.0; refused = p.1.1.1.1 }) (λ s. refl)
+    code_by (FileMap × (List (List ℕ) × (CallCount × (CallCount × (ℕ × ℕ))))) (coded× coded_files (coded× (coded_list (coded_list coded_ℕ)) (coded× coded_calls (coded× coded_calls (coded× coded_ℕ coded_ℕ)))))
+    (λ s. (s.files, (s.unfinished, (s.fetches, (s.targets, (s.strays, s.refused))))))
+    (λ p. record { files = p.0; unfinished = p.1.0; fetches = p.1.1.0; targets = p.1.1.1.0; strays = p.1.1.1.1.0; refused = p.1.1.1.1.1 }) (λ s. refl)

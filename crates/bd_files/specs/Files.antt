@@ -1,6 +1,7 @@
 -- Files by their names, and what a call changes of them.
-use Rattle.std.specs.Prelude.{◌≡◌, ◌⊎◌, ◌↔◌, ℕ, ◌+◌, ◌≤◌, List, length, take, Some, None}
+use Rattle.std.specs.Prelude.{◌≡◌, ◌⊎◌, ◌↔◌, ℕ, ◌+◌, ◌≤◌, List, ◌∷◌, length, take, filter, not, Contains, Some, None, Result, OnOk, OnErr}
 use Rattle.std.specs.FinMap as map
+use Rattle.std.specs.Str.{bytes_eq}
 use Rattle.bd_disk.specs.Calls.{Rose}
 use Rattle.bd_disk.specs.Images.{bytes_at}
 use Rattle.bd_model.specs.FileMap.{FileMap}
@@ -30,6 +31,24 @@ pub record CountsStrays (files : FileMap) (name : List ℕ) (before now : ℕ) :
   pub later : before ≤ now
   pub rose : Lacks files name → Rose before now
   pub kept : (bytes : List ℕ) → Holds files name bytes → now ≡ before
+
+-- the names but this one
+abbrev pub without : List ℕ → List (List ℕ) → List (List ℕ)
+without name names = filter (λ other. not (bytes_eq other name)) names
+
+-- how the unfinished names go on where this one is begun; where that failed it may be among them
+pub record Begins {T E : Type 0} (name : List ℕ) (old new : List (List ℕ)) (result : Result T E) : Type 0 where
+  pub ok : OnOk result (new ≡ name ∷ old)
+  pub failed : OnErr result ((new ≡ old) ⊎ (new ≡ name ∷ old))
+
+-- how they go on where this one is finished
+pub record Finishes {T E : Type 0} (name : List ℕ) (old new : List (List ℕ)) (result : Result T E) : Type 0 where
+  pub ok : OnOk result (new ≡ without name old)
+  pub failed : OnErr result (new ≡ old)
+
+-- the name isn't among these unfinished ones
+pub record IsFinished (name : List ℕ) (unfinished : List (List ℕ)) : Type 0 where
+  pub so : ¬ Contains unfinished name
 
 -- how often a fetch failed, and one of the other calls
 pub record FaultCounts : Type 0 where

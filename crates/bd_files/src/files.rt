@@ -3,7 +3,7 @@ ghost use Rattle.std.specs.FinMap as map;
 ghost use Rattle.bd_disk.specs.Calls.{HasCause};
 ghost use Rattle.bd_disk.specs.Images.{overwritten};
 ghost use Rattle.bd_model.specs.FileMap.{FileMap};
-ghost use Rattle.bd_files.specs.Files.{ChangesOnly, CountsStrays, Fetches, Holds, Lacks};
+ghost use Rattle.bd_files.specs.Files.{Begins, ChangesOnly, CountsStrays, Fetches, Finishes, Holds, Lacks};
 
 use bd_disk::Failed;
 use bd_model::Name;
@@ -20,6 +20,9 @@ pub trait Files {
 
     /// What is under each name, where they tell.
     ghost files: { Self → FileMap };
+
+    /// Which names were begun and aren't finished, where they tell.
+    ghost unfinished: { Self → List (List ℕ) };
 
     /// How often a fetch has failed, up to 2^64 - 1.
     ghost source_faults: { Self → ℕ };
@@ -40,7 +43,8 @@ pub trait Files {
         ensures read { IfOk result (λ n. tells → Fetches (files self.old) name.now at (length into.old) n into.new) }
         ensures missing { tells → Lacks (files self.old) name.now → IsErr result }
         ensures strays { tells → CountsStrays (files self.old) name.now (strays self.old) (strays self.new) }
-        ensures same { tells → files self.new ≡ files self.old };
+        ensures same { tells → files self.new ≡ files self.old }
+        ensures unfinished { tells → unfinished self.new ≡ unfinished self.old };
 
     /// Puts `length` bytes of 0 under the name, in place of any that were there. What is under it after `Failed` is unknown.
     fn begin(&mut self, name: &Name, length: u64) -> Result<(), Failed>
@@ -48,7 +52,8 @@ pub trait Files {
         ensures sources { source_faults self.new ≡ source_faults self.old }
         ensures strays { tells → strays self.new ≡ strays self.old }
         ensures ok { OnOk result (tells → files self.new ≡ map.insert (files self.old) name.now (replicate length 0)) }
-        ensures others { tells → ChangesOnly name.now (files self.old) (files self.new) };
+        ensures others { tells → ChangesOnly name.now (files self.old) (files self.new) }
+        ensures unfinished { tells → Begins name.now (unfinished self.old) (unfinished self.new) result };
 
     /// Writes over bytes of a file that is there, from place `at` on. What is under the name after `Failed` is unknown.
     fn put(&mut self, name: &Name, at: u64, bytes: &[u8]) -> Result<(), Failed>
@@ -57,12 +62,14 @@ pub trait Files {
         ensures sources { source_faults self.new ≡ source_faults self.old }
         ensures strays { tells → strays self.new ≡ strays self.old }
         ensures ok { OnOk result (tells → (old : List ℕ) → Holds (files self.old) name.now old → files self.new ≡ map.insert (files self.old) name.now (overwritten old at bytes.now)) }
-        ensures others { tells → ChangesOnly name.now (files self.old) (files self.new) };
+        ensures others { tells → ChangesOnly name.now (files self.old) (files self.new) }
+        ensures unfinished { tells → unfinished self.new ≡ unfinished self.old };
 
     /// Makes sure of a file that was begun and filled.
     fn finish(&mut self, name: &Name) -> Result<(), Failed>
         ensures cause { HasCause (target_faults self.old) (target_faults self.new) result }
         ensures sources { source_faults self.new ≡ source_faults self.old }
         ensures strays { tells → strays self.new ≡ strays self.old }
-        ensures same { tells → files self.new ≡ files self.old };
+        ensures same { tells → files self.new ≡ files self.old }
+        ensures unfinished { tells → Finishes name.now (unfinished self.old) (unfinished self.new) result };
 }

@@ -4,14 +4,15 @@ ghost use Rattle.std.specs.FinMap as map;
 ghost use Rattle.bd_disk.specs.Calls.{HasCause, Rose, one_more};
 ghost use Rattle.bd_disk.specs.Images.{bytes_at, overwritten};
 ghost use Rattle.bd_files.specs.Fakes.{Counts, CountsRefused, FailsNext, no_files};
-ghost use Rattle.bd_files.specs.Files.{ChangesOnly, CountsStrays, Fetches, Holds, Lacks};
+ghost use Rattle.bd_files.specs.Files.{Begins, ChangesOnly, CountsStrays, Fetches, Finishes, Holds, Lacks};
 
 use crate::calls::Calls;
+use crate::names::Names;
 use crate::table::Table;
 use crate::{Files, OutOfMemory};
 use bd_disk::Failed;
 use bd_model::Name;
-use std::alloc::Global;
+use std::alloc::{AllocError, Global};
 use std::marker::Model;
 
 /// Files in memory, which tell everything.
@@ -19,6 +20,7 @@ use std::marker::Model;
 pub struct MemFiles {
     alloc: Global,
     table: Table,
+    unfinished: Names,
     fetches: Calls,
     targets: Calls,
     strays: u64,
@@ -32,7 +34,7 @@ impl Model for MemFiles {
 
     ghost coded = { coded_state };
 
-    ghost view = { λ f. record { files = f.table; fetches = record { made = f.fetches.made; failing = f.fetches.failing; faults = f.fetches.faults }; targets = record { made = f.targets.made; failing = f.targets.failing; faults = f.targets.faults }; strays = f.strays; refused = f.refused } };
+    ghost view = { λ f. record { files = f.table; unfinished = f.unfinished; fetches = record { made = f.fetches.made; failing = f.fetches.failing; faults = f.fetches.faults }; targets = record { made = f.targets.made; failing = f.targets.failing; faults = f.targets.faults }; strays = f.strays; refused = f.refused } };
 }
 
 // Copies as many bytes as there are from a place on and fit.
@@ -47,6 +49,22 @@ fn copy_part(from: &[u8], at: u64, into: &mut [u8]) -> usize
     count
 }
 
+// Notes the name as begun, and puts so many bytes of 0 under it.
+fn begin_zeros(
+    alloc: Global,
+    table: &mut Table,
+    unfinished: &mut Names,
+    name: &[u8],
+    length: usize,
+) -> Result<(), AllocError>
+    ensures ok { OnOk result (table.new ≡ map.insert table.old name.now (replicate length 0)) }
+    ensures err { OnErr result (table.new ≡ table.old) }
+    ensures unfinished { Begins name.now unfinished.old unfinished.new result }
+{
+    unfinished.add(alloc, name)?;
+    table.insert_zeros(alloc, name, length)
+}
+
 impl MemFiles {
     /// No file, and no fault to come.
     pub fn new(alloc: Global) -> MemFiles
@@ -55,6 +73,7 @@ impl MemFiles {
         MemFiles {
             alloc,
             table: Table::new(alloc),
+            unfinished: Names::new(alloc),
             fetches: Calls::new(),
             targets: Calls::new(),
             strays: 0,
@@ -106,6 +125,8 @@ impl Files for MemFiles {
 
     ghost files = { λ f. f.files };
 
+    ghost unfinished = { λ f. f.unfinished };
+
     ghost source_faults = { λ f. f.fetches.faults };
 
     ghost target_faults = { λ f. f.targets.faults };
@@ -120,6 +141,7 @@ impl Files for MemFiles {
         ensures missing { Lacks self.old.files name.now → IsErr result }
         ensures strays { CountsStrays self.old.files name.now self.old.strays self.new.strays }
         ensures same { self.new.files ≡ self.old.files }
+        ensures unfinished { self.new.unfinished ≡ self.old.unfinished }
 
         // It fails where it was set to, where no room can be counted as refused, or where the name is missing.
         ensures fails { IsErr result ↔ (FailsNext self.old.fetches ⊎ (Rose self.old.refused self.new.refused ⊎ Lacks self.old.files name.now)) }
@@ -151,21 +173,27 @@ impl Files for MemFiles {
         ensures strays { self.new.strays ≡ self.old.strays }
         ensures ok { OnOk result (self.new.files ≡ map.insert self.old.files name.now (replicate length 0)) }
         ensures others { ChangesOnly name.now self.old.files self.new.files }
+        ensures unfinished { Begins name.now self.old.unfinished self.new.unfinished result }
 
         // It fails where it was set to, or where no room is given, and then changes no file.
         ensures fails { IsErr result ↔ (FailsNext self.old.targets ⊎ Rose self.old.refused self.new.refused) }
         ensures err { OnErr result (self.new.files ≡ self.old.files) }
         ensures counts { Counts self.old.targets self.new.targets result }
         ensures refused { CountsRefused self.old.targets self.old.refused self.new.refused result }
-        ensures stays { self.new ≡ record self.old { files = self.new.files; targets = self.new.targets; refused = self.new.refused } }
+        ensures stays { self.new ≡ record self.old { files = self.new.files; unfinished = self.new.unfinished; targets = self.new.targets; refused = self.new.refused } }
     {
         if self.targets.count() || self.refused == u64::MAX {
             return Err(self.targets.fail());
         }
-        match self
-            .table
-            .insert_zeros(self.alloc, name.text().as_bytes(), length as usize)
-        {
+        let table = &mut self.table;
+        let unfinished = &mut self.unfinished;
+        match begin_zeros(
+            self.alloc,
+            table,
+            unfinished,
+            name.text().as_bytes(),
+            length as usize,
+        ) {
             Ok(()) => Ok(()),
             Err(_) => {
                 self.refused += 1;
@@ -181,6 +209,7 @@ impl Files for MemFiles {
         ensures strays { self.new.strays ≡ self.old.strays }
         ensures ok { OnOk result ((old : List ℕ) → Holds self.old.files name.now old → self.new.files ≡ map.insert self.old.files name.now (overwritten old at bytes.now)) }
         ensures others { ChangesOnly name.now self.old.files self.new.files }
+        ensures unfinished { self.new.unfinished ≡ self.old.unfinished }
 
         // It fails where it was set to, or where no room can be counted as refused, and then changes no file.
         ensures fails { IsErr result ↔ (FailsNext self.old.targets ⊎ Rose self.old.refused self.new.refused) }
@@ -201,15 +230,17 @@ impl Files for MemFiles {
         ensures sources { self.new.fetches.faults ≡ self.old.fetches.faults }
         ensures strays { self.new.strays ≡ self.old.strays }
         ensures same { self.new.files ≡ self.old.files }
+        ensures unfinished { Finishes name.now self.old.unfinished self.new.unfinished result }
 
         // It fails where it was set to, or where no room can be counted as refused.
         ensures fails { IsErr result ↔ (FailsNext self.old.targets ⊎ Rose self.old.refused self.new.refused) }
         ensures counts { Counts self.old.targets self.new.targets result }
-        ensures stays { self.new ≡ record self.old { targets = self.new.targets } }
+        ensures stays { self.new ≡ record self.old { unfinished = self.new.unfinished; targets = self.new.targets } }
     {
         if self.targets.count() || self.refused == u64::MAX {
             return Err(self.targets.fail());
         }
+        self.unfinished.remove(name.text().as_bytes());
         Ok(())
     }
 }

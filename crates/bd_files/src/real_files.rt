@@ -1,5 +1,5 @@
 // Files of the system, of whose bytes no contract speaks.
-ghost use Rattle.std.specs.Prelude.{◌≡◌, ◌≤◌, IfOk, length};
+ghost use Rattle.std.specs.Prelude.{◌≡◌, ◌≤◌, [], IfOk, length};
 ghost use Rattle.std.specs.FinMap as map;
 ghost use Rattle.bd_disk.specs.Calls.{HasCause};
 
@@ -189,6 +189,8 @@ impl<R: Folder<File = File> + AllocGlobal + Drop> Files for RealFiles<R> {
     ghost tells = { ⊥ };
 
     ghost files = { λ f. map.empty };
+
+    ghost unfinished = { λ f. [] };
 
     ghost source_faults = { λ f. f.sources };
 

@@ -3,7 +3,7 @@ ghost use Rattle.std.specs.FinMap as map;
 ghost use Rattle.bd_disk.specs.History.{contents};
 ghost use Rattle.bd_disk.specs.Made.{WritesNothing};
 ghost use Rattle.bd_disk.specs.Trace.{ReadsOnly};
-ghost use Rattle.bd_files.specs.Files.{ChangesOnly};
+ghost use Rattle.bd_files.specs.Files.{ChangesOnly, IsFinished};
 ghost use Rattle.bd_model.specs.Sizes.{disk_bytes, sizes_of};
 ghost use Rattle.bd_catalog.specs.Catalogue.{oldest_in};
 ghost use Rattle.bd_catalog.specs.Damages.{IsOfVersion};
@@ -99,6 +99,7 @@ pub fn run_plan<D: Disk, F: Files>(
     ensures file { OnOk result (D.tells → F.tells → F.files files.new ≡ map.insert (F.files files.old) name.now (joined plan.entries (records_for catalog.now.found.sizes catalog.now.found.catalogue (contents (D.history disk.old)) plan.version))) }
     // Each chunk in it has its entry's mark.
     ensures checked { OnOk result (D.tells → F.tells → HasChunks plan.entries (held (F.files files.new) name.now)) }
+    ensures finished { OnOk result (F.tells → IsFinished name.now (F.unfinished files.new)) }
     ensures places { OnOk result (D.tells → ReadsOnly (walk_reads catalog.now.found.sizes plan.entries [] (spots_in catalog.now.found.sizes (contents (D.history disk.old)) (walk catalog.now.found.catalogue plan.version))) (D.history disk.old) (D.history disk.new)) }
     // A damage is one of this restore, its bytes were read, and they break its rule.
     ensures part { IfDamaged result (λ damage. D.tells → IsOfVersion plan.version damage) }

@@ -7,7 +7,7 @@ ghost use Rattle.bd_model.specs.declared.command.Command.TheVariants.{Restore};
 ghost use Rattle.bd_catalog.specs.Agreement.{Agrees};
 ghost use Rattle.bd_catalog.specs.Catalogue.{retained_in};
 ghost use Rattle.bd_catalog.specs.Sound.{content, recipe_of};
-ghost use Rattle.bd_files.specs.Files.{ChangesOnly};
+ghost use Rattle.bd_files.specs.Files.{ChangesOnly, IsFinished};
 ghost use Rattle.bd_restore.specs.Target.{held, HasChunks};
 ghost use Rattle.bd_store.specs.Causes.{counts, FailsOnlyByCount};
 ghost use Rattle.bd_store.specs.Naming.{fault_of_reading, fault_of_restore, NamesDamage};
@@ -69,6 +69,7 @@ pub(crate) fn give_back<D: Disk, F: Files>(
     ensures damage { D.tells → NamesDamage catalog.now.found version (D.history disk.old) (D.history disk.new) result }
     ensures file { IfRestored result (D.tells → F.tells → F.files files.new ≡ map.insert (F.files files.old) name.now (content catalog.now.found (contents (D.history disk.old)) version)) }
     ensures checked { IfRestored result (D.tells → F.tells → HasChunks (recipe_of catalog.now.found.sizes catalog.now.found.catalogue (contents (D.history disk.old)) version) (held (F.files files.new) name.now)) }
+    ensures finished { IfRestored result (F.tells → IsFinished name.now (F.unfinished files.new)) }
     ensures places { IfRestored result (D.tells → (held : ℕ) → WalksTo held catalog.now.found version (D.history disk.old) (D.history disk.new)) }
     ensures step { D.tells → F.tells → (held : ℕ) → IsOneStep (Restore version name.now) held (D.history disk.old) (D.history disk.new) (F.files files.old) (F.files files.new) result }
     ensures stops { D.tells → F.tells → (held : ℕ) → IsSafeAtStops (Restore version name.now) held (D.history disk.old) (D.history disk.new) (F.files files.old) result }

@@ -19,7 +19,7 @@ ghost use Rattle.bd_catalog.specs.Catalogue.{oldest_in, retained_in};
 ghost use Rattle.bd_catalog.specs.Opening.{opened};
 ghost use Rattle.bd_catalog.specs.Sound.{content, recipe_of};
 ghost use Rattle.bd_catalog.specs.Standing.{StandsFor, lines_from};
-ghost use Rattle.bd_files.specs.Files.{ChangesOnly};
+ghost use Rattle.bd_files.specs.Files.{ChangesOnly, IsFinished};
 ghost use Rattle.bd_recover.specs.Answers.{is_disk_fault as is_format_disk_fault, IsFormatAnswer};
 ghost use Rattle.bd_recover.specs.Opens.{is_disk_fault as is_open_disk_fault, Rests};
 ghost use Rattle.bd_restore.specs.Target.{held, HasChunks};
@@ -218,6 +218,7 @@ impl Store {
         ensures file { IfRestored result (D.tells → F.tells → F.files files.new ≡ map.insert (F.files files.old) name.now (content self.old.found (contents (D.history disk.old)) version)) }
         // Each chunk in it has the mark that the recipe says.
         ensures checked { IfRestored result (D.tells → F.tells → HasChunks (recipe_of self.old.found.sizes self.old.found.catalogue (contents (D.history disk.old)) version) (held (F.files files.new) name.now)) }
+        ensures finished { IfRestored result (F.tells → IsFinished name.now (F.unfinished files.new)) }
         ensures places { IfRestored result (D.tells → WalksTo self.old.held self.old.found version (D.history disk.old) (D.history disk.new)) }
         // It is one step of the version machine.
         ensures step { D.tells → F.tells → IsOneStep (Restore version name.now) self.old.held (D.history disk.old) (D.history disk.new) (F.files files.old) (F.files files.new) result }

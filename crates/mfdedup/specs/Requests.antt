@@ -3,7 +3,7 @@ use Rattle.std.specs.Prelude.{◌≡◌, ◌⊎◌, ℕ, ◌<◌, ◌≤◌, Lis
 use Rattle.std.specs.FinMap as map
 use Rattle.bd_disk.specs.History.{History, contents, Since}
 use Rattle.bd_disk.specs.Made.{IsSettled, LeavesSince, WritesNothing, WritesOnly}
-use Rattle.bd_files.specs.Files.{ChangesOnly}
+use Rattle.bd_files.specs.Files.{ChangesOnly, IsFinished}
 use Rattle.bd_model.specs.FileMap.{FileMap}
 use Rattle.bd_model.specs.Sizes.{sizes_of, extent_place}
 use Rattle.bd_model.specs.State.{empty}
@@ -54,10 +54,11 @@ EndsBlank OutputFault = Unit {0}
 EndsBlank OutOfMemory = Unit {0}
 EndsBlank ending = ⊥
 
--- the target is so many zero bytes, and every other name has what it had
-pub record Blanks (name : List ℕ) (count : ℕ) (ending : End) (old new : FileMap) : Type 0 where
+-- the target is so many zero bytes and finished, and every other name has what it had
+pub record Blanks (name : List ℕ) (count : ℕ) (ending : End) (old new : FileMap) (unfinished : List (List ℕ)) : Type 0 where
   pub ends : EndsBlank ending
   pub made : IsCarriedOut ending → new ≡ map.insert old name (replicate count 0)
+  pub finished : IsCarriedOut ending → IsFinished name unfinished
   pub others : ChangesOnly name old new
 
 -- what comes of a request on the disk: a format that isn't given up before it begins writes before the first extent alone, commands leave the superblock, and
@@ -68,10 +69,10 @@ MeetsOnDisk (ToRun command) bytes ending clocks old new = WritesOnly (λ place. 
 MeetsOnDisk reading bytes ending clocks old new = new ≡ old
 
 -- and on the files: a restore changes its target alone, a blank file is made, and every other request leaves them
-abbrev pub MeetsOnFiles : Reading → End → FileMap → FileMap → Type 0
-MeetsOnFiles (ToRun command) ending old new = KeepsFiles command old new
-MeetsOnFiles (ToBlank length name) ending old new = Blanks name length ending old new
-MeetsOnFiles reading ending old new = new ≡ old
+abbrev pub MeetsOnFiles : Reading → End → FileMap → FileMap → List (List ℕ) → Type 0
+MeetsOnFiles (ToRun command) ending old new unfinished = KeepsFiles command old new
+MeetsOnFiles (ToBlank length name) ending old new unfinished = Blanks name length ending old new unfinished
+MeetsOnFiles reading ending old new unfinished = new ≡ old
 
 -- the count of missing sources stays but for a backup of one
 abbrev pub StraysOnlyByWords : Reading → FileMap → ℕ → ℕ → Type 0

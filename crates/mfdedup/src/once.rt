@@ -1,7 +1,7 @@
 ghost use Rattle.std.specs.Prelude.{◌≡◌, ◌++◌, ℕ, OnOk, replicate};
 ghost use Rattle.std.specs.FinMap as map;
 ghost use Rattle.bd_disk.specs.Calls.{HasCause};
-ghost use Rattle.bd_files.specs.Files.{ChangesOnly};
+ghost use Rattle.bd_files.specs.Files.{ChangesOnly, IsFinished};
 ghost use Rattle.bd_files.specs.Sinks.{moments_of};
 ghost use Rattle.bd_model.specs.Texts.{texts};
 ghost use Rattle.mfdedup.specs.Counts.{all_counts, EndsOnlyByCount};
@@ -65,7 +65,7 @@ pub fn blank<D: Disk, F: Files, O: Sink>(
     ensures moments { O.tells → D.tells → moments_of (O.handed out.new) ≡ moments_of (O.handed out.old) ++ result.clocks.items }
     ensures strays { F.tells → F.strays files.new ≡ F.strays files.old }
     ensures ends { EndsBlank result.end }
-    ensures blank { F.tells → Blanks name.now length result.end (F.files files.old) (F.files files.new) }
+    ensures blank { F.tells → Blanks name.now length result.end (F.files files.old) (F.files files.new) (F.unfinished files.new) }
 {
     match Progress::alone(alloc) {
         Ok(progress) => match put_zeros(length, name, files) {
@@ -88,6 +88,7 @@ fn put_zeros<F: Files>(length: u64, name: &Name, files: &mut F) -> Result<(), Fa
     ensures strays { F.tells → F.strays files.new ≡ F.strays files.old }
     ensures ok { OnOk result (F.tells → F.files files.new ≡ map.insert (F.files files.old) name.now (replicate length 0)) }
     ensures others { F.tells → ChangesOnly name.now (F.files files.old) (F.files files.new) }
+    ensures finished { OnOk result (F.tells → IsFinished name.now (F.unfinished files.new)) }
 {
     files.begin(name, length)?;
     files.finish(name)

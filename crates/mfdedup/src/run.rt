@@ -159,7 +159,7 @@ fn act<D: Disk, F: Files, O: Sink>(
     ensures written { O.tells → Puts (O.faults out.old) (O.faults out.new) (O.handed out.old) (O.handed out.new) (texts result.answers.items) }
     ensures moments { O.tells → D.tells → moments_of (O.handed out.new) ≡ moments_of (O.handed out.old) ++ result.clocks.items }
     ensures disk { D.tells → (reading : Reading) → AsksFor reading (Some request.now) → MeetsOnDisk reading (D.bytes disk.old) result.end result.clocks.items (D.history disk.old) (D.history disk.new) }
-    ensures files { F.tells → (reading : Reading) → AsksFor reading (Some request.now) → MeetsOnFiles reading result.end (F.files files.old) (F.files files.new) }
+    ensures files { F.tells → (reading : Reading) → AsksFor reading (Some request.now) → MeetsOnFiles reading result.end (F.files files.old) (F.files files.new) (F.unfinished files.new) }
     ensures strays { F.tells → (reading : Reading) → AsksFor reading (Some request.now) → StraysOnlyByWords reading (F.files files.new) (F.strays files.old) (F.strays files.new) }
     ensures fits { (reading : Reading) → AsksFor reading (Some request.now) → FitsWords reading result.end }
     ensures opening { D.tells → (reading : Reading) → AsksFor reading (Some request.now) → (commands : List Asked) → commands_asked reading ≡ Some commands → OpensBy (opened (contents (D.history disk.old))) result.end }
@@ -219,7 +219,7 @@ pub fn run<D: Disk, F: Files, O: Sink>(
     ensures written { O.tells → Puts (O.faults out.old) (O.faults out.new) (O.handed out.old) (O.handed out.new) (texts result.answers.items ++ end_text result.end) }
     ensures moments { O.tells → D.tells → (more : List ℕ) × NotedBy (moments_of (O.handed out.old)) (moments_of (O.handed out.new)) result.clocks.items more }
     ensures disk { D.tells → MeetsOnDisk (reading (map string_bytes words.now)) (D.bytes disk.old) result.end result.clocks.items (D.history disk.old) (D.history disk.new) }
-    ensures files { F.tells → MeetsOnFiles (reading (map string_bytes words.now)) result.end (F.files files.old) (F.files files.new) }
+    ensures files { F.tells → MeetsOnFiles (reading (map string_bytes words.now)) result.end (F.files files.old) (F.files files.new) (F.unfinished files.new) }
     ensures strays { F.tells → StraysOnlyByWords (reading (map string_bytes words.now)) (F.files files.new) (F.strays files.old) (F.strays files.new) }
     // Over whatever disk, files and sink: the end is one that the words bring, or that comes of what they ask for.
     ensures fits { (result.end ≡ OutOfMemory) ⊎ FitsWords (reading (map string_bytes words.now)) result.end }

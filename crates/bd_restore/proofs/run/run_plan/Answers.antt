@@ -5,6 +5,7 @@ use Rattle.bd_disk.specs.History.{contents}
 use Rattle.bd_disk.specs.Trace.{ReadsOnly}
 use Rattle.bd_model.specs.declared.damage.Damage.TheVariants.{Missing}
 use Rattle.bd_files.specs.Files.{ChangesOnly}
+use Rattle.bd_files.proofs.FileLemmas.{finished}
 use Rattle.bd_catalog.specs.Damages.{IsOfVersion}
 use Rattle.bd_catalog.specs.Rows.{spots_in, walk}
 use Rattle.bd_catalog.specs.Sound.{recipe_of, records_for}
@@ -188,3 +189,6 @@ returns-clause-checked g c = λ told tells.
     let all : (k : ℕ) → k < length c.run_walk.new.filled → flag_at c.run_walk.new.filled k ≡ true = subst (λ l. (k : ℕ) → k < length l → flag_at l k ≡ true) filled c.in_default.ensures.none in
     let chunks : HasChunks tables (held now name) = all_marked tables (records_for s cat image v) c.run_walk.new.filled (held now name) target.long after given all in
     subst (λ m. HasChunks c.args.plan.entries (held m name)) (sym (c.finish.ensures.same tells)) (subst (λ es. HasChunks es (held now name)) c.into_parts-version.ensures.entries chunks)
+
+pub returns-clause-finished : goal.returns-clause-finished
+returns-clause-finished g c = ok_of c.finish.result _ (sym c.is_err-2.ensures.value ∙ c.if-is_err-2.false) (finished _ _ _ _ c.finish.ensures.unfinished)

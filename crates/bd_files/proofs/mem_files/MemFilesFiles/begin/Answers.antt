@@ -5,5 +5,5 @@ use Rattle.bd_files.proofs.mem_files.MemFilesFiles.begin.Goals as goal
 
 pub returns-in-Ok-clause-others : goal.returns-in-Ok-clause-others
 returns-in-Ok-clause-others c =
-    let zeros : c.insert_zeros.new.self ≡ map.insert c.args.self.now.files c.args.name.now (replicate c.args.length 0) = search rules in
+    let zeros : c.begin_zeros.new.table ≡ map.insert c.args.self.now.files c.args.name.now (replicate c.args.length 0) = search rules in
     changes_only_what_was_put _ _ _ _ zeros
