@@ -49,8 +49,3 @@ pub record Finishes {T E : Type 0} (name : List ℕ) (old new : List (List ℕ))
 -- the name isn't among these unfinished ones
 pub record IsFinished (name : List ℕ) (unfinished : List (List ℕ)) : Type 0 where
   pub so : ¬ Contains unfinished name
-
--- how often a fetch failed, and one of the other calls
-pub record FaultCounts : Type 0 where
-  pub sources : ℕ
-  pub targets : ℕ

@@ -1,76 +1,49 @@
 // Files of the system, of whose bytes no contract speaks.
-ghost use Rattle.std.specs.Prelude.{◌≡◌, ◌≤◌, [], IfOk, length};
+ghost use Rattle.std.specs.Prelude.{◌≡◌, ◌≤◌, [], IfOk, None, Some, length};
 ghost use Rattle.std.specs.FinMap as map;
 ghost use Rattle.bd_disk.specs.Calls.{HasCause};
+ghost use Rattle.bd_files.specs.Outside.{FailsAsSource, FailsAsTarget};
 
 use crate::Files;
+use crate::filling::Filling;
+use crate::identity::FileIdentity;
 use bd_disk::Failed;
 use bd_model::Name;
 use std::alloc::AllocError;
-use std::fs::{File, Files as Folder, Metadata};
+use std::fs::{File, Files as Folder};
+use std::io;
 use std::io::ErrorKind;
 use std::marker::Model;
-use std::os::unix::fs::{FileExt, MetadataExt};
-use std::{fs, io};
+use std::os::unix::fs::FileExt;
 
-// A file that is kept open.
+// A source that is kept open.
 #[derive(Drop)]
 struct Kept {
     name: String,
     file: File,
 }
 
-/// Which file or device of the system it is, whatever its name.
-#[derive(Clone, Copy, PartialEq, Eq, Debug)]
-pub struct FileIdentity {
-    device: u64,
-    // 0 for a device, which no file has
-    inode: u64,
-}
-
-impl FileIdentity {
-    /// The file or the device of this metadata.
-    pub fn of(metadata: &Metadata) -> FileIdentity {
-        if metadata.rdev() != 0 {
-            FileIdentity {
-                device: metadata.rdev(),
-                inode: 0,
-            }
-        } else {
-            FileIdentity {
-                device: metadata.dev(),
-                inode: metadata.ino(),
-            }
-        }
-    }
-}
-
-/// Files of the current folder. The last source and the last target are kept open. Contracts see them as how often a
-/// call has failed.
+/// Files of the current folder. The last source is kept open, and so is the last target, which is written through a buffer:
+/// until its `finish` answers Ok not all that was put is written. Contracts see them as how often a call has failed, and
+/// which file is spared.
 #[derive(Drop)]
 pub struct RealFiles<R: Folder<File = File> + AllocGlobal + Drop> {
     rt: R,
     source: Option<Kept>,
-    target: Option<Kept>,
-    // never a target
+    target: Option<Filling>,
     spared: Option<FileIdentity>,
     source_faults: u64,
     target_faults: u64,
 }
 
 impl<R: Folder<File = File> + AllocGlobal + Drop> Model for RealFiles<R> {
-    ghost use Rattle.bd_files.specs.Files.{FaultCounts};
+    ghost use Rattle.bd_files.specs.Outside.{Outside, SparesItsFile};
 
-    ghost Value = { FaultCounts };
+    ghost Value = { Outside };
 
-    ghost view = { λ f. record { sources = f.source_faults; targets = f.target_faults } };
-}
+    ghost view = { λ f. record { sources = f.source_faults; targets = f.target_faults; spared = f.spared } };
 
-fn is_kept(kept: &Option<Kept>, name: &str) -> bool {
-    match kept {
-        Some(kept) => kept.name.as_str() == name,
-        None => false,
-    }
+    ghost invariant = { λ f. SparesItsFile f.spared f.target };
 }
 
 fn not_found() -> io::Error {
@@ -78,9 +51,9 @@ fn not_found() -> io::Error {
 }
 
 impl<R: Folder<File = File> + AllocGlobal + Drop> RealFiles<R> {
-    /// No file is open, and no call has failed.
+    /// No file is open, no call has failed, and no file is spared.
     pub fn new(rt: R) -> RealFiles<R>
-        ensures { result ≡ record { sources = 0; targets = 0 } }
+        ensures { result ≡ record { sources = 0; targets = 0; spared = None } }
     {
         RealFiles {
             rt,
@@ -94,16 +67,13 @@ impl<R: Folder<File = File> + AllocGlobal + Drop> RealFiles<R> {
 
     /// From now on no target is begun over this file: that call fails, and the file stays as it is.
     pub fn spare(&mut self, file: FileIdentity)
-        ensures { self.new ≡ self.old }
+        ensures { self.new ≡ record self.old { spared = Some file } }
     {
+        self.target = match self.target.take() {
+            Some(target) => target.unless(file),
+            None => None,
+        };
         self.spared = Some(file);
-    }
-
-    fn is_spared(&self, name: &str) -> bool {
-        match (self.spared, fs::metadata(&self.rt, name)) {
-            (Some(spared), Ok(found)) => spared == FileIdentity::of(&found),
-            _ => false,
-        }
     }
 
     fn keep(&self, name: &str, file: File) -> Result<Kept, AllocError> {
@@ -111,12 +81,39 @@ impl<R: Folder<File = File> + AllocGlobal + Drop> RealFiles<R> {
         Ok(Kept { name, file })
     }
 
+    fn is_source(&self, name: &str) -> bool {
+        match &self.source {
+            Some(kept) => kept.name.as_str() == name,
+            None => false,
+        }
+    }
+
+    fn is_target(&self, name: &str) -> bool {
+        match &self.target {
+            Some(target) => target.has_name(name),
+            None => false,
+        }
+    }
+
+    // Writes what the target has kept back.
+    fn flush(&mut self) -> io::Result<()>
+        ensures { self.new ≡ self.old }
+    {
+        match &mut self.target {
+            Some(target) => target.flush(),
+            None => Ok(()),
+        }
+    }
+
     // At the first byte the file is opened anew, since another may have taken the name.
     fn read(&mut self, name: &str, at: u64, into: &mut [u8]) -> io::Result<usize>
         ensures within { IfOk result (λ n. n ≤ length into.old) }
         ensures same { self.new ≡ self.old }
     {
-        if at == 0 || !is_kept(&self.source, name) {
+        if self.is_target(name) {
+            self.flush()?;
+        }
+        if at == 0 || !self.is_source(name) {
             self.source = None;
             let file = File::open(&self.rt, name)?;
             self.source = Some(self.keep(name, file)?);
@@ -127,37 +124,39 @@ impl<R: Folder<File = File> + AllocGlobal + Drop> RealFiles<R> {
         }
     }
 
-    fn start(&mut self, name: &str, length: u64) -> io::Result<()>
+    // Opens a file to be filled, in place of the last one, unless it is spared.
+    fn open_target(&mut self, name: &str, create: bool) -> io::Result<()>
         ensures { self.new ≡ self.old }
     {
+        self.flush()?;
         self.target = None;
-        if self.is_spared(name) {
-            return Err(io::Error::from(ErrorKind::PermissionDenied));
-        }
-        let file = File::create(&self.rt, name)?;
-        file.set_len(length)?;
-        self.target = Some(self.keep(name, file)?);
+        let file = File::options()
+            .write(true)
+            .create(create)
+            .open(&self.rt, name)?;
+        let target = Filling::new(self.rt.alloc(), name, file, self.spared)?;
+        self.target = Some(target);
         Ok(())
     }
 
-    // Opens the target that was begun, where it isn't kept open.
-    fn open_target(&mut self, name: &str) -> io::Result<()>
+    fn start(&mut self, name: &str, length: u64) -> io::Result<()>
         ensures { self.new ≡ self.old }
     {
-        if !is_kept(&self.target, name) {
-            self.target = None;
-            let file = File::options().write(true).open(&self.rt, name)?;
-            self.target = Some(self.keep(name, file)?);
+        self.open_target(name, true)?;
+        match &self.target {
+            Some(target) => target.clear(length),
+            None => Err(not_found()),
         }
-        Ok(())
     }
 
     fn write(&mut self, name: &str, at: u64, bytes: &[u8]) -> io::Result<()>
         ensures { self.new ≡ self.old }
     {
-        self.open_target(name)?;
-        match &self.target {
-            Some(kept) => kept.file.write_all_at(bytes, at),
+        if !self.is_target(name) {
+            self.open_target(name, false)?;
+        }
+        match &mut self.target {
+            Some(target) => target.put(at, bytes),
             None => Err(not_found()),
         }
     }
@@ -165,17 +164,21 @@ impl<R: Folder<File = File> + AllocGlobal + Drop> RealFiles<R> {
     fn close(&mut self, name: &str) -> io::Result<()>
         ensures { self.new ≡ self.old }
     {
-        self.open_target(name)?;
-        match self.target.take() {
-            Some(kept) => kept.file.sync_all(),
-            None => Err(not_found()),
+        if !self.is_target(name) {
+            self.open_target(name, false)?;
         }
+        match &mut self.target {
+            Some(target) => target.finish()?,
+            None => return Err(not_found()),
+        }
+        self.target = None;
+        Ok(())
     }
 
     // Counts a target's call that failed.
     fn answer(&mut self, done: io::Result<()>) -> Result<(), Failed>
         ensures cause { HasCause self.old.targets self.new.targets result }
-        ensures sources { self.new.sources ≡ self.old.sources }
+        ensures counts { FailsAsTarget self.old self.new result }
     {
         if done.is_ok() {
             return Ok(());
@@ -198,7 +201,11 @@ impl<R: Folder<File = File> + AllocGlobal + Drop> Files for RealFiles<R> {
 
     ghost strays = { λ f. 0 };
 
-    fn fetch(&mut self, name: &Name, at: u64, into: &mut [u8]) -> Result<usize, Failed> {
+    fn fetch(&mut self, name: &Name, at: u64, into: &mut [u8]) -> Result<usize, Failed>
+        ensures cause { HasCause self.old.sources self.new.sources result }
+        ensures within { IfOk result (λ n. n ≤ length into.old) }
+        ensures counts { FailsAsSource self.old self.new result }
+    {
         match self.read(name.text(), at, into) {
             Ok(count) => Ok(count),
             Err(_) => {
@@ -208,17 +215,26 @@ impl<R: Folder<File = File> + AllocGlobal + Drop> Files for RealFiles<R> {
         }
     }
 
-    fn begin(&mut self, name: &Name, length: u64) -> Result<(), Failed> {
+    fn begin(&mut self, name: &Name, length: u64) -> Result<(), Failed>
+        ensures cause { HasCause self.old.targets self.new.targets result }
+        ensures counts { FailsAsTarget self.old self.new result }
+    {
         let done = self.start(name.text(), length);
         self.answer(done)
     }
 
-    fn put(&mut self, name: &Name, at: u64, bytes: &[u8]) -> Result<(), Failed> {
+    fn put(&mut self, name: &Name, at: u64, bytes: &[u8]) -> Result<(), Failed>
+        ensures cause { HasCause self.old.targets self.new.targets result }
+        ensures counts { FailsAsTarget self.old self.new result }
+    {
         let done = self.write(name.text(), at, bytes);
         self.answer(done)
     }
 
-    fn finish(&mut self, name: &Name) -> Result<(), Failed> {
+    fn finish(&mut self, name: &Name) -> Result<(), Failed>
+        ensures cause { HasCause self.old.targets self.new.targets result }
+        ensures counts { FailsAsTarget self.old self.new result }
+    {
         let done = self.close(name.text());
         self.answer(done)
     }

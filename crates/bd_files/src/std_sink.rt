@@ -1,5 +1,7 @@
 // Standard output, of whose bytes no contract speaks.
 ghost use Rattle.std.specs.Prelude.{◌≡◌, []};
+ghost use Rattle.bd_disk.specs.Calls.{HasCause};
+ghost use Rattle.bd_files.specs.Outside.{CountsFailed};
 
 use crate::Sink;
 use bd_disk::{Disk, Failed};
@@ -40,7 +42,10 @@ impl Sink for StdSink {
 
     ghost faults = { λ s. s };
 
-    fn put<D: Disk>(&mut self, _disk: &D, bytes: &[u8]) -> Result<(), Failed> {
+    fn put<D: Disk>(&mut self, _disk: &D, bytes: &[u8]) -> Result<(), Failed>
+        ensures cause { HasCause self.old self.new result }
+        ensures counts { CountsFailed self.old self.new result }
+    {
         match Write::write_all(&mut self.out, bytes) {
             Ok(()) => Ok(()),
             Err(_) => {
