@@ -65,7 +65,7 @@ pub trait Files {
         ensures others { tells → ChangesOnly name.now (files self.old) (files self.new) }
         ensures unfinished { tells → unfinished self.new ≡ unfinished self.old };
 
-    /// Makes sure of a file that was begun and filled.
+    /// Makes sure of a file that was begun and filled. After `Failed` it is as unfinished as before.
     fn finish(&mut self, name: &Name) -> Result<(), Failed>
         ensures cause { HasCause (target_faults self.old) (target_faults self.new) result }
         ensures sources { source_faults self.new ≡ source_faults self.old }

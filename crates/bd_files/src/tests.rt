@@ -89,10 +89,9 @@ fn a_write_that_fails_is_told_by_finish(rt: HostRuntime) -> Result<(), Fail> {
     let name = Name::new(rt.alloc(), "bd_files.full")?;
     symlink(&rt, "/dev/full", "bd_files.full")?;
     let mut files = RealFiles::new(rt);
-    let put = files.put(&name, 0, &[7]);
+    files.put(&name, 0, &[7])?;
     let finished = files.finish(&name);
     fs::remove_file(&rt, "bd_files.full")?;
-    assert_eq!(rt; put, Ok(()));
     assert_eq!(rt; finished, Err(Failed));
     Ok(())
 }
@@ -105,11 +104,10 @@ fn a_spared_file_is_no_target(rt: HostRuntime) -> Result<(), Fail> {
     let mut files = RealFiles::new(rt);
     files.spare(FileIdentity::of(&fs::metadata(&rt, "bd_files.store")?));
     let begun = files.begin(&linked, 2);
-    let bytes = fs::read(&rt, "bd_files.store")?;
+    let bytes = fs::metadata(&rt, "bd_files.store")?.len();
     fs::remove_file(&rt, "bd_files.store")?;
     fs::remove_file(&rt, "bd_files.link")?;
-    assert_eq!(rt; begun, Err(Failed));
-    assert_eq!(rt; bytes.as_slice(), b"store".as_slice());
+    assert_eq!(rt; (begun, bytes), (Err(Failed), 5));
     Ok(())
 }
 
