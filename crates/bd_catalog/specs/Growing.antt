@@ -7,8 +7,7 @@ use Rattle.bd_catalog.specs.Catalogue.{Catalogue, VersionEntry, VolumeEntry, Ope
 
 -- the catalogue with a version more, and with more volumes and open categories
 abbrev pub with_entries : Catalogue → Phase → VersionEntry → List VolumeEntry → List OpenEntry → Catalogue
-with_entries c phase entry volumes actives = record {
-  base = c.base;
+with_entries c phase entry volumes actives = record c {
   newest = c.newest + 1;
   phase = phase;
   versions = c.versions ++ entry ∷ [];

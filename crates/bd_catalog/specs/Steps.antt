@@ -71,13 +71,13 @@ LeavesBeside s half c old new = LeavesCommitted s (1 - half.number) (frame_besid
 
 -- another catalogue in the same place
 abbrev pub with_catalogue : Found → Catalogue → Found
-with_catalogue found c = record { sizes = found.sizes; half = found.half; catalogue = c; log_end = found.log_end }
+with_catalogue found c = record found { catalogue = c }
 
 -- what an opening finds after a commit of this catalogue
 abbrev pub committed : Found → Catalogue → Found
 committed found c =
     let half : Half = next_half found.half (length (spelled c)) in
-    record { sizes = found.sizes; half = half; catalogue = c; log_end = log_place found.sizes half }
+    record found { half = half; catalogue = c; log_end = log_place found.sizes half }
 
 -- and after the commit of this step
 abbrev pub after_step : Found → Step → Found

@@ -1,3 +1,4 @@
+//! What a catalogue spells.
 ghost use Rattle.std.specs.Prelude.{◌≡◌, ◌+◌, ◌^◌, ◌<◌, ◌≤◌, OnOk};
 ghost use Rattle.bd_catalog.specs.Catalogue.{retained_in, oldest_in};
 ghost use Rattle.bd_catalog.specs.Growing.{after_backup};

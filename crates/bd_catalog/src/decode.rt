@@ -1,3 +1,4 @@
+//! Reading the spelling of a catalogue, front to back.
 ghost use Rattle.std.specs.Prelude.{◌≡◌, ℕ, ◌+◌, ◌-◌, ◌^◌, ◌<◌, ◌≤◌, List, ◌++◌, length, map, All, IfSome, IfNone, IfOk};
 ghost use Rattle.std.specs.List.{flat_map};
 ghost use Rattle.bd_model.specs.Records.{four, eight};

@@ -1,3 +1,4 @@
+//! Writing the spelling of a catalogue.
 ghost use Rattle.std.specs.Prelude.{◌≡◌, ℕ, ◌+◌, ◌*◌, ◌^◌, ◌<◌, ◌≤◌, List, ◌∷◌, ◌++◌, length, drop, map, All};
 ghost use Rattle.std.specs.List.{flat_map};
 ghost use Rattle.bd_model.specs.Records.{four};

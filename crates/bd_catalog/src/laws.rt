@@ -1,3 +1,4 @@
+//! What holds of every catalogue's spelling.
 ghost use Rattle.std.specs.Prelude.{◌≡◌, ℕ, ◌≤◌, List, ◌++◌, length, IsTrue, Some};
 ghost use Rattle.bd_model.specs.declared.shape.Shape.{Shape};
 ghost use Rattle.bd_model.specs.Sizes.{Sizes, sizes_of, payload_room};

@@ -1,3 +1,4 @@
+//! What a catalogue says of versions, closed volumes and open categories.
 use bd_model::{CategoryRow, Sequence};
 use bd_space::Owned;
 

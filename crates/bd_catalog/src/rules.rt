@@ -1,3 +1,4 @@
+//! The rules that every catalogue obeys.
 ghost use Rattle.std.specs.Prelude.{◌≡◌, ℕ, ◌+◌, ◌-◌, ◌^◌, ◌<◌, ◌≤◌, length, map, IfSome, IfNone, IfOk, Some, None, is_some, if◌then◌else◌};
 ghost use Rattle.std.specs.List.{list_all, flat_map};
 ghost use Rattle.bd_model.specs.Sizes.{sizes_of};

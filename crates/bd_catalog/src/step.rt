@@ -1,3 +1,4 @@
+//! The steps that a commit makes.
 use crate::rows::{ActiveCategory, ClosedVolume, VersionRow};
 use bd_model::Sequence;
 

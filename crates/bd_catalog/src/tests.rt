@@ -1,3 +1,4 @@
+//! Catalogues read and written, and those that are refused.
 use crate::*;
 use bd_model::Shape;
 use std::alloc::Global;

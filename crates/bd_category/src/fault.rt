@@ -1,3 +1,4 @@
+//! What stands before a chunk, and why a record isn't read.
 use bd_model::{Damage, Mark};
 
 /// What stands before a stored chunk: its length in bytes and its fingerprint, and the place of this header among the

@@ -1,3 +1,4 @@
+//! The bytes of a record, written and read.
 ghost use Rattle.std.specs.Prelude.{◌≡◌, ◌+◌, ◌*◌, ◌≤◌, ◌++◌, length, take, drop, IfOk, OnOk};
 ghost use Rattle.std.specs.Int.{w32, from_be_bytes};
 ghost use Rattle.bd_disk.specs.Calls.{FailsByCount, HasCause};

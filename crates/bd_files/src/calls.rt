@@ -1,4 +1,4 @@
-// The calls of one kind, as a fake counts them.
+//! The calls of one kind, as a fake counts them.
 ghost use Rattle.std.specs.Prelude.{◌≡◌, ◌↔◌, ◌+◌, ◌-◌, ◌^◌, ◌≤◌, min, IsTrue};
 ghost use Rattle.bd_disk.specs.Calls.{Rose, one_more};
 

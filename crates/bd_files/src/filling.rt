@@ -1,4 +1,4 @@
-// A file of the system that is being filled.
+//! A file of the system that is being filled.
 ghost use Rattle.std.specs.Prelude.{◌≡◌, ◌≢◌, IfOk, IfSome, Some};
 
 use crate::identity::{FileIdentity, is_spared};

@@ -1,4 +1,4 @@
-// Which file of the system it is.
+//! Which file of the system it is.
 ghost use Rattle.std.specs.Prelude.{◌≡◌, ◌↔◌, Some, IsTrue};
 
 use std::fs::Metadata;

@@ -1,3 +1,4 @@
+//! Files in memory, which tell everything.
 ghost use Rattle.std.specs.Prelude.{◌≡◌, ◌+◌, ◌-◌, ◌*◌, ◌≤◌, ◌↔◌, ◌⊎◌, ℕ, List, length, min, take, drop, replicate, IfOk, OnOk, OnErr, IsErr, Some};
 ghost use Rattle.std.specs.Option.{option_map};
 ghost use Rattle.std.specs.FinMap as map;

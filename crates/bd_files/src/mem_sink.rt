@@ -1,3 +1,4 @@
+//! A sink in memory, which tells everything.
 ghost use Rattle.std.specs.Prelude.{◌≡◌, ◌↔◌, ◌⊎◌, OnOk, OnErr, IsErr, Some};
 ghost use Rattle.bd_disk.specs.Calls.{HasCause, Rose};
 ghost use Rattle.bd_disk.specs.History.{clock};

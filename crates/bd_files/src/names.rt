@@ -1,4 +1,4 @@
-// A list of names, the last that came in front.
+//! A list of names, the last that came in front.
 ghost use Rattle.std.specs.Prelude.{◌≡◌, [], ◌∷◌, OnOk, OnErr};
 ghost use Rattle.bd_files.specs.Files.{without};
 

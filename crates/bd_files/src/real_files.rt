@@ -1,4 +1,4 @@
-// Files of the system, of whose bytes no contract speaks.
+//! Files of the system, of whose bytes no contract speaks.
 ghost use Rattle.std.specs.Prelude.{◌≡◌, ◌≤◌, [], IfOk, None, Some, length};
 ghost use Rattle.std.specs.FinMap as map;
 ghost use Rattle.bd_disk.specs.Calls.{HasCause};

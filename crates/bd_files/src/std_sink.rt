@@ -1,4 +1,4 @@
-// Standard output, of whose bytes no contract speaks.
+//! Standard output, of whose bytes no contract speaks.
 ghost use Rattle.std.specs.Prelude.{◌≡◌, []};
 ghost use Rattle.bd_disk.specs.Calls.{HasCause};
 ghost use Rattle.bd_files.specs.Outside.{CountsFailed};

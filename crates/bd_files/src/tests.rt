@@ -1,3 +1,4 @@
+//! Files and sinks, in memory and real.
 use super::*;
 use bd_disk::{Failed, MemDisk};
 use bd_model::Name;

@@ -1,4 +1,4 @@
-// Texts one behind the other, each with its moment.
+//! Texts one behind the other, each with its moment.
 ghost use Rattle.std.specs.Prelude.{◌≡◌, [], ◌∷◌, ◌++◌, OnOk, OnErr};
 ghost use Rattle.bd_files.specs.Sinks.{moments_of, whole, written_of};
 

@@ -1,3 +1,4 @@
+//! The newest half, and its payload.
 ghost use Rattle.std.specs.Prelude.{◌≡◌, ◌+◌, ◌*◌, ◌<◌, ◌≤◌, ◌==◌, length, IfOk, OnOk};
 ghost use Rattle.bd_disk.specs.Calls.{FailsByCount, HasCause};
 ghost use Rattle.bd_disk.specs.History.{contents};

@@ -1,3 +1,4 @@
+//! Halves that are the newest, and images that a stop leaves.
 ghost use Rattle.std.specs.Prelude.{◌≤◌, length, OnOk};
 ghost use Rattle.bd_disk.specs.History.{contents};
 ghost use Rattle.bd_disk.specs.Made.{IsSettled};

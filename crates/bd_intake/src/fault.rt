@@ -1,3 +1,4 @@
+//! Why a version isn't taken in.
 use bd_disk::Failed;
 use std::alloc::AllocError as OutOfMemory;
 

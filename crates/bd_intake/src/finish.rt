@@ -1,4 +1,4 @@
-// The ends of what is staged: a version, or nothing.
+//! The ends of what is staged: a version, or nothing.
 ghost use Rattle.std.specs.Prelude.{◌≡◌, ℕ, ◌+◌, ◌<◌, ◌^◌, List, [], ◌∷◌, ◌++◌, length, nat_lt, if◌then◌else◌};
 ghost use Rattle.bd_catalog.specs.Shown.{version_entry};
 ghost use Rattle.bd_catalog.specs.Steps.{fresh_entries};

@@ -1,4 +1,4 @@
-// The bytes of one chunk: its record, where it's new, and its entry.
+//! The bytes of one chunk: its record, where it is new, and its entry.
 ghost use Rattle.std.specs.Prelude.{◌≡◌, ℕ, ◌+◌, ◌*◌, ◌≤◌, List, [], ◌++◌, ◌∷◌, length, OnOk, IsTrue};
 ghost use Rattle.bd_disk.specs.Calls.{HasCause};
 ghost use Rattle.bd_disk.specs.History.{contents};

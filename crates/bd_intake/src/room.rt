@@ -1,4 +1,4 @@
-// Extents for what is staged.
+//! Extents for what is staged.
 ghost use Rattle.std.specs.Prelude.{◌≡◌, ◌+◌, ◌*◌, ◌^◌, ◌<◌, ◌≤◌, length, OnOk, IfErr};
 ghost use Rattle.bd_model.specs.Room.{up};
 ghost use Rattle.bd_model.specs.Sizes.{sizes_of};

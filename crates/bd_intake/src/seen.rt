@@ -1,3 +1,4 @@
+//! Which chunks came already.
 ghost use Rattle.std.specs.Prelude.{◌≡◌, ℕ, List, [], ◌||◌, not, IfOk, OnOk};
 ghost use Rattle.std.specs.Str.{bytes_eq};
 ghost use Rattle.bd_intake.specs.Firsts.{knows};

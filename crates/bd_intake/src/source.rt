@@ -1,4 +1,4 @@
-// A source, piece after piece.
+//! A source, piece after piece.
 ghost use Rattle.std.specs.Prelude.{◌≡◌, ℕ, ◌+◌, ◌<◌, ◌≤◌, List, [], length, OnOk, IfOk, IfErr, IsFalse, Err};
 ghost use Rattle.bd_disk.specs.History.{contents};
 ghost use Rattle.bd_disk.specs.Made.{WritesOnly};

@@ -1,3 +1,4 @@
+//! A version that is written and not yet named.
 use bd_catalog::{ActiveCategory, VersionRow};
 
 /// A version that is written and not yet named by the catalogue.

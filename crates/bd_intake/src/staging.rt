@@ -1,3 +1,4 @@
+//! What is staged of a version while its chunks come.
 ghost use Rattle.std.specs.Prelude.{◌≡◌, ℕ, ◌+◌, ◌≤◌, List, [], ◌++◌, ◌∷◌, length, OnOk, IfErr, if◌then◌else◌};
 ghost use Rattle.bd_disk.specs.History.{contents};
 ghost use Rattle.bd_disk.specs.Made.{WritesOnly};

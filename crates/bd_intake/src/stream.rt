@@ -1,4 +1,4 @@
-// The chunks of a stream, as they are decided.
+//! The chunks of a stream, as they are decided.
 ghost use Rattle.std.specs.Prelude.{◌≡◌, ℕ, ◌<◌, ◌≤◌, List, [], ◌++◌, length, OnOk, IfErr, IsTrue};
 ghost use Rattle.bd_disk.specs.History.{contents};
 ghost use Rattle.bd_disk.specs.Made.{WritesOnly};

@@ -1,3 +1,4 @@
+//! First versions taken in, and those that are refused.
 use crate::{IntakeFault, intake};
 use bd_catalog::Catalog;
 use bd_disk::{Disk, MemDisk};

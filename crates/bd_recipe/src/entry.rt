@@ -1,3 +1,4 @@
+//! The bytes of an entry.
 ghost use Rattle.std.specs.Prelude.{◌≡◌, ◌+◌, ◌*◌, ◌≤◌, length, drop, OnOk};
 ghost use Rattle.bd_disk.specs.Calls.{HasCause};
 ghost use Rattle.bd_disk.specs.Images.{overwritten};

@@ -1,3 +1,4 @@
+//! Why a recipe isn't read.
 use bd_disk::Failed;
 use bd_model::Damage;
 use std::alloc::AllocError as OutOfMemory;

@@ -1,3 +1,4 @@
+//! What the entries of a version may say.
 ghost use Rattle.std.specs.Prelude.{◌≡◌};
 ghost use Rattle.bd_recipe.specs.Entries.{is_within, limits_for};
 

@@ -1,3 +1,4 @@
+//! Where the recipe of a version lies.
 ghost use Rattle.std.specs.Prelude.{◌≤◌};
 ghost use Rattle.bd_model.specs.Sizes.{sizes_of};
 ghost use Rattle.bd_catalog.specs.Catalogue.{oldest_in};

@@ -1,3 +1,4 @@
+//! A recipe that can be looked up by fingerprint.
 ghost use Rattle.std.specs.Prelude.{◌≡◌, ◌<◌, ◌↔◌, false, length, IfOk, IfSome, IsNone};
 ghost use Rattle.std.specs.Option.{option_map};
 ghost use Rattle.bd_model.specs.Recipe.{has_mark};

@@ -1,3 +1,4 @@
+//! The recipe of a version, read and checked.
 ghost use Rattle.std.specs.Prelude.{◌≡◌, ◌+◌, ◌*◌, ◌≤◌, ◌<◌, ◌++◌, ◌^◌, [], length, All, IsTrue, OnOk, IfOk, IfErr, Some};
 ghost use Rattle.std.specs.List.{list_all};
 ghost use Rattle.bd_disk.specs.Calls.{FailsByCount};

@@ -1,3 +1,4 @@
+//! A recipe read, looked up, and damaged.
 use crate::*;
 use bd_catalog::Catalog;
 use bd_disk::{Disk, MemDisk};

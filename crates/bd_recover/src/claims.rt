@@ -1,3 +1,4 @@
+//! The extents that a catalogue's owners have.
 ghost use Rattle.std.specs.Prelude.{◌≡◌, All, IfOk, nat_eq};
 ghost use Rattle.std.specs.List.{flat_map, IsDistinct};
 ghost use Rattle.bd_space.specs.Allotment.{IsFree, Marks, TakenExactly, extent_count, held_count};

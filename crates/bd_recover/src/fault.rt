@@ -1,3 +1,4 @@
+//! Why a disk isn't formatted or opened.
 use bd_catalog::LoadFault;
 use bd_disk::Failed;
 use bd_model::Place;

@@ -1,3 +1,4 @@
+//! The empty store, made on a disk.
 ghost use Rattle.std.specs.Prelude.{◌≡◌, ◌≢◌, Err, ◌+◌, ◌≤◌, ◌==◌, length, OnOk, IfOk, Ok};
 ghost use Rattle.bd_disk.specs.Calls.{FailsByCount, HasCause};
 ghost use Rattle.bd_disk.specs.History.{contents};

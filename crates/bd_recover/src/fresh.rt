@@ -1,3 +1,4 @@
+//! The bytes of the empty store.
 ghost use Rattle.std.specs.Prelude.{◌≡◌};
 ghost use Rattle.bd_model.specs.Sizes.{sizes_of};
 ghost use Rattle.bd_recover.specs.Fresh.{fresh_half, superblock_body};

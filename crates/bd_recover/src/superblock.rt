@@ -1,3 +1,4 @@
+//! The first 64 bytes of a store, checked.
 ghost use Rattle.std.specs.Prelude.{◌≡◌, ◌+◌, ◌≤◌, ◌==◌, true, false, replicate, bytes_eq, MatchOption};
 ghost use Rattle.bd_disk.specs.Images.{bytes_at};
 ghost use Rattle.bd_model.specs.Sizes.{sizes_of, is_shape};

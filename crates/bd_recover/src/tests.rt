@@ -1,3 +1,4 @@
+//! Disks formatted and opened, and those that are refused.
 use super::*;
 use bd_disk::{Disk, MemDisk, Touch, crash_image};
 use bd_model::{Place, Shape};

@@ -1,3 +1,4 @@
+//! Why a version isn't given back.
 use bd_category::CategoryFault;
 use bd_model::Damage;
 

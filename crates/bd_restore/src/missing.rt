@@ -1,3 +1,4 @@
+//! Which chunk wasn't found.
 ghost use Rattle.std.specs.Prelude.{◌≡◌, ℕ, ◌<◌, length, true, false, IfSome, IfNone};
 ghost use Rattle.bd_restore.specs.Target.{flag_at};
 

@@ -1,3 +1,4 @@
+//! Bodies put at their places in the target.
 ghost use Rattle.std.specs.Prelude.{◌≡◌, ◌≢◌, ℕ, ◌<◌, ◌≤◌, length, true, OnOk, slice_set};
 ghost use Rattle.std.specs.FinMap as map;
 ghost use Rattle.bd_disk.specs.Images.{overwritten};

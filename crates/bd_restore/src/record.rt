@@ -1,3 +1,4 @@
+//! One record of the walk.
 ghost use Rattle.std.specs.Prelude.{◌≡◌, ◌≢◌, ◌+◌, ◌*◌, ◌≤◌, [], ◌∷◌, List, length, OnOk, IfOk, Err};
 ghost use Rattle.bd_disk.specs.History.{contents};
 ghost use Rattle.bd_disk.specs.Made.{WritesNothing};

@@ -1,3 +1,4 @@
+//! A planned restore, carried out.
 ghost use Rattle.std.specs.Prelude.{◌≡◌, ◌≢◌, [], ◌≤◌, length, IfOk, IsTrue, OnOk, Err};
 ghost use Rattle.std.specs.FinMap as map;
 ghost use Rattle.bd_disk.specs.History.{contents};

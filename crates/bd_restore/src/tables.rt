@@ -1,3 +1,4 @@
+//! The entries of a recipe by their marks.
 ghost use Rattle.std.specs.Prelude.{◌≡◌, ℕ, ◌+◌, ◌<◌, ◌≤◌, ◌^◌, length, All, IfOk, IfSome};
 ghost use Rattle.bd_recipe.specs.Marked.{first_from, next_after};
 ghost use Rattle.bd_restore.specs.Target.{length_at, mark_at, place_at, ArePlaces};

@@ -1,3 +1,4 @@
+//! A version given back, and what damage on the way says.
 use crate::*;
 use bd_catalog::Catalog;
 use bd_category::write_chunk;

@@ -1,3 +1,4 @@
+//! The lines of answers.
 ghost use Rattle.std.specs.Prelude.{◌≡◌, ◌≤◌, ◌↔◌, take, IsTrue, IsNone, IfSome};
 ghost use Rattle.bd_model.specs.Texts.{answer_text, none_text};
 ghost use Rattle.bd_model.specs.declared.answer.Answer.TheVariants.{BackedUp, Restored, Expired, Arranged, FullVersions, FullExtents, NoVersion, Blanked};

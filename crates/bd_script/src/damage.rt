@@ -1,3 +1,4 @@
+//! The line of a damage.
 ghost use Rattle.std.specs.Prelude.{◌≡◌, ◌+◌, ◌≤◌, ◌++◌, length};
 ghost use Rattle.bd_model.specs.Texts.{damage_text, owner_text};
 ghost use Rattle.bd_model.specs.declared.damage.Damage.{Damage};

@@ -1,3 +1,4 @@
+//! Short texts without memory.
 ghost use Rattle.std.specs.Prelude.{◌≡◌, ◌+◌, ◌≤◌, ◌↔◌, [], ◌∷◌, ◌++◌, length, decimal, IsTrue};
 ghost use Rattle.bd_model.specs.Texts.{line, named, hex};
 

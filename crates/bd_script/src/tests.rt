@@ -1,3 +1,4 @@
+//! The line of each answer and each damage.
 use crate::{answer_text, damage_line, short_text};
 use bd_marks::mark_of;
 use bd_model::{Answer, Damage, Findings, Owner, ScrubReport, VersionLine, VersionLines};

@@ -1,3 +1,4 @@
+//! The text of an answer, whole.
 ghost use Rattle.std.specs.Prelude.{◌≡◌, [], ◌++◌, IfOk, IsAscii, codes, length};
 ghost use Rattle.std.specs.List.{flat_map};
 ghost use Rattle.bd_model.specs.Texts.{answer_text, damage_text, version_text, line, named};

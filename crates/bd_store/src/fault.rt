@@ -1,3 +1,4 @@
+//! Why a command on a store isn't carried out.
 ghost use Rattle.std.specs.Prelude.{◌≡◌, ◌↔◌, true, Err};
 
 use bd_model::{Answer, Damage};

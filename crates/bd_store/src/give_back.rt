@@ -1,3 +1,4 @@
+//! A version, given back.
 ghost use Rattle.std.specs.Prelude.{◌≡◌, ℕ, ◌≤◌};
 ghost use Rattle.std.specs.FinMap as map;
 ghost use Rattle.bd_disk.specs.History.{contents};

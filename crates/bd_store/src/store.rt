@@ -1,3 +1,4 @@
+//! A store, and the commands on it.
 ghost use Rattle.std.specs.Prelude.{◌≡◌, ◌↔◌, ◌≤◌, ◌<◌, true, false, IfOk, OnOk, IfErr, Ok, Err};
 ghost use Rattle.std.specs.FinMap as map;
 ghost use Rattle.bd_disk.specs.Calls.{FailsByCount, Rose};

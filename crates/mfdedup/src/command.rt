@@ -1,3 +1,4 @@
+//! One command, carried out on a store.
 ghost use Rattle.std.specs.Prelude.{ℕ, List, ◌≡◌, ◌≤◌, false, true, IfOk, Ok, Err};
 ghost use Rattle.bd_disk.specs.Made.{WritesOnly};
 ghost use Rattle.bd_model.specs.Sizes.{disk_bytes};

@@ -1,3 +1,4 @@
+//! What came of the commands so far.
 ghost use Rattle.std.specs.Prelude.{◌≡◌, ◌≤◌, [], ◌∷◌, IfOk};
 ghost use Rattle.mfdedup.specs.declared.report.End.TheVariants.{Done};
 

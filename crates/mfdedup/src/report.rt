@@ -1,3 +1,4 @@
+//! What a run answers.
 use bd_model::{Answers, Commands, Damage, Field, Moments, Name, Place, Shape};
 
 /// What the words ask for.

@@ -1,3 +1,4 @@
+//! A run, from its words to its last line.
 ghost use Rattle.std.specs.Prelude.{◌≡◌, ◌⊎◌, ◌≤◌, ◌++◌, [], ◌∷◌, ℕ, List, true, false, map, string_bytes, Some};
 ghost use Rattle.bd_disk.specs.History.{History, clock, contents};
 ghost use Rattle.bd_disk.specs.Made.{WritesOnly};

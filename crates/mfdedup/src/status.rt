@@ -1,3 +1,4 @@
+//! Exit statuses and last lines.
 ghost use Rattle.std.specs.Prelude.{◌≡◌, ◌≤◌, ◌+◌, ◌++◌, length};
 ghost use Rattle.std.specs.List.{list_any};
 ghost use Rattle.bd_model.specs.Texts.{line, named};

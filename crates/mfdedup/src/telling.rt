@@ -1,3 +1,4 @@
+//! Texts put to the sink.
 ghost use Rattle.std.specs.Prelude.{◌≡◌, ◌≤◌, [], ◌++◌, ℕ, List, IfOk, OnOk, OnErr, Err};
 ghost use Rattle.bd_disk.specs.Calls.{Rose};
 ghost use Rattle.bd_disk.specs.History.{clock};

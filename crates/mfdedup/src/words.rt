@@ -1,3 +1,4 @@
+//! What the words of a command line ask for.
 ghost use Rattle.std.specs.Prelude.{◌≡◌, ◌⊎◌, ◌≤◌, ◌<◌, ◌^◌, ◌↔◌, ◌∷◌, [], true, false, IfOk, IfErr, IsTrue, map, string_bytes, Some};
 ghost use Rattle.std.specs.List.{list_all};
 ghost use Rattle.bd_model.specs.Limits.{is_name};
