@@ -15,7 +15,7 @@ use Rattle.bd_gear.specs.Chunking.{Chunking, given, next_len}
 use Rattle.bd_gear.specs.Feeding.{HasFed, place_after}
 use Rattle.bd_gear.specs.Laws.{TheTakenAreAFront, PiecesMakeNoDifference}
 use Rattle.bd_gear.specs.Seeking.{Seeks, LooksOn}
-use Rattle.bd_gear.proofs.NextLemmas.{find-none, find-first, given-parts, next_len-candidate, next_len-full, next_len-rest, next_len-none, next_len-append, next_len-finish, next_len-within, next_len-decided, next_len-end}
+use Rattle.bd_gear.proofs.NextLemmas.{find-none, find-first, given-parts, next_len-candidate, next_len-full, next_len-rest, next_len-none, next_len-append, next_len-within, next_len-decided, next_len-end}
 
 -- the hash rolled on over the bytes behind these
 rolled-held : (front held : List ℕ) (from k hash : ℕ) → from ≤ k → hash ≡ rolled (take (length front + from) (front ++ held)) →
