@@ -1,5 +1,5 @@
 -- The headline of one command, from its session and the opening before it.
-use Rattle.std.proofs.Common.{◌≡◌, ◌⊎◌, MatchBool, ◌∙◌, ℕ, ◌<◌, ◌≤◌, Bool, true, false, List, [], ◌∷◌, inl, inr, refl, sym, subst, ap, arith, Some, None, Ok, Err, Result, cond}
+use Rattle.std.proofs.Common.{◌≡◌, ◌⊎◌, MatchBool, ◌∙◌, ℕ, ◌≤◌, Bool, true, false, List, [], ◌∷◌, inl, inr, refl, sym, subst, ap, arith, Some, None, Ok, Err, Result, cond}
 use Rattle.bd_disk.specs.Calls.{Rose}
 use Rattle.bd_disk.specs.History.{History, clock, contents}
 use Rattle.bd_disk.specs.Looks.{LooksOnlyAt}

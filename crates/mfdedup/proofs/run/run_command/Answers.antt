@@ -1,4 +1,4 @@
-use Rattle.std.proofs.Common.{◌∙◌, inl, inr, sym, ap, subst, Err}
+use Rattle.std.proofs.Common.{◌∙◌, inl, inr, sym, ap, subst}
 use Rattle.bd_disk.proofs.Frames.{made_both, made_none, nothing_within}
 use Rattle.bd_disk.proofs.RunLemmas.{looked, nothing_written}
 use Rattle.mfdedup.specs.Counts.{all_counts, EndsByCount}
