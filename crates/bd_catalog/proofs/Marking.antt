@@ -1,7 +1,8 @@
 -- Marks of the numbers that were seen.
-use Rattle.std.proofs.Common.{◌≡◌, ◌≢◌, ℕ, ◌+◌, ◌<◌, ◌≤◌, Bool, true, false, not, ◌&&◌, ◌||◌, cond, ⊎_elim, List, [], ◌∷◌, ◌++◌, length, drop, set, get_or, replicate, Some, None, is_some, nat_eq, nat_lt, refl, sym, ◌∙◌, ap, arith}
+use Rattle.std.proofs.Common.{◌≡◌, ◌≢◌, ℕ, ◌+◌, ◌<◌, ◌≤◌, Bool, true, false, not, ◌&&◌, ◌||◌, cond, ⊎_elim, List, [], ◌∷◌, ◌++◌, length, drop, set, get_or, replicate, Some, None, is_some, map, nat_eq, nat_lt, refl, sym, ◌∙◌, ap, arith}
 use Rattle.std.specs.List.{flat_map, list_all, list_any}
 use Rattle.std.proofs.lemmas.List.{at_drop_more, get_or-set_same, get_or-set_other, get_or_past, get_or-replicate, length-set, length-replicate}
+use Rattle.std.proofs.lemmas.List.Folds.{flat_map-map}
 use Rattle.std.proofs.lemmas.Bool.{eqb-true, eqb-false, ltb-true, ltb-false, cases_lt}
 use Rattle.bd_model.proofs.ListLemmas.{and-true, and-false, and_assoc}
 use Rattle.bd_catalog.specs.Checked.{marked}
@@ -90,6 +91,10 @@ list_all-fresh top (n ∷ ns) = ap (λ (b : Bool). b && list_all (free (replicat
 -- from no mark on, the numbers that can all be marked are those below the size that differ
 pub marked_fresh : (top : ℕ) (ns : List ℕ) → is_some (marked (replicate top false) ns) ≡ (list_all (λ n. nat_lt n top) ns && all_differ ns)
 marked_fresh top ns = is_some-marked (replicate top false) ns ∙ ap (λ (b : Bool). b && all_differ ns) (list_all-fresh top ns)
+
+-- owners in memory have the numbers of the entries that they show
+pub shown_numbers : {X Y : Type 0} (f : Y → List ℕ) (entry : X → Y) (xs : List X) (ys : List Y) → map entry xs ≡ ys → flat_map f ys ≡ flat_map (λ x. f (entry x)) xs
+shown_numbers f entry xs ys shown = ap (flat_map f) (sym shown) ∙ flat_map-map f entry xs
 
 -- the numbers of three kinds of owners, in turn
 module _ (seen : List Bool) (xs ys zs : List ℕ) where

@@ -18,5 +18,5 @@ pub use bd_model::{CategoryRow, Phase};
 pub use catalog::Catalog;
 pub use laws::catalogues_read_back;
 pub use load::LoadFault;
-pub use rows::{ActiveCategory, Actives, ClosedVolume, Rows, VersionRow};
+pub use rows::{ActiveCategory, Actives, ClosedVolume, OwnsExtents, Rows, VersionRow};
 pub use step::{SplitRow, Splits, Step};

@@ -1,4 +1,6 @@
 //! What a catalogue says of versions, closed volumes and open categories.
+ghost use Rattle.std.specs.Prelude.{◌≡◌, ℕ, List};
+
 use bd_model::{CategoryRow, Sequence};
 use bd_space::Owned;
 
@@ -35,4 +37,37 @@ pub struct ActiveCategory {
     pub row: CategoryRow,
     /// The extents of its records.
     pub extents: Owned,
+}
+
+/// What owns extents.
+pub trait OwnsExtents {
+    /// Their numbers.
+    ghost numbers: { Self → List ℕ };
+
+    fn extents(&self) -> &Owned
+        ensures { result.now.numbers ≡ numbers self.now };
+}
+
+impl OwnsExtents for VersionRow {
+    ghost numbers = { λ row. row.recipe.numbers };
+
+    fn extents(&self) -> &Owned {
+        &self.recipe
+    }
+}
+
+impl OwnsExtents for ClosedVolume {
+    ghost numbers = { λ volume. volume.extents.numbers };
+
+    fn extents(&self) -> &Owned {
+        &self.extents
+    }
+}
+
+impl OwnsExtents for ActiveCategory {
+    ghost numbers = { λ active. active.extents.numbers };
+
+    fn extents(&self) -> &Owned {
+        &self.extents
+    }
 }

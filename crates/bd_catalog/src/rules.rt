@@ -9,7 +9,7 @@ ghost use Rattle.bd_catalog.specs.Shown.{version_entry, volume_entry, open_entry
 ghost use Rattle.bd_catalog.specs.Checked.{lists_hold, marked};
 
 use crate::contents::Contents;
-use crate::rows::{ActiveCategory, ClosedVolume, VersionRow};
+use crate::rows::{ActiveCategory, ClosedVolume, OwnsExtents, VersionRow};
 use bd_model::{CategoryRow, Phase, Shape};
 use std::alloc::{AllocError as OutOfMemory, Global};
 
@@ -217,33 +217,12 @@ fn mark_all(seen: &mut [bool], numbers: &[u32]) -> bool
     true
 }
 
-fn mark_versions(seen: &mut [bool], rows: &[VersionRow]) -> bool
-    ensures { marked seen.old (flat_map (λ x. x.recipe.numbers) rows.now) ≡ (if result then Some seen.new else None) }
+// Marks the numbers of these owners as seen, as `mark_all` does.
+fn mark_owners<T: OwnsExtents>(seen: &mut [bool], owners: &[T]) -> bool
+    ensures { marked seen.old (flat_map T.numbers owners.now) ≡ (if result then Some seen.new else None) }
 {
-    for row in rows {
-        if !mark_all(seen, row.recipe.numbers()) {
-            return false;
-        }
-    }
-    true
-}
-
-fn mark_volumes(seen: &mut [bool], volumes: &[ClosedVolume]) -> bool
-    ensures { marked seen.old (flat_map (λ x. x.extents.numbers) volumes.now) ≡ (if result then Some seen.new else None) }
-{
-    for volume in volumes {
-        if !mark_all(seen, volume.extents.numbers()) {
-            return false;
-        }
-    }
-    true
-}
-
-fn mark_actives(seen: &mut [bool], actives: &[ActiveCategory]) -> bool
-    ensures { marked seen.old (flat_map (λ x. x.extents.numbers) actives.now) ≡ (if result then Some seen.new else None) }
-{
-    for active in actives {
-        if !mark_all(seen, active.extents.numbers()) {
+    for owner in owners {
+        if !mark_all(seen, owner.extents().numbers()) {
             return false;
         }
     }
@@ -254,13 +233,13 @@ fn mark_actives(seen: &mut [bool], actives: &[ActiveCategory]) -> bool
 fn mark_owned(seen: &mut [bool], contents: &Contents) -> bool
     ensures { result ≡ is_some (marked seen.old (all_extents (catalogue_of_contents contents.now))) }
 {
-    if !mark_versions(seen, &contents.versions) {
+    if !mark_owners(seen, &contents.versions) {
         return false;
     }
-    if !mark_volumes(seen, &contents.volumes) {
+    if !mark_owners(seen, &contents.volumes) {
         return false;
     }
-    mark_actives(seen, contents.actives.as_slice())
+    mark_owners(seen, contents.actives.as_slice())
 }
 
 // Whether each number names an extent and none stands twice.

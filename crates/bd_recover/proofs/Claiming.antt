@@ -1,5 +1,5 @@
 -- The extents of owners that are claimed one after the other.
-use Rattle.std.proofs.Common.{◌≡◌, inl, inr, ℕ, zero, suc, ◌+◌, ◌<◌, ◌≤◌, Bool, true, List, [], ◌∷◌, ◌++◌, length, drop, get_or, map, refl, sym, ◌∙◌, ap, subst, arith, replicate, All, Contains, slice_get, Some, nat_eq, nat_lt}
+use Rattle.std.proofs.Common.{◌≡◌, inl, inr, ℕ, zero, suc, ◌+◌, ◌<◌, ◌≤◌, Bool, true, List, [], ◌∷◌, ◌++◌, length, drop, get_or, refl, sym, ◌∙◌, ap, subst, arith, replicate, All, Contains, slice_get, Some, nat_eq, nat_lt}
 use Rattle.std.specs.List.{IsDistinct, flat_map, list_all}
 use Rattle.std.proofs.lemmas.Bool.{ltb-true}
 use Rattle.std.proofs.lemmas.List.{at_drop_more, drop_all}
@@ -13,11 +13,7 @@ use Rattle.bd_space.proofs.Exact.{TakenExactly-new, TakenExactly-append}
 use Rattle.bd_space.proofs.Numbers.{Contains_decided}
 use Rattle.bd_model.specs.Sizes.{Sizes, sizes_of}
 use Rattle.bd_model.specs.declared.shape.Shape.{Shape}
-use Rattle.bd_catalog.specs.declared.rows.ActiveCategory.{ActiveCategory}
-use Rattle.bd_catalog.specs.declared.rows.ClosedVolume.{ClosedVolume}
-use Rattle.bd_catalog.specs.declared.rows.VersionRow.{VersionRow}
 use Rattle.bd_catalog.specs.Catalogue.{Catalogue, VersionEntry, VolumeEntry, OpenEntry, all_extents}
-use Rattle.bd_catalog.specs.Shown.{version_entry, volume_entry, open_entry}
 use Rattle.bd_catalog.specs.Rules.{obeys, all_differ}
 use Rattle.bd_catalog.proofs.Obeying.{rules_of, distinct_of}
 
@@ -61,27 +57,27 @@ claiming_all all old free distinct = record { free = free; distinct = distinct; 
 
 module _ {X : Type 0} (f : X → List ℕ) (xs : List X) (all : List ℕ) (old : Allotment) where
   -- the next owner's numbers stand first
-  module _ (i : ℕ) (x : X) (is : x ≡ get_or xs i x) (more : i < length xs) (now : Allotment) (claiming : IsClaiming (flat_map f (drop i xs)) all old now) where
+  module _ (i : ℕ) (x : X) (is : x ≡ get_or xs i x) (more : i < length xs) (ns : List ℕ) (same : ns ≡ f x) (now : Allotment) (claiming : IsClaiming (flat_map f (drop i xs)) all old now) where
     abbrev behind : List ℕ
     behind = flat_map f (drop (i + 1) xs)
 
-    here : flat_map f (drop i xs) ≡ f x ++ behind
-    here = at_drop_more (λ (ys : List X). flat_map f ys) xs i x more ∙ ap (λ (y : X). f y ++ behind) (sym is)
+    here : flat_map f (drop i xs) ≡ ns ++ behind
+    here = at_drop_more (λ (ys : List X). flat_map f ys) xs i x more ∙ ap (λ (y : X). f y ++ behind) (sym is) ∙ ap (λ (ms : List ℕ). ms ++ behind) (sym same)
 
-    pub next_free : All (IsFree now) (f x)
-    next_free = free_front now (f x) behind (subst (All (IsFree now)) here claiming.free)
+    pub next_free : All (IsFree now) ns
+    next_free = free_front now ns behind (subst (All (IsFree now)) here claiming.free)
 
-    pub next_distinct : IsDistinct nat_eq (f x)
-    next_distinct = distinct_left (f x) behind (subst (IsDistinct nat_eq) here claiming.distinct)
+    pub next_distinct : IsDistinct nat_eq ns
+    next_distinct = distinct_left ns behind (subst (IsDistinct nat_eq) here claiming.distinct)
 
-    pub next_claimed : (new : Allotment) → Marks (f x) Taken now new → held_count new ≡ held_count now → IsClaiming behind all old new
+    pub next_claimed : (new : Allotment) → Marks ns Taken now new → held_count new ≡ held_count now → IsClaiming behind all old new
     next_claimed new marks held =
-        let free : All (IsFree now) (f x ++ behind) = subst (All (IsFree now)) here claiming.free in
-        let distinct : IsDistinct nat_eq (f x ++ behind) = subst (IsDistinct nat_eq) here claiming.distinct in
+        let free : All (IsFree now) (ns ++ behind) = subst (All (IsFree now)) here claiming.free in
+        let distinct : IsDistinct nat_eq (ns ++ behind) = subst (IsDistinct nat_eq) here claiming.distinct in
         record {
-          free = free_behind Taken (f x) behind now new free distinct marks;
-          distinct = distinct_right (f x) behind distinct;
-          taken = λ last rest. claiming.taken last (subst (λ ns. Marks ns Taken now last) (sym here) (marks_both Taken (f x) behind now new last marks rest));
+          free = free_behind Taken ns behind now new free distinct marks;
+          distinct = distinct_right ns behind distinct;
+          taken = λ last rest. claiming.taken last (subst (λ ms. Marks ms Taken now last) (sym here) (marks_both Taken ns behind now new last marks rest));
           held = held ∙ claiming.held;
         }
 
@@ -104,10 +100,6 @@ all_free top space (n ∷ ns) new below =
     All-cons (IsFree space) n ns
     (ap (λ us. slice_get us n) new ∙ free_of top n (ltb-true n top (left_and (nat_lt n top) (list_all (λ m. nat_lt m top) ns) below)))
     (all_free top space ns new (right_and (nat_lt n top) (list_all (λ m. nat_lt m top) ns) below))
-
-pub mapped : {X Y : Type 0} (f : Y → List ℕ) (g : X → Y) (xs : List X) → flat_map f (map g xs) ≡ flat_map (λ x. f (g x)) xs
-mapped f g [] = refl
-mapped f g (x ∷ xs) = ap (λ ns. f (g x) ++ ns) (mapped f g xs)
 
 -- the lists of three kinds of owners, of a catalogue that obeys its rules
 pub record IsOwned (s : Sizes) (c : Catalogue) (xs ys zs : List ℕ) (space : Allotment) : Type 0 where
@@ -159,14 +151,3 @@ owned shape s c xs ys zs space n obeyed sizes count new first second third = rec
   lists = λ i. first i ++ second i ++ third i;
   new = new ∙ ap (λ m. replicate m Free) (count ∙ ap (λ (t : Sizes). t.extents) sizes);
 }
-
--- the extents of rows in memory are those of their entries
-pub recipes : (rows : List VersionRow) (entries : List VersionEntry) → map version_entry rows ≡ entries → flat_map (λ (e : VersionEntry). e.extents) entries ≡ flat_map (λ (x : VersionRow). x.recipe.numbers) rows
-recipes rows entries same = ap (flat_map (λ (e : VersionEntry). e.extents)) (sym same) ∙ mapped (λ (e : VersionEntry). e.extents) version_entry rows
-
-pub closed : (rows : List ClosedVolume) (entries : List VolumeEntry) → map volume_entry rows ≡ entries → flat_map (λ (e : VolumeEntry). e.extents) entries ≡ flat_map (λ (x : ClosedVolume). x.extents.numbers) rows
-closed rows entries same = ap (flat_map (λ (e : VolumeEntry). e.extents)) (sym same) ∙ mapped (λ (e : VolumeEntry). e.extents) volume_entry rows
-
-pub opens : (rows items : List ActiveCategory) (entries : List OpenEntry) → rows ≡ items → map open_entry items ≡ entries → flat_map (λ (e : OpenEntry). e.extents) entries ≡ flat_map (λ (x : ActiveCategory). x.extents.numbers) rows
-opens rows items entries slice same =
-    ap (flat_map (λ (e : OpenEntry). e.extents)) (sym same ∙ ap (map open_entry) (sym slice)) ∙ mapped (λ (e : OpenEntry). e.extents) open_entry rows
