@@ -54,73 +54,65 @@ fn put_rows(into: &mut [u8], at: usize, rows: &[CategoryRow]) -> usize
     place
 }
 
-fn put_version(into: &mut [u8], at: usize, row: &VersionRow) -> usize
-    requires room { at + length (spelled_version_row row.now) ≤ length into.old }
-    requires fits { FitsVersion (version_entry row.now) }
-    ensures written { into.new ≡ put_at into.old at (spelled_version_row row.now) }
-    ensures behind { result ≡ at + length (spelled_version_row row.now) }
-{
-    put_u64(into, at, row.length);
-    put_u64(into, at + 8, row.chunks);
-    put_u64(into, at + 16, row.fresh);
-    put_extents(into, at + 24, row.recipe.numbers())
+/// What a catalogue has a list of.
+trait Spelled {
+    /// The bytes that spell it.
+    ghost spell: { Self → List ℕ };
+
+    /// That its numbers fit the fields that spell them.
+    ghost fits: { Self → Type 0 };
+
+    fn put(&self, into: &mut [u8], at: usize) -> usize
+        requires room { at + length (spell self.now) ≤ length into.old }
+        requires fits { fits self.now }
+        ensures written { into.new ≡ put_at into.old at (spell self.now) }
+        ensures behind { result ≡ at + length (spell self.now) };
 }
 
-fn put_versions(into: &mut [u8], at: usize, rows: &[VersionRow]) -> usize
-    requires room { at + length (flat_map spelled_version_row rows.now) ≤ length into.old }
-    requires fit { All (λ v. FitsVersion (version_entry v)) rows.now }
-    ensures written { into.new ≡ put_at into.old at (flat_map spelled_version_row rows.now) }
-    ensures behind { result ≡ at + length (flat_map spelled_version_row rows.now) }
-{
-    let mut place = at;
-    for row in rows {
-        place = put_version(into, place, row);
+impl Spelled for VersionRow {
+    ghost spell = { spelled_version_row };
+
+    ghost fits = { λ row. FitsVersion (version_entry row) };
+
+    fn put(&self, into: &mut [u8], at: usize) -> usize {
+        put_u64(into, at, self.length);
+        put_u64(into, at + 8, self.chunks);
+        put_u64(into, at + 16, self.fresh);
+        put_extents(into, at + 24, self.recipe.numbers())
     }
-    place
 }
 
-fn put_volume(into: &mut [u8], at: usize, volume: &ClosedVolume) -> usize
-    requires room { at + length (spelled_volume_row volume.now) ≤ length into.old }
-    requires fits { FitsVolume (volume_entry volume.now) }
-    ensures written { into.new ≡ put_at into.old at (spelled_volume_row volume.now) }
-    ensures behind { result ≡ at + length (spelled_volume_row volume.now) }
-{
-    let place = put_rows(into, at, volume.rows.as_slice());
-    put_extents(into, place, volume.extents.numbers())
-}
+impl Spelled for ClosedVolume {
+    ghost spell = { spelled_volume_row };
 
-fn put_volumes(into: &mut [u8], at: usize, volumes: &[ClosedVolume]) -> usize
-    requires room { at + length (flat_map spelled_volume_row volumes.now) ≤ length into.old }
-    requires fit { All (λ v. FitsVolume (volume_entry v)) volumes.now }
-    ensures written { into.new ≡ put_at into.old at (flat_map spelled_volume_row volumes.now) }
-    ensures behind { result ≡ at + length (flat_map spelled_volume_row volumes.now) }
-{
-    let mut place = at;
-    for volume in volumes {
-        place = put_volume(into, place, volume);
+    ghost fits = { λ volume. FitsVolume (volume_entry volume) };
+
+    fn put(&self, into: &mut [u8], at: usize) -> usize {
+        let place = put_rows(into, at, self.rows.as_slice());
+        put_extents(into, place, self.extents.numbers())
     }
-    place
 }
 
-fn put_active(into: &mut [u8], at: usize, active: &ActiveCategory) -> usize
-    requires room { at + length (spelled_active_row active.now) ≤ length into.old }
-    requires fits { FitsOpen (open_entry active.now) }
-    ensures written { into.new ≡ put_at into.old at (spelled_active_row active.now) }
-    ensures behind { result ≡ at + length (spelled_active_row active.now) }
-{
-    let place = put_row(into, at, &active.row);
-    put_extents(into, place, active.extents.numbers())
+impl Spelled for ActiveCategory {
+    ghost spell = { spelled_active_row };
+
+    ghost fits = { λ active. FitsOpen (open_entry active) };
+
+    fn put(&self, into: &mut [u8], at: usize) -> usize {
+        let place = put_row(into, at, &self.row);
+        put_extents(into, place, self.extents.numbers())
+    }
 }
 
-fn put_actives(into: &mut [u8], at: usize, actives: &[ActiveCategory]) -> usize
-    requires room { at + length (flat_map spelled_active_row actives.now) ≤ length into.old }
-    requires fit { All (λ a. FitsOpen (open_entry a)) actives.now }
-    ensures written { into.new ≡ put_at into.old at (flat_map spelled_active_row actives.now) }
-    ensures behind { result ≡ at + length (flat_map spelled_active_row actives.now) }
+fn put_many<T: Spelled>(into: &mut [u8], at: usize, items: &[T]) -> usize
+    requires room { at + length (flat_map T.spell items.now) ≤ length into.old }
+    requires fit { All T.fits items.now }
+    ensures written { into.new ≡ put_at into.old at (flat_map T.spell items.now) }
+    ensures behind { result ≡ at + length (flat_map T.spell items.now) }
 {
     let mut place = at;
-    for active in actives {
-        place = put_active(into, place, active);
+    for item in items {
+        place = item.put(into, place);
     }
     place
 }
@@ -168,8 +160,8 @@ pub(crate) fn put_contents(into: &mut [u8], contents: &Contents) -> usize
     ensures behind { result ≡ length (spelled (catalogue_of_contents contents.now)) }
 {
     let place = put_head(into, contents);
-    let place = put_versions(into, place, &contents.versions);
-    let place = put_volumes(into, place, &contents.volumes);
+    let place = put_many(into, place, &contents.versions);
+    let place = put_many(into, place, &contents.volumes);
     put_u32(into, place, contents.actives.len() as u32);
-    put_actives(into, place + 4, contents.actives.as_slice())
+    put_many(into, place + 4, contents.actives.as_slice())
 }

@@ -10,28 +10,28 @@ use Rattle.bd_catalog.specs.Writing.{put_at, spelled_version_row, spelled_volume
 use Rattle.bd_catalog.proofs.Writing.{All-unmap, length-spelled_parts, written_parts}
 use Rattle.bd_catalog.proofs.encode.put_contents.Goals as goal
 
-pub put_versions-place-requires-clause-room : goal.put_versions-place-requires-clause-room
-put_versions-place-requires-clause-room c =
+pub put_many-place-requires-clause-room : goal.put_many-place-requires-clause-room
+put_many-place-requires-clause-room c =
     omega (arith, c.requires.room, length-spelled_parts c.args.contents.now, c.put_head-place.ensures.behind, ap (λ (xs : List VersionRow). length (flat_map spelled_version_row xs)) c.deref.ensures.value)
 
-pub put_versions-place-requires-clause-fit : goal.put_versions-place-requires-clause-fit
-put_versions-place-requires-clause-fit c =
+pub put_many-place-requires-clause-fit : goal.put_many-place-requires-clause-fit
+put_many-place-requires-clause-fit c =
     rw (c.deref.ensures.value) (All-unmap FitsVersion version_entry c.args.contents.now.versions.items c.requires.fits.versions.each)
 
-pub put_volumes-place-requires-clause-room : goal.put_volumes-place-requires-clause-room
-put_volumes-place-requires-clause-room c =
+pub put_many-place-requires-2-clause-room : goal.put_many-place-requires-2-clause-room
+put_many-place-requires-2-clause-room c =
     omega (
       arith,
       c.requires.room,
       length-spelled_parts c.args.contents.now,
       c.put_head-place.ensures.behind,
-      c.put_versions-place.ensures.behind,
+      c.put_many-place.ensures.behind,
       ap (λ (xs : List VersionRow). length (flat_map spelled_version_row xs)) c.deref.ensures.value,
       ap (λ (xs : List ClosedVolume). length (flat_map spelled_volume_row xs)) c.deref-2.ensures.value,
     )
 
-pub put_volumes-place-requires-clause-fit : goal.put_volumes-place-requires-clause-fit
-put_volumes-place-requires-clause-fit c =
+pub put_many-place-requires-2-clause-fit : goal.put_many-place-requires-2-clause-fit
+put_many-place-requires-2-clause-fit c =
     rw (c.deref-2.ensures.value) (All-unmap FitsVolume volume_entry c.args.contents.now.volumes.items c.requires.fits.volumes)
 
 pub put_u32-requires : goal.put_u32-requires
@@ -41,28 +41,28 @@ put_u32-requires c =
       c.requires.room,
       length-spelled_parts c.args.contents.now,
       c.put_head-place.ensures.behind,
-      c.put_versions-place.ensures.behind,
-      c.put_volumes-place.ensures.behind,
+      c.put_many-place.ensures.behind,
+      c.put_many-place-2.ensures.behind,
       ap (λ (xs : List VersionRow). length (flat_map spelled_version_row xs)) c.deref.ensures.value,
       ap (λ (xs : List ClosedVolume). length (flat_map spelled_volume_row xs)) c.deref-2.ensures.value,
     )
 
-pub put_actives-requires-clause-room : goal.put_actives-requires-clause-room
-put_actives-requires-clause-room c =
+pub put_many-requires-clause-room : goal.put_many-requires-clause-room
+put_many-requires-clause-room c =
     omega (
       arith,
       c.requires.room,
       length-spelled_parts c.args.contents.now,
       c.put_head-place.ensures.behind,
-      c.put_versions-place.ensures.behind,
-      c.put_volumes-place.ensures.behind,
+      c.put_many-place.ensures.behind,
+      c.put_many-place-2.ensures.behind,
       ap (λ (xs : List VersionRow). length (flat_map spelled_version_row xs)) c.deref.ensures.value,
       ap (λ (xs : List ClosedVolume). length (flat_map spelled_volume_row xs)) c.deref-2.ensures.value,
       ap (λ (xs : List ActiveCategory). length (flat_map spelled_active_row xs)) c.as_slice.ensures,
     )
 
-pub put_actives-requires-clause-fit : goal.put_actives-requires-clause-fit
-put_actives-requires-clause-fit c =
+pub put_many-requires-clause-fit : goal.put_many-requires-clause-fit
+put_many-requires-clause-fit c =
     rw (c.as_slice.ensures) (All-unmap FitsOpen open_entry c.args.contents.now.actives.items c.requires.fits.actives.each)
 
 pub returns-clause-written : goal.returns-clause-written
@@ -72,18 +72,18 @@ returns-clause-written c =
     let versions : List VersionRow → List ℕ = λ xs. flat_map spelled_version_row xs in
     let volumes : List ClosedVolume → List ℕ = λ xs. flat_map spelled_volume_row xs in
     let actives : List ActiveCategory → List ℕ = λ xs. flat_map spelled_active_row xs in
-    written_parts x buffer c.put_head-place.new.into c.put_versions-place.new.into c.put_volumes-place.new.into c.put_u32.new.into c.put_actives.new.into
-    c.put_versions-place.result c.put_volumes-place.result c.put_actives.result c.requires.room
+    written_parts x buffer c.put_head-place.new.into c.put_many-place.new.into c.put_many-place-2.new.into c.put_u32.new.into c.put_many.new.into
+    c.put_many-place.result c.put_many-place-2.result c.put_many.result c.requires.room
     c.put_head-place.ensures.written
-    (c.put_versions-place.ensures.written
+    (c.put_many-place.ensures.written
     ∙ ap (λ (p : ℕ). put_at c.put_head-place.new.into p (versions c.deref.result.now)) c.put_head-place.ensures.behind
     ∙ ap (λ (xs : List VersionRow). put_at c.put_head-place.new.into 17 (versions xs)) c.deref.ensures.value)
-    (omega (arith, c.put_versions-place.ensures.behind, c.put_head-place.ensures.behind, ap (λ (xs : List VersionRow). length (versions xs)) c.deref.ensures.value))
-    (c.put_volumes-place.ensures.written ∙ ap (λ (xs : List ClosedVolume). put_at c.put_versions-place.new.into c.put_versions-place.result (volumes xs)) c.deref-2.ensures.value)
-    (omega (arith, c.put_volumes-place.ensures.behind, ap (λ (xs : List ClosedVolume). length (volumes xs)) c.deref-2.ensures.value))
-    (c.put_u32.ensures ∙ ap (λ (n : ℕ). put_at c.put_volumes-place.new.into c.put_volumes-place.result (four n)) c.len.ensures)
-    (c.put_actives.ensures.written ∙ ap (λ (xs : List ActiveCategory). put_at c.put_u32.new.into (c.put_volumes-place.result + 4) (actives xs)) c.as_slice.ensures)
-    (omega (arith, c.put_actives.ensures.behind, ap (λ (xs : List ActiveCategory). length (actives xs)) c.as_slice.ensures))
+    (omega (arith, c.put_many-place.ensures.behind, c.put_head-place.ensures.behind, ap (λ (xs : List VersionRow). length (versions xs)) c.deref.ensures.value))
+    (c.put_many-place-2.ensures.written ∙ ap (λ (xs : List ClosedVolume). put_at c.put_many-place.new.into c.put_many-place.result (volumes xs)) c.deref-2.ensures.value)
+    (omega (arith, c.put_many-place-2.ensures.behind, ap (λ (xs : List ClosedVolume). length (volumes xs)) c.deref-2.ensures.value))
+    (c.put_u32.ensures ∙ ap (λ (n : ℕ). put_at c.put_many-place-2.new.into c.put_many-place-2.result (four n)) c.len.ensures)
+    (c.put_many.ensures.written ∙ ap (λ (xs : List ActiveCategory). put_at c.put_u32.new.into (c.put_many-place-2.result + 4) (actives xs)) c.as_slice.ensures)
+    (omega (arith, c.put_many.ensures.behind, ap (λ (xs : List ActiveCategory). length (actives xs)) c.as_slice.ensures))
 
 pub returns-clause-behind : goal.returns-clause-behind
 returns-clause-behind c =
@@ -91,9 +91,9 @@ returns-clause-behind c =
       arith,
       length-spelled_parts c.args.contents.now,
       c.put_head-place.ensures.behind,
-      c.put_versions-place.ensures.behind,
-      c.put_volumes-place.ensures.behind,
-      c.put_actives.ensures.behind,
+      c.put_many-place.ensures.behind,
+      c.put_many-place-2.ensures.behind,
+      c.put_many.ensures.behind,
       ap (λ (xs : List VersionRow). length (flat_map spelled_version_row xs)) c.deref.ensures.value,
       ap (λ (xs : List ClosedVolume). length (flat_map spelled_volume_row xs)) c.deref-2.ensures.value,
       ap (λ (xs : List ActiveCategory). length (flat_map spelled_active_row xs)) c.as_slice.ensures,

@@ -2,11 +2,11 @@ use Rattle.std.proofs.Common.{ℕ, ◌+◌, List, ◌∙◌, ap, arith}
 use Rattle.bd_catalog.specs.Spelling.{spelled_extents, spelled_row}
 use Rattle.bd_catalog.specs.Writing.{put_at}
 use Rattle.bd_catalog.proofs.Writing.{put_at-append}
-use Rattle.bd_catalog.proofs.encode.put_active.Goals as goal
+use Rattle.bd_catalog.proofs.encode.ActiveCategorySpelled.put.Goals as goal
 
 pub returns-clause-written : goal.returns-clause-written
 returns-clause-written c =
-    let active = c.args.active.now in
+    let active = c.args.self.now in
     let at = c.args.at in
     c.put_extents.ensures.written
     ∙ ap (λ (ns : List ℕ). put_at c.put_row-place.new.into c.put_row-place.result (spelled_extents ns)) c.numbers.ensures

@@ -5,11 +5,11 @@ use Rattle.bd_model.specs.declared.layout.CategoryRow.{CategoryRow}
 use Rattle.bd_catalog.specs.Spelling.{spelled_extents, spelled_row}
 use Rattle.bd_catalog.specs.Writing.{put_at}
 use Rattle.bd_catalog.proofs.Writing.{put_at-append}
-use Rattle.bd_catalog.proofs.encode.put_volume.Goals as goal
+use Rattle.bd_catalog.proofs.encode.ClosedVolumeSpelled.put.Goals as goal
 
 pub returns-clause-written : goal.returns-clause-written
 returns-clause-written c =
-    let volume = c.args.volume.now in
+    let volume = c.args.self.now in
     let buffer = c.args.into.now in
     let rows : List CategoryRow → List ℕ = λ rs. four (length rs) ++ flat_map spelled_row rs in
     let front = rows volume.rows.items in

@@ -3,11 +3,11 @@ use Rattle.bd_model.specs.Records.{eight}
 use Rattle.bd_catalog.specs.Spelling.{spelled_extents}
 use Rattle.bd_catalog.specs.Writing.{put_at}
 use Rattle.bd_catalog.proofs.Writing.{put_at-append}
-use Rattle.bd_catalog.proofs.encode.put_version.Goals as goal
+use Rattle.bd_catalog.proofs.encode.VersionRowSpelled.put.Goals as goal
 
 pub returns-clause-written : goal.returns-clause-written
 returns-clause-written c =
-    let row = c.args.row.now in
+    let row = c.args.self.now in
     let buffer = c.args.into.now in
     let at = c.args.at in
     let first = eight row.length ++ eight row.chunks in
