@@ -2,10 +2,9 @@
 use Rattle.std.proofs.Common.{◌≡◌, inl, inr, ℕ, zero, suc, ◌+◌, ◌<◌, ◌≤◌, List, [], ◌∷◌, length, take, drop, get_or, refl, sym, ◌∙◌, ap, subst, arith, All, Contains, slice_get, Some, Bool, true, false, cond, nat_eq, zero-add, length-take, length-drop}
 use Rattle.std.specs.List.{IsDistinct}
 use Rattle.std.specs.List.Sorted.{IsStrictlyIncreasing}
-use Rattle.std.proofs.lemmas.List.{take-append-drop, length-take-le, get_or_default, get_or-take, get_or-drop}
+use Rattle.std.proofs.lemmas.List.{take-append-drop, get_or_default, get_or-take, get_or-drop}
 use Rattle.std.proofs.lemmas.List.Elements.{All-weaker, All-contains_itself, All-take, Contains-append_cases}
 use Rattle.std.proofs.lemmas.List.Kept.{AllPairs-from_increasing}
-use Rattle.std.proofs.lemmas.Option.{slice_get_within}
 use Rattle.bd_space.specs.declared.space.Use.{Use}
 use Rattle.bd_space.specs.declared.space.Use.TheVariants.{Free, Taken, Held}
 use Rattle.bd_space.specs.Allotment.{Allotment, is_free, numbers_from, free_numbers, free_count, IsFree}
@@ -50,18 +49,9 @@ length-free_numbers space = length-numbers_from is_free 0 space.uses
 pub All-lowest_free : (count : ℕ) (space : Allotment) → All (IsFree space) (take count (free_numbers space))
 All-lowest_free count space = All-lowest count space.uses
 
--- they are below the number of extents
-pub All-lowest_within : (count : ℕ) (space : Allotment) → All (λ n. n < length space.uses) (take count (free_numbers space))
-All-lowest_within count space =
-    All-weaker (IsFree space) (λ n. n < length space.uses) (λ n h. slice_get_within space.uses n Free h) _ (All-lowest_free count space)
-
 -- they differ from each other
 pub IsDistinct-lowest_free : (count : ℕ) (space : Allotment) → IsDistinct nat_eq (take count (free_numbers space))
 IsDistinct-lowest_free count space = IsDistinct-lowest count space.uses
-
--- there are as many as were wanted
-pub length-lowest_free : (count : ℕ) (space : Allotment) → count ≤ free_count space → length (take count (free_numbers space)) ≡ count
-length-lowest_free count space enough = length-take-le count (free_numbers space) (omega (arith, length-free_numbers space))
 
 -- ---- ascending
 
