@@ -3,19 +3,15 @@ use Rattle.std.proofs.Common.{◌≡◌, ⊎_elim, ℕ, ◌+◌, ◌-◌, ◌^�
 use Rattle.std.proofs.lemmas.Nat.{from_be_bytes-to_be_bytes_8}
 use Rattle.std.proofs.Math.Seq.{take-append_seam}
 use Rattle.std.specs.Int.{w64, from_be_bytes}
-use Rattle.bd_disk.specs.Images.{InRange, Agree, AgreeBut, bytes_at}
-use Rattle.bd_disk.specs.History.{History}
-use Rattle.bd_disk.specs.Made.{IsSure, LeavesSince, WritesOnly}
-use Rattle.bd_disk.proofs.Agreeing.{agree_fewer}
-use Rattle.bd_disk.proofs.Frames.{leaves_sure}
+use Rattle.bd_disk.specs.Images.{InRange, AgreeBut, bytes_at}
 use Rattle.bd_model.specs.Records.{eight}
 use Rattle.bd_model.specs.Sizes.{Sizes, half_bytes, half_place}
 use Rattle.bd_gate.specs.Superblock.{eight_at, closed_gate}
 use Rattle.bd_gate.specs.Commits.{frame_of}
-use Rattle.bd_gate.specs.Halves.{Half, half_at, newest_half, is_open, payload_of, InHalf, InHalves}
+use Rattle.bd_gate.specs.Halves.{Half, half_at, newest_half, is_open, payload_of, InHalf}
 use Rattle.bd_gate.specs.Standing.{IsCommitted}
 use Rattle.bd_gate.proofs.Newest.{place, places, newest_is_open}
-use Rattle.bd_gate.proofs.Kept.{half_of_frame, within_halves}
+use Rattle.bd_gate.proofs.Kept.{half_of_frame}
 
 -- ---- a frame
 
@@ -77,12 +73,3 @@ committed_payload s number turn payload old image lt fits is committed =
     }
 
 -- ---- elsewhere
-
--- what is as it was outside one half is so outside both
-pub but_halves : (s : Sizes) (number : ℕ) (old image : List ℕ) → number < 2 → AgreeBut (InHalf s number) old image → AgreeBut (InHalves s) old image
-but_halves s number old image lt but = agree_fewer _ _ old image (λ at out r. out (within_halves s number at lt r)) but
-
--- what was sure outside the halves stays so at any moment of a commit
-pub leaves_outside : (s : Sizes) (number : ℕ) (Places : ℕ → Type 0) (bytes : List ℕ) {a b : History} → number < 2 → ((at : ℕ) → Places at → InHalves s at → ⊥) → WritesOnly (InHalf s number) a b → IsSure Places bytes a
-    → LeavesSince (Agree Places bytes) a b
-leaves_outside s number Places bytes lt apart writes sure = leaves_sure Places bytes (λ at p r. apart at p (within_halves s number at lt r)) writes sure

@@ -1,29 +1,25 @@
 -- What stays of the newest half where its standing stays, what a frame makes of it, and what a commit leaves elsewhere.
-use Rattle.std.proofs.Common.{◌≡◌, add-zero, ℕ, ◌+◌, ◌-◌, ◌*◌, ◌<◌, ◌≤◌, ◌%◌, false, List, [], ◌∷◌, ◌++◌, length, take, drop, get_or, Some, refl, sym, ◌∙◌, ap, subst, arith, length-take, get_or-take, get_or-drop, take-take}
+use Rattle.std.proofs.Common.{◌≡◌, add-zero, ℕ, ◌+◌, ◌-◌, ◌*◌, ◌<◌, ◌≤◌, ◌%◌, List, length, take, drop, get_or, Some, sym, ◌∙◌, ap, subst, arith, length-take, get_or-take, get_or-drop, take-take}
 use Rattle.std.proofs.lemmas.List.{drop-take, drop-drop}
 use Rattle.std.specs.Int.{w32, w64, from_be_bytes}
 use Rattle.bd_disk.specs.Images.{InRange, Agree, AgreeBut, bytes_at}
 use Rattle.bd_disk.specs.History.{History, contents}
-use Rattle.bd_disk.specs.Made.{IsSure, Stores, WritesOnly, WritesNothing}
+use Rattle.bd_disk.specs.Made.{IsSure, WritesNothing}
 use Rattle.bd_disk.proofs.Agreeing.{same_bytes_at}
-use Rattle.bd_disk.proofs.Frames.{settled_sure, still_now, unchanged, writes_wider}
-use Rattle.bd_model.specs.Extents.{extent_bytes, owner_bytes}
+use Rattle.bd_disk.proofs.Frames.{still_now, unchanged}
+use Rattle.bd_model.specs.Extents.{extent_bytes}
 use Rattle.bd_model.specs.Sizes.{Sizes, half_bytes, half_place, extent_place, payload_room}
 use Rattle.bd_gate.specs.Superblock.{eight_at, four_at, sizes_at}
 use Rattle.bd_gate.specs.Halves.{Half, half_at, newest_half, is_open, turn_at, payload_of, InHalf, InHalves}
 use Rattle.bd_gate.specs.Standing.{behind, SameStanding, HasFrame, IsBeside, next_turn}
 use Rattle.bd_gate.proofs.Newest.{place, places, other_twice}
-use Rattle.bd_gate.proofs.Standings.{same_halves, same_beside, newest_of_standing, bytes_of_standing}
+use Rattle.bd_gate.proofs.Standings.{same_halves, newest_of_standing, bytes_of_standing}
 
 -- ---- where the standing stays
 
 -- images that agree on both halves have the same standing
 pub standing_of_halves : (s : Sizes) (old image : List ℕ) → Agree (InHalves s) old image → SameStanding s old image
 standing_of_halves s old image same = same_halves (half_bytes s) old image (omega arith) same
-
--- so have images that agree on the newest half, where the other one is closed
-pub standing_beside : (s : Sizes) (number : ℕ) (old image : List ℕ) → number < 2 → newest_half s old ≡ Some (1 - number) → is_open s image number ≡ false → Agree (InHalf s (1 - number)) old image → SameStanding s old image
-standing_beside s number old image lt is shut same = same_beside (half_bytes s) number old image lt (omega arith) is shut same
 
 -- ---- bytes of a part of a list
 
@@ -130,10 +126,6 @@ pub turn_after : (s : Sizes) (half : Half) {a b : History} → WritesNothing a b
 turn_after s half {a} {b} nothing found few =
     ap (λ (h : Half). (h.turn + 1) % 3) found ∙ (λ i. (turn_at s (sym (unchanged nothing) i) (sym (other_twice half.number (omega arith)) i) + 1) % 3)
 
--- the end of a commit stands for both halves at once
-pub sure_after : (s : Sizes) {at : ℕ} {bytes : List ℕ} {a b : History} → Stores at bytes a b → IsSure (InHalves s) (contents b) b
-sure_after s stores = settled_sure (InHalves s) stores.settled
-
 -- ---- elsewhere
 
 half_within : (size number at : ℕ) → number < 2 → InRange (place size number) size at → InRange 64 (2 * size) at
@@ -142,10 +134,6 @@ half_within size number at lt r = let p = places size number lt in (omega (arith
 -- a half is among both
 pub within_halves : (s : Sizes) (number at : ℕ) → number < 2 → InHalf s number at → InHalves s at
 within_halves s number at lt r = half_within (half_bytes s) number at lt r
-
--- what writes in one half writes in both
-pub writes_in_halves : (s : Sizes) (number : ℕ) {a b : History} → number < 2 → WritesOnly (InHalf s number) a b → WritesOnly (InHalves s) a b
-writes_in_halves s number lt writes = writes_wider _ (λ at r. within_halves s number at lt r) writes
 
 -- the superblock and the extents lie in no half
 pub superblock_apart : (s : Sizes) (at : ℕ) → at < 64 → InHalves s at → ⊥
@@ -176,7 +164,3 @@ sizes_same s old image but =
 -- and the same bytes in each extent, and so of each owner
 pub extent_same : (s : Sizes) (e : ℕ) (old image : List ℕ) → AgreeBut (InHalves s) old image → extent_bytes s image e ≡ extent_bytes s old e
 extent_same s e old image but = same_bytes_at _ old image (extent_place s e) s.extent (λ place r. extents_apart s e place r.0) but
-
-pub owner_same : (s : Sizes) (extents old image : List ℕ) → AgreeBut (InHalves s) old image → owner_bytes s extents image ≡ owner_bytes s extents old
-owner_same s [] old image but = refl
-owner_same s (e ∷ es) old image but = λ i. extent_same s e old image but i ++ owner_same s es old image but i
