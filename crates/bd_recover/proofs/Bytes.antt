@@ -1,7 +1,6 @@
 -- What the writes of a format leave.
-use Rattle.std.proofs.Common.{◌≡◌, ℕ, ◌+◌, ◌-◌, ◌<◌, ◌≤◌, List, [], ◌∷◌, length, take, drop, get_or, sym, ◌∙◌, ap, arith, take-take, drop-drop, eqb}
-use Rattle.std.proofs.lemmas.List.{drop-take}
-use Rattle.bd_disk.specs.Images.{InRange, AgreeBut, bytes_at, overwritten}
+use Rattle.std.proofs.Common.{◌≡◌, ℕ, ◌+◌, ◌<◌, ◌≤◌, List, [], ◌∷◌, length, get_or, ◌∙◌, ap, arith, eqb}
+use Rattle.bd_disk.specs.Images.{InRange, AgreeBut, overwritten}
 use Rattle.bd_disk.proofs.Agreeing.{length-overwritten, overwritten_there, overwrite_agrees, bytes_at-overwritten, same_bytes_at}
 use Rattle.bd_disk.specs.Runs.{Writes}
 use Rattle.bd_disk.specs.declared.disk.Disk.{Ghosts}
@@ -9,14 +8,6 @@ use Rattle.bd_disk.proofs.RunLemmas.{wider_writes}
 use Rattle.bd_model.specs.Sizes.{Sizes, disk_bytes, half_bytes, half_place}
 use Rattle.bd_gate.specs.Superblock.{open_gate}
 use Rattle.bd_recover.specs.Fresh.{HoldsFresh, InParts, fresh_half, superblock_body}
-
--- a range within a range
-pub sub_bytes : (at m k n : ℕ) (image : List ℕ) → k + n ≤ m → bytes_at (at + k) n image ≡ take n (drop k (bytes_at at m image))
-sub_bytes at m k n image fits =
-    let whole : k + (m - k) ≡ m = omega arith in
-    let inside : drop k (take m (drop at image)) ≡ take (m - k) (drop (at + k) image) =
-    ap (λ l. drop k (take l (drop at image))) (sym whole) ∙ drop-take k (m - k) (drop at image) ∙ ap (take (m - k)) (drop-drop k at image) in
-    sym (ap (take n) inside ∙ take-take n (m - k) (drop (at + k) image) (omega arith))
 
 module _ (s : Sizes) where
   -- the parts stay where the gate alone changes

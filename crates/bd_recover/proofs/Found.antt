@@ -5,7 +5,7 @@ use Rattle.std.specs.Prelude.{bytes_eq}
 use Rattle.std.specs.Int.{w32, w64, from_be_bytes}
 use Rattle.std.proofs.lemmas.Nat.{from_be_bytes-to_be_bytes_4}
 use Rattle.bd_disk.specs.Images.{bytes_at}
-use Rattle.bd_disk.proofs.Agreeing.{get_or-bytes_at}
+use Rattle.bd_disk.proofs.Agreeing.{get_or-bytes_at, sub_bytes}
 use Rattle.bd_model.specs.Limits.{IsShape}
 use Rattle.bd_model.specs.Records.{four}
 use Rattle.bd_model.specs.Sizes.{Sizes, is_shape, disk_bytes, half_place, payload_room}
@@ -17,7 +17,6 @@ use Rattle.bd_catalog.specs.Catalogue.{empty_catalogue}
 use Rattle.bd_catalog.specs.Rules.{catalogue_of}
 use Rattle.bd_catalog.specs.Opening.{Found, opened, opened_half, opened_payload}
 use Rattle.bd_recover.specs.Fresh.{HoldsFresh, fresh_found, fresh_half, superblock_body}
-use Rattle.bd_recover.proofs.Bytes.{sub_bytes}
 
 -- a shut gate, or none at all, is no store
 pub shut : (image : List ℕ) → byte_at image 0 ≢ open_gate → IsErr (opened image)

@@ -5,3 +5,4 @@ pub mod Lowest
 pub mod Distinct
 pub mod Uses
 pub mod Exact
+pub mod InTurn
