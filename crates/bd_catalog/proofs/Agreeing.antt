@@ -222,11 +222,6 @@ begin_with_more s extents first second old new begins fits written =
           (cases_lt k at));
     }
 
--- what is written at their front they begin with
-pub begin_with_written : (s : Sizes) (extents bytes old new : List ℕ) → length bytes ≤ length (owner_bytes s extents old) →
-    owner_bytes s extents new ≡ overwritten (owner_bytes s extents old) 0 bytes → BeginWith s extents bytes new
-begin_with_written s extents bytes old new fits written = begin_with_more s extents [] bytes old new (record { front = refl }) (omega (arith, fits)) written
-
 -- ---- the same newest half
 
 -- bytes among other bytes

@@ -120,14 +120,6 @@ ascends_count low high (n ∷ ns) h =
     let below : n ≤ high = leb-true n high (right_and (nat_le low n) (nat_le n high) bounds) in
     omega (arith, ascends_count (n + 1) high ns (right_and (nat_le low n && nat_le n high) (ascends (n + 1) high ns) h))
 
-pub ascends_below : {X : Type 0} (f : X → ℕ) (low high : ℕ) (xs : List X) → ascends low high (map f xs) ≡ true → All (λ x. f x ≤ high) xs
-ascends_below f low high [] h = All-nil (λ x. f x ≤ high)
-ascends_below f low high (x ∷ xs) h =
-    let n = f x in
-    let bounds = left_and (nat_le low n && nat_le n high) (ascends (n + 1) high (map f xs)) h in
-    All-cons (λ y. f y ≤ high) x xs (leb-true n high (right_and (nat_le low n) (nat_le n high) bounds))
-    (ascends_below f (n + 1) high xs (right_and (nat_le low n && nat_le n high) (ascends (n + 1) high (map f xs)) h))
-
 -- a store may have this many versions and extents, and an extent has a byte
 pub record IsBounded (s : Sizes) : Type 0 where
   pub retain : s.retain ≤ 256

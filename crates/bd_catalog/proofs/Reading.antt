@@ -49,11 +49,6 @@ module _ {A : Type 0} (read : List ℕ → Read A) (spell : A → List ℕ) (fit
       (sym is ∙ same ∙ append_assoc (four (length xs)) (flat_map spell xs) rest) in
       no_more items xs cur rest fi fit.each (let size = both.0 in omega arith) none both.1
 
--- a field of its own before a list
-pub four_short : {A : Type 0} (spell : A → List ℕ) (fits : List A → Type 0) (old : List ℕ) → length old < 4 → SpellsNone (λ xs. four (length xs) ++ flat_map spell xs) fits old
-four_short spell fits old short = λ xs rest fit same.
-    omega (arith, ap length same, length-append (four (length xs) ++ flat_map spell xs) rest, length-append (four (length xs)) (flat_map spell xs))
-
 -- spellings of `least` bytes and more
 pub too_short : {A : Type 0} (spell : A → List ℕ) (fits : A → Type 0) (least : ℕ) (old : List ℕ) → ((x : A) → least ≤ length (spell x)) → length old < least → SpellsNone spell fits old
 too_short spell fits least old long short = λ x rest fit same. omega (arith, ap length same, length-append (spell x) rest, long x)

@@ -9,11 +9,10 @@ use Rattle.bd_model.specs.declared.layout.Phase.{Phase}
 use Rattle.bd_model.specs.Sizes.{Sizes, sizes_of}
 use Rattle.bd_model.specs.State.{VersionState, IsState, history}
 use Rattle.bd_gate.specs.Halves.{InHalves}
-use Rattle.bd_gate.specs.Standing.{SameStanding}
 use Rattle.bd_catalog.specs.Catalogue.{Catalogue, recipe_extents, volume_extents, active_extents, all_extents}
 use Rattle.bd_catalog.specs.Opening.{Found, opened}
 use Rattle.bd_catalog.specs.Standing.{BeginWith, HasNumbers, HasVersions, HasVolumes, HasActives, HasReserve, StandsFor, Stands}
-use Rattle.bd_catalog.proofs.Agreeing.{InFront, InSuperblock, InExtents, same_standing_opens, opens_again, begin_with_agrees, owners_apart, front_apart}
+use Rattle.bd_catalog.proofs.Agreeing.{InFront, InExtents, opens_again, begin_with_agrees, owners_apart, front_apart}
 
 -- what was found shows the state: all of `StandsFor` but the state's own rules and the opening
 pub record Shows (shape : Shape) (st : VersionState) (phase : Phase) (held : ℕ) (found : Found) (image : List ℕ) : Type 0 where
@@ -138,12 +137,6 @@ pub stands_opened : {shape : Shape} {held : ℕ} {st : VersionState} {old new : 
     Stands shape held st old → Stands shape held st new
 stands_opened found again opens opens_new sizes catalogue agree stands = record { phase = stands.phase; so = stands_for_opened found again opens opens_new sizes catalogue agree stands.so }
 
--- so it does where superblock and newest half are the same
-pub stands_beside : {shape : Shape} {held : ℕ} {st : VersionState} {old new : List ℕ} (found : Found) → opened old ≡ Ok found →
-    Agree InSuperblock old new → SameStanding found.sizes old new → Agree (InExtents found.sizes (all_extents found.catalogue)) old new → Stands shape held st old → Stands shape held st new
-stands_beside {old = old} {new = new} found opens super same agree stands =
-    let again = same_standing_opens found old new opens super same in stands_opened found again.0 opens again.1 again.2 again.3 agree stands
-
 -- an image stands for what another one does that agrees with it where the store reads
 pub stands_for_agrees : {shape : Shape} {st : VersionState} {phase : Phase} {held : ℕ} {found : Found} {old new : List ℕ} →
     opened old ≡ Ok found → Agree (InStore found) old new → StandsFor shape st phase held old → StandsFor shape st phase held new
@@ -164,11 +157,6 @@ pub free_agrees : (found : Found) (extents old new : List ℕ) → ((e : ℕ) �
     AgreeBut (InExtents found.sizes extents) old new → Agree (InStore found) old new
 free_agrees found extents old new free agree =
     agree_fewer _ (InStore found) old new (λ place store written. ⊎_elim (λ front. front_apart found.sizes extents place front written) (λ owned. owners_apart found.sizes extents (all_extents found.catalogue) free place written owned) store) agree
-
--- so the image stands for what it did
-pub free_stands : {shape : Shape} {held : ℕ} {st : VersionState} {found : Found} {extents old new : List ℕ} → opened old ≡ Ok found →
-    ((e : ℕ) → Contains extents e → Contains (all_extents found.catalogue) e → ⊥) → AgreeBut (InExtents found.sizes extents) old new → Stands shape held st old → Stands shape held st new
-free_stands {found = found} {extents = extents} {old = old} {new = new} opens free agree = stands_agrees opens (free_agrees found extents old new free agree)
 
 -- a write in the halves changes no extent
 pub halves_agree : (s : Sizes) (extents old new : List ℕ) → AgreeBut (InHalves s) old new → Agree (InExtents s extents) old new

@@ -20,7 +20,7 @@ use Rattle.bd_model.proofs.StepLemmas.{length-history}
 use Rattle.bd_catalog.specs.Catalogue.{Catalogue}
 use Rattle.bd_catalog.specs.Opening.{Found, opened}
 use Rattle.bd_catalog.specs.Standing.{HasNumbers, HasVersions, HasVolumes, HasActives, StandsFor}
-use Rattle.bd_catalog.proofs.StandingFound.{Numbered, opened-found, obeys-each, numbers-each, nothing-else}
+use Rattle.bd_catalog.proofs.StandingFound.{opened-found, obeys-each, nothing-else}
 use Rattle.bd_catalog.proofs.Standing.{Shows, stands-shows, stands_by_parts}
 use Rattle.bd_model.proofs.ExpiryLemmas.{nothing_owned}
 use Rattle.bd_model.specs.State.{empty}
@@ -102,13 +102,6 @@ module _ {shape : Shape} {st : VersionState} {phase : Phase} {held : ℕ} {image
 -- where no version is found the catalogue has nothing else
 pub found-catalogue : (image : List ℕ) (found : Found) → opened image ≡ Ok found → retained_in found.catalogue ≡ 0 → found.catalogue ≡ catalogue_from found.catalogue.base
 found-catalogue image found opens none = nothing-else found.sizes found.catalogue (obeys-each found.sizes found.catalogue (opened-found image found opens).obeys) none
-
--- and where the newest number is 0 it is the empty one
-pub found-empty_catalogue : (image : List ℕ) (found : Found) → opened image ≡ Ok found → found.catalogue.newest ≡ 0 → found.catalogue ≡ empty_catalogue
-found-empty_catalogue image found opens zero_newest =
-    let numbered : Numbered found.sizes found.catalogue = numbers-each found.sizes found.catalogue (obeys-each found.sizes found.catalogue (opened-found image found opens).obeys).numbers in
-    let base : found.catalogue.base ≡ 0 = omega (arith, numbered.since, zero_newest) in
-    found-catalogue image found opens (omega (arith, numbered.since, zero_newest)) ∙ ap catalogue_from base
 
 module _ (base : ℕ) where
   abbrev none : History

@@ -2,7 +2,7 @@
 use Rattle.std.proofs.Common.{◌≡◌, ℕ, ◌+◌, ◌<◌, ◌≤◌, List, [], ◌∷◌, ◌++◌, length, take, drop, get_or, map, refl, sym, ◌∙◌, ap, arith, append_assoc, length-append}
 use Rattle.std.specs.List.{All, flat_map}
 use Rattle.std.proofs.lemmas.List.Elements.{All-nil, All-cons, All-head, All-tail}
-use Rattle.std.proofs.lemmas.List.{length-map, take_at, length-take-le, length-drop, drop-drop, take_more, flat_map_more}
+use Rattle.std.proofs.lemmas.List.{length-map, take_at, length-take-le, drop-drop, take_more, flat_map_more}
 use Rattle.std.proofs.Math.Seq.{drop-append-add}
 use Rattle.std.proofs.lemmas.List.Folds.{length-flat_map-take}
 use Rattle.std.proofs.lemmas.List.Folds.{flat_map-map}
@@ -13,16 +13,6 @@ use Rattle.bd_catalog.specs.Catalogue.{Catalogue, OpenEntry}
 use Rattle.bd_catalog.specs.Spelling.{spelled_phase, spelled_version, spelled_volume, spelled_active, spelled}
 use Rattle.bd_catalog.specs.Shown.{version_entry, volume_entry, open_entry, catalogue_of_contents}
 use Rattle.bd_catalog.specs.Writing.{put_at, spelled_head, spelled_version_row, spelled_volume_row, spelled_active_row}
-
-pub length-put_at : (buffer : List ℕ) (at : ℕ) (bytes : List ℕ) → at + length bytes ≤ length buffer → length (put_at buffer at bytes) ≡ length buffer
-length-put_at buffer at bytes within =
-    omega (
-      arith,
-      length-append (take at buffer ++ bytes) (drop (at + length bytes) buffer),
-      length-append (take at buffer) bytes,
-      length-take-le at buffer (omega arith),
-      length-drop (at + length bytes) buffer,
-    )
 
 pub put_at-append : (buffer : List ℕ) (at : ℕ) (xs ys : List ℕ) → at + length xs ≤ length buffer →
     put_at (put_at buffer at xs) (at + length xs) ys ≡ put_at buffer at (xs ++ ys)
