@@ -58,3 +58,15 @@ without-finishes name names = record {
 pub finished : {T E : Type 0} {result : Result T E} (tells : Type 0) (name : List ℕ) (old new : List (List ℕ)) → (tells → Finishes name old new result) → OnOk result (tells → IsFinished name new)
 finished {result = Ok x} tells name old new finishes = λ told. subst (IsFinished name) (sym (finishes told).ok) (without-finishes name old)
 finished {result = Err e} tells name old new finishes = tt
+
+-- bytes put under a name are held there
+pub held_put : (files new : FileMap) (name bytes : List ℕ) → new ≡ map.insert files name bytes → map.get new name ≡ Some bytes
+held_put files new name bytes so = ap (λ fs. map.get fs name) so ∙ (holds_what_was_put files name bytes).there
+
+-- ---- what changes under one name
+
+pub changes_none : (name : List ℕ) (files : FileMap) → ChangesOnly name files files
+changes_none name files = record { others = λ other apart. refl }
+
+pub changes_both : (name : List ℕ) (a b c : FileMap) → ChangesOnly name a b → ChangesOnly name b c → ChangesOnly name a c
+changes_both name a b c f g = record { others = λ other apart. g.others other apart ∙ f.others other apart }

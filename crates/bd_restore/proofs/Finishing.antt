@@ -21,7 +21,7 @@ use Rattle.bd_model.specs.declared.layout.RecipeEntry.{RecipeEntry}
 use Rattle.bd_model.proofs.ListLemmas.{left_and, right_and}
 use Rattle.bd_extio.specs.Ranges.{AreExtents}
 use Rattle.bd_files.specs.Files.{ChangesOnly}
-use Rattle.bd_files.proofs.FileLemmas.{only_equal_names_tie}
+use Rattle.bd_files.proofs.FileLemmas.{only_equal_names_tie, held_put}
 use Rattle.bd_catalog.specs.Catalogue.{Catalogue, OpenEntry, VolumeEntry, bytes_of_rows, oldest_in, volume_extents}
 use Rattle.bd_catalog.specs.Rows.{RowPlace, open_row, rows_in}
 use Rattle.bd_catalog.specs.Rules.{obeys, active_holds, fits_eight, row_holds, volume_holds}
@@ -31,7 +31,7 @@ use Rattle.bd_recipe.specs.Reading.{total}
 use Rattle.bd_recipe.proofs.Versions.{are_left, are_right, are_all}
 use Rattle.bd_restore.specs.Target.{HasChunks, held, mark_at, length_at, place_at, IsTarget, chunk_at, flag_at}
 use Rattle.bd_restore.specs.Walk.{joined, AreFlags, AreGiven, IsInRoom}
-use Rattle.bd_restore.proofs.Putting.{place-cons, held_put, held_is}
+use Rattle.bd_restore.proofs.Putting.{place-cons, held_is}
 use Rattle.bd_restore.proofs.Walking.{bool_cases}
 
 -- what holds at Ok, where it's no error

@@ -1,12 +1,11 @@
 -- Walks that follow each other, what is met on them, and the records and rows that they go over.
-use Rattle.std.proofs.Common.{◌≡◌, ℕ, zero, suc, ◌+◌, ◌-◌, ◌<◌, ◌≤◌, Bool, cond, List, [], ◌∷◌, ◌++◌, length, take, drop, get_or, refl, sym, ◌∙◌, ap, subst, arith, append_assoc}
+use Rattle.std.proofs.Common.{◌≡◌, ℕ, zero, suc, ◌+◌, ◌-◌, ◌<◌, ◌≤◌, Bool, List, [], ◌∷◌, ◌++◌, length, take, drop, get_or, refl, sym, ◌∙◌, ap, subst, arith, append_assoc}
 use Rattle.std.specs.Prelude.{if◌then◌else◌, Contains, nat_le, Result, Ok, Err, IsErrAnd, IsTrue}
 use Rattle.std.specs.List.{flat_map, list_all, range_with_len}
 use Rattle.std.proofs.lemmas.List.{append-nil, map-append, take-append-drop, take_more}
 use Rattle.std.proofs.lemmas.List.Elements.{filter-append, All-weaker, Contains-append_right}
 use Rattle.std.proofs.lemmas.List.Sums.{sum_by-append, sum_by-cons}
 use Rattle.std.proofs.lemmas.Grind.{flat_map-append}
-use Rattle.std.proofs.lemmas.Bool.{le-leb, lt-leb}
 use Rattle.bd_disk.specs.History.{Call, History}
 use Rattle.bd_disk.specs.Made.{Made}
 use Rattle.bd_disk.specs.Trace.{reads, ReadsOnly}
@@ -145,14 +144,6 @@ module _ (s : Sizes) (v : ℕ) (entries : List RecipeEntry) (image : List ℕ) (
         read = has_read_later met.places made met.read;
       }
 
--- what is known of the damage that is answered, also where the fault is passed on
-pub damaged_wider : {T : Type 0} (P Q : Damage → Type 0) (result : Result T RestoreFault) → ((damage : Damage) → P damage → Q damage) → IfDamaged result P → IfDamaged result Q
-damaged_wider P Q (Ok value) step met = tt
-damaged_wider P Q (Err TargetFault) step met = tt
-damaged_wider P Q (Err DiskFault) step met = tt
-damaged_wider P Q (Err (Damaged damage)) step met = step damage met
-damaged_wider P Q (Err OutOfMemory) step met = tt
-
 pub damaged_by : (U : Type 0) {T : Type 0} (P Q : Damage → Type 0) (fault : RestoreFault) (result : Result T RestoreFault) → IsErrAnd result (λ e. e ≡ fault) → ((damage : Damage) → P damage → Q damage) → IfDamaged {T = U} (Err fault) P → IfDamaged result Q
 damaged_by U P Q fault (Ok value) is step met = tt
 damaged_by U {T} P Q fault (Err e) is step met = subst (λ f. IfDamaged {T = T} (Err f) Q) (sym is) (by fault met) where
@@ -179,15 +170,6 @@ module _ (extents bytes : List ℕ) where
 
 pub begun-append : (v : ℕ) (xs ys : List RowPlace) → begun_by v (xs ++ ys) ≡ begun_by v xs ++ begun_by v ys
 begun-append v xs ys = filter-append (λ (p : RowPlace). nat_le p.row.start v) xs ys
-
-pub begun-later : (v : ℕ) (p : RowPlace) → v < p.row.start → begun_by v (p ∷ []) ≡ []
-begun-later v p later = ap (λ b. cond b (p ∷ []) []) (lt-leb p.row.start v later)
-
-pub begun-one : (v : ℕ) (p : RowPlace) → p.row.start ≤ v → begun_by v (p ∷ []) ≡ p ∷ []
-begun-one v p within = ap (λ b. cond b (p ∷ []) []) (le-leb p.row.start v within)
-
-pub spots-one : (s : Sizes) (image : List ℕ) (p : RowPlace) → spots_in s image (p ∷ []) ≡ row_spots s image p
-spots-one s image p = append-nil (row_spots s image p)
 
 pub rows-append : (who : Owner) (extents : List ℕ) (from : ℕ) (xs ys : List CategoryRow) → rows_from who extents from (xs ++ ys) ≡ rows_from who extents from xs ++ rows_from who extents (from + bytes_of_rows xs) ys
 rows-append who extents from [] ys =

@@ -8,8 +8,7 @@ use Rattle.bd_disk.specs.Images.{InRange, bytes_at, overwritten}
 use Rattle.bd_disk.proofs.Agreeing.{bytes_at-overwritten, length-overwritten, overwrite_agrees, same_bytes_at}
 use Rattle.bd_model.specs.FileMap.{FileMap}
 use Rattle.bd_model.specs.declared.layout.RecipeEntry.{RecipeEntry}
-use Rattle.bd_files.specs.Files.{ChangesOnly}
-use Rattle.bd_files.proofs.FileLemmas.{holds_what_was_put}
+use Rattle.bd_files.proofs.FileLemmas.{held_put}
 use Rattle.bd_recipe.specs.Reading.{total}
 use Rattle.bd_restore.specs.Target.{mark_at, length_at, place_at, held, IsTarget, chunk_at, flag_at, Fills, Puts}
 
@@ -75,18 +74,8 @@ module _ (entries : List RecipeEntry) (j : ℕ) (body file : List ℕ) (lt : j <
 
 -- ---- names
 
--- bytes put under a name are held there
-pub held_put : (files new : FileMap) (name bytes : List ℕ) → new ≡ map.insert files name bytes → map.get new name ≡ Some bytes
-held_put files new name bytes so = ap (λ fs. map.get fs name) so ∙ (holds_what_was_put files name bytes).there
-
 pub held_is : (files : FileMap) (name bytes : List ℕ) → map.get files name ≡ Some bytes → held files name ≡ bytes
 held_is files name bytes is = ap (λ o. unwrap_or o []) is
-
-pub changes_none : (name : List ℕ) (files : FileMap) → ChangesOnly name files files
-changes_none name files = record { others = λ other apart. refl }
-
-pub changes_both : (name : List ℕ) (a b c : FileMap) → ChangesOnly name a b → ChangesOnly name b c → ChangesOnly name a c
-changes_both name a b c f g = record { others = λ other apart. g.others other apart ∙ f.others other apart }
 
 module _ (entries : List RecipeEntry) (name body : List ℕ) (j : ℕ) (files new : FileMap) (target : IsTarget entries name files) (so : new ≡ map.insert files name (overwritten (held files name) (place_at entries j) body)) where
   now_held : held new name ≡ overwritten (held files name) (place_at entries j) body

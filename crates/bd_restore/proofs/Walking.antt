@@ -32,9 +32,6 @@ pub false_by : (b : Bool) → (b ≡ true → ⊥) → b ≡ false
 false_by true not_so = absurd (not_so refl)
 false_by false not_so = refl
 
-apart_eq : (x y : List ℕ) → (x ≡ y → ⊥) → bytes_eq x y ≡ false
-apart_eq x y ne = false_by (bytes_eq x y) (λ t. ne ((bytes_eq-Decides x y).0 t))
-
 not_false : (a b : Bool) → a ≡ true → (a && not b) ≡ false → b ≡ true
 not_false a true hit is = refl
 not_false true false hit is = absurd (miss is) where

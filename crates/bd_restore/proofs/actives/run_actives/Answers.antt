@@ -11,7 +11,7 @@ use Rattle.bd_restore.specs.Met.{MetOn}
 use Rattle.bd_restore.specs.Target.{held}
 use Rattle.bd_restore.specs.Walk.{IsInRoom}
 use Rattle.bd_restore.proofs.Joining.{damaged_by, gives_on, met_on, row_next, row_rest, walks_on}
-use Rattle.bd_restore.proofs.Putting.{changes_both}
+use Rattle.bd_files.proofs.FileLemmas.{changes_both}
 use Rattle.bd_restore.proofs.actives.run_actives.Goals as goal
 
 -- the row of an open category

@@ -10,7 +10,7 @@ use Rattle.bd_restore.specs.Met.{MetAt, MetOn}
 use Rattle.bd_restore.specs.Target.{held}
 use Rattle.bd_restore.specs.Walk.{Gives, Walks}
 use Rattle.bd_restore.proofs.Joining.{damaged_by, walks_both, gives_both, met_here, spots-more, past-more}
-use Rattle.bd_restore.proofs.Putting.{changes_both}
+use Rattle.bd_files.proofs.FileLemmas.{changes_both}
 use Rattle.bd_restore.proofs.piece.run_piece.Goals as goal
 
 pub returns-in_err-at-clause-writes : goal.returns-in_err-at-clause-writes

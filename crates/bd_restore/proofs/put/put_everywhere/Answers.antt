@@ -1,7 +1,8 @@
 use Rattle.std.proofs.Common.{◌≡◌, ◌≢◌, ℕ, ◌<◌, ◌-◌, length, refl, ◌∙◌, ap, subst, arith}
 use Rattle.bd_restore.specs.Target.{held, mark_at, Fills, Puts}
 use Rattle.bd_restore.proofs.Marks.{limit_of, IsAt, first_at, none_first, next_at, none_next, next_later}
-use Rattle.bd_restore.proofs.Putting.{target_after, puts_none, puts_more, fills_none, fills_more, changes_none, changes_both}
+use Rattle.bd_files.proofs.FileLemmas.{changes_none, changes_both}
+use Rattle.bd_restore.proofs.Putting.{target_after, puts_none, puts_more, fills_none, fills_more}
 use Rattle.bd_restore.proofs.put.put_everywhere.Goals as goal
 
 pub loop-next-init : goal.loop-next-init

@@ -5,7 +5,7 @@ use Rattle.bd_disk.specs.History.{contents}
 use Rattle.bd_disk.specs.Trace.{ReadsOnly}
 use Rattle.bd_model.specs.declared.damage.Damage.TheVariants.{Missing}
 use Rattle.bd_files.specs.Files.{ChangesOnly}
-use Rattle.bd_files.proofs.FileLemmas.{finished}
+use Rattle.bd_files.proofs.FileLemmas.{finished, changes_both}
 use Rattle.bd_catalog.specs.Damages.{IsOfVersion}
 use Rattle.bd_catalog.specs.Rows.{spots_in, walk}
 use Rattle.bd_catalog.specs.Sound.{recipe_of, records_for}
@@ -17,7 +17,6 @@ use Rattle.bd_restore.proofs.Finishing.{ok_of, flags_none, given_none, target_be
 use Rattle.bd_restore.proofs.Joining.{damaged_by}
 use Rattle.bd_restore.proofs.Seeing.{met_needed, met_part, met_seen, met_whole, missing_seen, missing_whole}
 use Rattle.bd_restore.proofs.WalkRecords.{walk_records}
-use Rattle.bd_restore.proofs.Putting.{changes_both}
 use Rattle.bd_restore.proofs.run.run_plan.Goals as goal
 
 pub run_walk-requires-clause-there : goal.run_walk-requires-clause-there

@@ -10,7 +10,7 @@ use Rattle.bd_restore.specs.Met.{MetOn}
 use Rattle.bd_restore.specs.Target.{held}
 use Rattle.bd_restore.specs.Walk.{IsInRoom}
 use Rattle.bd_restore.proofs.Joining.{damaged_by, gives_on, met_on, owner_next, owner_place, owner_rest, owner_within, walks_on}
-use Rattle.bd_restore.proofs.Putting.{changes_both}
+use Rattle.bd_files.proofs.FileLemmas.{changes_both}
 use Rattle.bd_restore.proofs.volumes.run_volume.Goals as goal
 
 abbrev none : CategoryRow

@@ -15,7 +15,7 @@ use Rattle.bd_restore.specs.Target.{held}
 use Rattle.bd_restore.specs.Walk.{Gives, Walks}
 use Rattle.bd_restore.proofs.Finishing.{VolumeIs, oldest_some, volume_is}
 use Rattle.bd_restore.proofs.Joining.{damaged_by, gives_on, met_on, volumes_next, volumes_rest, walks_none, walks_on, gives_none}
-use Rattle.bd_restore.proofs.Putting.{changes_both, changes_none}
+use Rattle.bd_files.proofs.FileLemmas.{changes_both, changes_none}
 use Rattle.bd_restore.proofs.volumes.run_volumes.Goals as goal
 
 -- the rows of a volume are those of its number
