@@ -33,15 +33,6 @@ restore_fits found v name (Err (Damaged damage)) answers = (v, name, refl)
 restore_fits found v name (Err OutOfMemory) answers = tt
 restore_fits found v name (Err Unbuilt) answers = answers
 
--- files that stay are kept by every command
-pub keeps_none : (command : Command) (files : FileMap) → KeepsFiles command files files
-keeps_none (Backup name) files = refl
-keeps_none (Restore v name) files = record { others = λ other differs. refl }
-keeps_none Expire files = refl
-keeps_none Reorganise files = refl
-keeps_none Scrub files = refl
-keeps_none Listing files = refl
-
 -- each name has what it had, but for the target of a restore
 pub target_or_kept : (command : Command) (files files' : FileMap) (name : List ℕ) → KeepsFiles command files files' → ((v : ℕ) × (command ≡ Restore v name)) ⊎ (files_at.get files' name ≡ files_at.get files name)
 target_or_kept (Restore v target) files files' name keeps =

@@ -1,5 +1,5 @@
 -- Which ends fit what the words ask for, and what is said of a damage.
-use Rattle.std.proofs.Common.{◌≡◌, ◌⊎◌, ◌∙◌, ℕ, true, false, cond, List, [], ◌∷◌, inl, inr, refl, sym, subst, ap, Some, None, Ok, Err, Result}
+use Rattle.std.proofs.Common.{◌≡◌, ◌⊎◌, ◌∙◌, ℕ, List, [], ◌∷◌, inl, inr, refl, sym, subst, ap, Some, None, Ok, Err, Result}
 use Rattle.bd_disk.specs.History.{History, contents}
 use Rattle.bd_disk.specs.Made.{WritesNothing}
 use Rattle.bd_disk.proofs.Frames.{unchanged}
@@ -20,7 +20,7 @@ use Rattle.bd_store.specs.Naming.{NamesDamage as StoreNames, IsDamageOf}
 use Rattle.bd_store.specs.Openings.{AnswersOpening}
 use Rattle.bd_store.specs.declared.fault.StoreFault.{StoreFault}
 use Rattle.bd_store.specs.declared.fault.StoreFault.TheVariants.{SourceFault as StoreSource, TargetFault as StoreTarget, DiskFault as StoreDisk, Damaged as StoreDamaged, OutOfMemory as StoreMemory, Unbuilt as StoreUnbuilt}
-use Rattle.mfdedup.specs.Built.{is_built, FaultFits, IsUnbuiltFor}
+use Rattle.mfdedup.specs.Built.{FaultFits, IsUnbuiltFor}
 use Rattle.mfdedup.specs.Failing.{end_of, end_of_opening}
 use Rattle.mfdedup.specs.Fits.{FitsWords, IsBackup, IsOfCommand, IsOfOpening, IsRestore, OpensBy}
 use Rattle.mfdedup.specs.Headline.{IsEarlyFault, commands_asked, end_by_words}
@@ -144,17 +144,6 @@ opening_damages reading OpenMemory ending a b e = subst (λ x. NamesDamage readi
 
 one_command : (command other : Command) (rest : List Command) → command ∷ rest ≡ other ∷ [] → command ≡ other
 one_command command other rest e = cc
-
--- the one command that was asked for, where it is built and where it isn't
-pub asked_fits : (command other : Command) (commands : List Command) (ending : End) → commands ≡ command ∷ [] → commands ≡ other ∷ [] → is_built command ≡ true → IsOfOpening ending ⊎ IsOfCommand command ending → FitsWords (ToRun other) ending
-asked_fits command other commands ending e f built fits =
-    let same : command ≡ other = one_command command other [] (sym e ∙ f) in
-    subst (λ (k : Command). FitsWords (ToRun k) ending) same (inr (built, fits))
-
-pub unbuilt_fits : (command other : Command) (commands : List Command) (ending : End) → commands ≡ command ∷ [] → commands ≡ other ∷ [] → is_built command ≡ false → ending ≡ Unbuilt → FitsWords (ToRun other) ending
-unbuilt_fits command other commands ending e f unbuilt is =
-    let same : command ≡ other = one_command command other [] (sym e ∙ f) in
-    subst (λ (k : Command). FitsWords (ToRun k) ending) same (inl (ap (λ b. cond b None (Some Unbuilt)) unbuilt ∙ ap Some (sym is)))
 
 pub refused_fits : (reading : Reading) (ending : End) → (reading ≡ Refused ending) ⊎ (ending ≡ OutOfMemory) → (ending ≡ OutOfMemory) ⊎ FitsWords reading ending
 refused_fits reading ending (inl e) = inr (inl (ap end_by_words e))

@@ -1,5 +1,5 @@
 -- A list is its step, and safe at every stop.
-use Rattle.std.proofs.Common.{◌≡◌, ◌∙◌, ℕ, inl, refl, sym, ap, subst, Ok, Err}
+use Rattle.std.proofs.Common.{◌≡◌, ◌∙◌, ℕ, inl, refl, sym, ap, subst, Ok}
 use Rattle.bd_disk.specs.History.{History, contents}
 use Rattle.bd_disk.proofs.Frames.{leaves_same, leaves_wider}
 use Rattle.bd_model.specs.FileMap.{FileMap}
@@ -16,7 +16,6 @@ use Rattle.bd_catalog.specs.Standing.{StandsFor, lines_from}
 use Rattle.bd_catalog.proofs.Standing.{stands-shows}
 use Rattle.bd_store.specs.Steps.{IsOneStep}
 use Rattle.bd_store.specs.Stops.{IsSafeAtStops}
-use Rattle.bd_store.specs.declared.fault.StoreFault.TheVariants.{OutOfMemory}
 use Rattle.mfdedup.proofs.AnswerKinds.{phase-listed}
 
 abbrev outcome_of : Shape → VersionState → FileMap → Outcome
@@ -41,6 +40,3 @@ listed_stops held h files answer = record {
     done = record { outcome = outcome_of shape st files; leads = refl; sure = sure };
   };
 }
-
-pub unlisted_step : (held : ℕ) (h : History) (files : FileMap) → IsOneStep Listing held h h files files (Err OutOfMemory)
-unlisted_step held h files = record { each = λ shape st phase near stands. record { stands = record { phase = phase; so = stands }; beside = refl } }

@@ -1,5 +1,5 @@
 -- The numbers that texts spell.
-use Rattle.std.proofs.Common.{◌≡◌, ℕ, ◌^◌, ◌<◌, ◌≤◌, true, false, List, [], ◌∷◌, length, Some, None, Result, refl, rules, arith}
+use Rattle.std.proofs.Common.{◌≡◌, ℕ, ◌^◌, ◌<◌, ◌≤◌, true, List, [], ◌∷◌, length, Some, None, Result, refl, rules, arith}
 use Rattle.std.specs.List.{list_all}
 use Rattle.std.specs.Result.{OkIff}
 use Rattle.std.specs.Str.Parse.{ParsesUnsigned}
@@ -32,5 +32,3 @@ number_wide most bytes fits h wide =
     number_above most (read_on 0 bytes) bytes refl (omega (arith, above))
 
 -- ---- what is not a number
-pub number_none : (most : ℕ) (bytes : List ℕ) → is_digits bytes ≡ false → None ≡ number_of most bytes
-number_none most bytes h = grind (arith, nat_tests)

@@ -163,26 +163,6 @@ pub early_complete : (ending : End) (before now : AllCounts) → (ending ≡ Dis
 early_complete ending before now (inl e) cause no_fault = absurd (unrisen _ _ (subst (λ x. EndsByCount x before now) e cause) (ap (λ (c : AllCounts). c.disk) no_fault.same) no_fault.disk)
 early_complete ending before now (inr e) cause no_fault = e
 
--- an answer's end
-pub answered_met : (shape : Shape) (st : VersionState) (next : Option Command) (answer : Answer) (moment : ℕ) (ending : End) (answers : List Answer) (clocks : List ℕ) → NotesAnswer answer moment ending answers clocks → IsMetBy shape st next ending
-answered_met shape st next answer moment Done answers clocks noted = tt
-answered_met shape st next answer moment OutputFault answers clocks noted = tt
-answered_met shape st next answer moment OutOfMemory answers clocks noted = tt
-answered_met shape st next answer moment BadWords answers clocks noted = absurd noted
-answered_met shape st next answer moment (BadNumber p) answers clocks noted = absurd noted
-answered_met shape st next answer moment BadName answers clocks noted = absurd noted
-answered_met shape st next answer moment (BadShape f) answers clocks noted = absurd noted
-answered_met shape st next answer moment LongScript answers clocks noted = absurd noted
-answered_met shape st next answer moment (BadLine n) answers clocks noted = absurd noted
-answered_met shape st next answer moment AlreadyAStore answers clocks noted = absurd noted
-answered_met shape st next answer moment (TooSmall n h) answers clocks noted = absurd noted
-answered_met shape st next answer moment (NotAStore p) answers clocks noted = absurd noted
-answered_met shape st next answer moment DiskFault answers clocks noted = absurd noted
-answered_met shape st next answer moment (Damaged d) answers clocks noted = absurd noted
-answered_met shape st next answer moment SourceFault answers clocks noted = absurd noted
-answered_met shape st next answer moment TargetFault answers clocks noted = absurd noted
-answered_met shape st next answer moment Unbuilt answers clocks noted = absurd noted
-
 first_next : (command : Command) (commands : List Command) (answers : List Answer) → commands ≡ command ∷ [] → answers ≡ [] → slice_get commands (length answers) ≡ Some command
 first_next command commands answers e f = subst (λ cs. slice_get cs (length answers) ≡ Some command) (sym e) (subst (λ (xs : List Answer). slice_get (command ∷ []) (length xs) ≡ Some command) (sym f) refl)
 
