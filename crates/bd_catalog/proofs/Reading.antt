@@ -1,5 +1,5 @@
 -- Bytes begin with one spelling at most.
-use Rattle.std.proofs.Common.{◌≡◌, ℕ, ◌+◌, ◌^◌, ◌<◌, ◌≤◌, List, [], ◌∷◌, ◌++◌, length, map, true, false, ⊎_elim, sym, ◌∙◌, ap, arith, append_assoc, length-append}
+use Rattle.std.proofs.Common.{◌≡◌, ℕ, ◌+◌, ◌^◌, ◌<◌, ◌≤◌, List, [], ◌∷◌, ◌++◌, length, map, true, false, ⊎_elim, refl, sym, ◌∙◌, ap, arith, append_assoc, length-append}
 use Rattle.std.specs.List.{All, flat_map}
 use Rattle.std.proofs.lemmas.Bool.{cases_lt}
 use Rattle.std.proofs.lemmas.List.{flat_map_more, map-append}
@@ -7,7 +7,7 @@ use Rattle.std.proofs.lemmas.List.Elements.{All-head, All-tail, All-push, All-sa
 use Rattle.bd_wire.proofs.ReadingBack.{u32_same}
 use Rattle.bd_model.specs.Records.{four}
 use Rattle.bd_model.specs.declared.layout.CategoryRow.{CategoryRow}
-use Rattle.bd_catalog.specs.Reading.{Took, SpellsNone, FitMany, spelled_rows}
+use Rattle.bd_catalog.specs.Reading.{Took, SpellsNone, FitMany, EndsItself, spelled_rows}
 use Rattle.bd_catalog.specs.Spelling.{Read, read_many, read_list, read_row, spelled_row, spelled_extents, spelled_volume}
 use Rattle.bd_catalog.specs.Widths.{FitList, FitsFour, FitsRow, FitsVolume}
 use Rattle.bd_catalog.proofs.Spelling.{ReadsBack, many_back, list_back, row_back}
@@ -16,7 +16,7 @@ module _ {A : Type 0} (read : List ℕ → Read A) (spell : A → List ℕ) (fit
   pub same_item : (x y : A) (rest others : List ℕ) → fits x → fits y → spell x ++ rest ≡ spell y ++ others → x ≡ y
   same_item x y rest others fx fy same = sym (ap (λ (r : Read A). r.it) (back x rest fx)) ∙ ap (λ (b : List ℕ). (read b).it) same ∙ ap (λ (r : Read A). r.it) (back y others fy)
 
-  pub same_rest : (x y : A) (rest others : List ℕ) → fits x → fits y → spell x ++ rest ≡ spell y ++ others → rest ≡ others
+  pub same_rest : EndsItself spell fits
   same_rest x y rest others fx fy same = sym (ap (λ (r : Read A). r.rest) (back x rest fx)) ∙ ap (λ (b : List ℕ). (read b).rest) same ∙ ap (λ (r : Read A). r.rest) (back y others fy)
 
   -- what stands behind so many items
@@ -27,6 +27,14 @@ module _ {A : Type 0} (read : List ℕ → Read A) (spell : A → List ℕ) (fit
       ∙ ap (λ (n : ℕ). (read_many read n (flat_map spell ys ++ others)).rest) size
       ∙ ap (λ (r : Read (List A)). r.rest) (many_back read spell fits back ys others fy)
 
+-- bytes that begin with no list of so many items, behind their number
+pub counted_none : {A : Type 0} (spell : A → List ℕ) (fits : A → Type 0) (count : ℕ) (old behind : List ℕ) → count < 2 ^ 32 → old ≡ four count ++ behind
+    → SpellsNone (flat_map spell) (FitMany fits count) behind → SpellsNone (λ xs. four (length xs) ++ flat_map spell xs) (FitList fits) old
+counted_none spell fits count old behind small is none = λ xs rest fit same.
+    let both = u32_same count (length xs) behind (flat_map spell xs ++ rest) small fit.count (sym is ∙ same ∙ append_assoc (four (length xs)) (flat_map spell xs) rest) in
+    none xs rest (record { count_is = sym both.0; each = fit.each }) both.1
+
+module _ {A : Type 0} (spell : A → List ℕ) (fits : A → Type 0) (ends : EndsItself spell fits) where
   -- an item that isn't there ends each longer list
   no_more : (items xs : List A) (cur rest : List ℕ) → All fits items → All fits xs → length items < length xs → SpellsNone spell fits cur
       → flat_map spell items ++ cur ≡ flat_map spell xs ++ rest → ⊥
@@ -34,7 +42,7 @@ module _ {A : Type 0} (read : List ℕ → Read A) (spell : A → List ℕ) (fit
   no_more [] (x ∷ xs) cur rest fi fx less none same = none x (flat_map spell xs ++ rest) (All-head fits x xs fx) (same ∙ append_assoc (spell x) (flat_map spell xs) rest)
   no_more (y ∷ ys) (x ∷ xs) cur rest fi fx less none same =
       no_more ys xs cur rest (All-tail fits y ys fi) (All-tail fits x xs fx) (omega arith) none
-      (same_rest y x (flat_map spell ys ++ cur) (flat_map spell xs ++ rest) (All-head fits y ys fi) (All-head fits x xs fx)
+      (ends y x (flat_map spell ys ++ cur) (flat_map spell xs ++ rest) (All-head fits y ys fi) (All-head fits x xs fx)
       (sym (append_assoc (spell y) (flat_map spell ys) cur) ∙ same ∙ append_assoc (spell x) (flat_map spell xs) rest))
 
   pub many_none : (count : ℕ) (items : List A) (old cur : List ℕ) → All fits items → length items < count → old ≡ flat_map spell items ++ cur → SpellsNone spell fits cur
@@ -44,10 +52,8 @@ module _ {A : Type 0} (read : List ℕ → Read A) (spell : A → List ℕ) (fit
 
   pub list_none : (count : ℕ) (items : List A) (old cur : List ℕ) → count < 2 ^ 32 → All fits items → length items < count
       → old ≡ four count ++ (flat_map spell items ++ cur) → SpellsNone spell fits cur → SpellsNone (λ xs. four (length xs) ++ flat_map spell xs) (FitList fits) old
-  list_none count items old cur small fi less is none = λ xs rest fit same.
-      let both = u32_same count (length xs) (flat_map spell items ++ cur) (flat_map spell xs ++ rest) small fit.count
-      (sym is ∙ same ∙ append_assoc (four (length xs)) (flat_map spell xs) rest) in
-      no_more items xs cur rest fi fit.each (let size = both.0 in omega arith) none both.1
+  list_none count items old cur small fi less is none =
+      counted_none spell fits count old (flat_map spell items ++ cur) small is (many_none count items (flat_map spell items ++ cur) cur fi less refl none)
 
 -- spellings of `least` bytes and more
 pub too_short : {A : Type 0} (spell : A → List ℕ) (fits : A → Type 0) (least : ℕ) (old : List ℕ) → ((x : A) → least ≤ length (spell x)) → length old < least → SpellsNone spell fits old

@@ -1,18 +1,16 @@
 -- Bytes that are put behind each other.
-use Rattle.std.proofs.Common.{◌≡◌, ℕ, ◌+◌, ◌<◌, ◌≤◌, List, [], ◌∷◌, ◌++◌, length, take, drop, get_or, map, refl, sym, ◌∙◌, ap, arith, append_assoc, length-append}
-use Rattle.std.specs.List.{All, flat_map}
-use Rattle.std.proofs.lemmas.List.Elements.{All-nil, All-cons, All-head, All-tail}
+use Rattle.std.proofs.Common.{◌≡◌, ℕ, ◌+◌, ◌<◌, ◌≤◌, List, ◌++◌, length, take, drop, get_or, map, refl, sym, ◌∙◌, ap, arith, append_assoc, length-append}
+use Rattle.std.specs.List.{flat_map}
 use Rattle.std.proofs.lemmas.List.{length-map, take_at, length-take-le, drop-drop, take_more, flat_map_more}
 use Rattle.std.proofs.Math.Seq.{drop-append-add}
 use Rattle.std.proofs.lemmas.List.Folds.{length-flat_map-take}
-use Rattle.std.proofs.lemmas.List.Folds.{flat_map-map}
 use Rattle.bd_model.specs.Records.{four}
 use Rattle.bd_model.specs.declared.layout.Phase.TheVariants.{Settled, Waiting}
 use Rattle.bd_catalog.specs.declared.contents.Contents.{Contents}
-use Rattle.bd_catalog.specs.Catalogue.{Catalogue, OpenEntry}
+use Rattle.bd_catalog.specs.Catalogue.{Catalogue}
 use Rattle.bd_catalog.specs.Spelling.{spelled_phase, spelled_version, spelled_volume, spelled_active, spelled}
 use Rattle.bd_catalog.specs.Shown.{version_entry, volume_entry, open_entry, catalogue_of_contents}
-use Rattle.bd_catalog.specs.Writing.{put_at, spelled_head, spelled_version_row, spelled_volume_row, spelled_active_row}
+use Rattle.bd_catalog.specs.Writing.{put_at, spelled_head}
 
 pub put_at-append : (buffer : List ℕ) (at : ℕ) (xs ys : List ℕ) → at + length xs ≤ length buffer →
     put_at (put_at buffer at xs) (at + length xs) ys ≡ put_at buffer at (xs ++ ys)
@@ -56,11 +54,6 @@ module _ {X : Type 0} (spell : X → List ℕ) (front : List ℕ) (xs : List X) 
   room-more at place top here room =
       omega (arith, length-flat_map-take spell xs i d more, ap (λ (y : X). length (spell y)) is, length-append front (flat_map spell (take i xs)), length-append front (flat_map spell xs))
 
--- what holds of each entry holds of each item that it shows
-pub All-unmap : {X Y : Type 0} (P : Y → Type 0) (f : X → Y) (xs : List X) → All P (map f xs) → All (λ x. P (f x)) xs
-All-unmap P f [] all = All-nil (λ x. P (f x))
-All-unmap P f (x ∷ xs) all = All-cons (λ y. P (f y)) x xs (All-head P (f x) (map f xs) all) (All-unmap P f xs (All-tail P (f x) (map f xs) all))
-
 -- so far these bytes were written, up to this place
 pub record Wrote (buffer : List ℕ) (at : ℕ) (bytes now : List ℕ) (place : ℕ) : Type 0 where
   pub so : now ≡ put_at buffer at bytes
@@ -73,27 +66,20 @@ wrote_more buffer now next at place behind xs ys wrote so here within = record {
   here = omega (arith, wrote.here, length-append xs ys);
 }
 
--- the lists of a catalogue in memory, spelled row by row
+-- the spellings of the lists of a catalogue in memory
 abbrev pub versions_part : Contents → List ℕ
-versions_part x = flat_map spelled_version_row x.versions.items
+versions_part x = flat_map spelled_version (map version_entry x.versions.items)
 
 abbrev pub volumes_part : Contents → List ℕ
-volumes_part x = flat_map spelled_volume_row x.volumes.items
+volumes_part x = flat_map spelled_volume (map volume_entry x.volumes.items)
 
 abbrev pub actives_part : Contents → List ℕ
-actives_part x = flat_map spelled_active_row x.actives.items
+actives_part x = flat_map spelled_active (map open_entry x.actives.items)
 
 pub spelled_parts : (x : Contents) → spelled (catalogue_of_contents x)
     ≡ spelled_head (catalogue_of_contents x) ++ versions_part x ++ volumes_part x ++ four (length x.actives.items) ++ actives_part x
 spelled_parts x =
-    let head = spelled_head (catalogue_of_contents x) in
-    let volumes = flat_map spelled_volume (map volume_entry x.volumes.items) in
-    let count : List OpenEntry → List ℕ = λ xs. four (length xs) in
-    let actives = flat_map spelled_active (map open_entry x.actives.items) in
-    ap (λ (v : List ℕ). head ++ v ++ volumes ++ count (map open_entry x.actives.items) ++ actives) (flat_map-map spelled_version version_entry x.versions.items)
-    ∙ ap (λ (w : List ℕ). head ++ versions_part x ++ w ++ count (map open_entry x.actives.items) ++ actives) (flat_map-map spelled_volume volume_entry x.volumes.items)
-    ∙ ap (λ (n : ℕ). head ++ versions_part x ++ volumes_part x ++ four n ++ actives) (length-map x.actives.items open_entry)
-    ∙ ap (λ (a : List ℕ). head ++ versions_part x ++ volumes_part x ++ four (length x.actives.items) ++ a) (flat_map-map spelled_active open_entry x.actives.items)
+    ap (λ (n : ℕ). spelled_head (catalogue_of_contents x) ++ versions_part x ++ volumes_part x ++ four n ++ actives_part x) (length-map x.actives.items open_entry)
 
 pub length-spelled_head : (c : Catalogue) → length (spelled_head c) ≡ 17
 length-spelled_head c =

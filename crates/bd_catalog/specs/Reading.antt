@@ -15,6 +15,10 @@ pub record Took {A : Type 0} (spell : A → List ℕ) (fits : A → Type 0) (x :
 abbrev pub SpellsNone : {A : Type 0} → (A → List ℕ) → (A → Type 0) → List ℕ → Type 0
 SpellsNone {A} spell fits bytes = (x : A) (rest : List ℕ) → fits x → bytes ≢ spell x ++ rest
 
+-- a spelling of what fits says where it ends
+abbrev pub EndsItself : {A : Type 0} → (A → List ℕ) → (A → Type 0) → Type 0
+EndsItself {A} spell fits = (x y : A) (rest others : List ℕ) → fits x → fits y → spell x ++ rest ≡ spell y ++ others → rest ≡ others
+
 -- what was found shows what the bytes began with; nothing is found where they begin with no spelling
 abbrev pub Takes : {A X : Type 0} → (A → List ℕ) → (A → Type 0) → (X → A) → Option X → List ℕ → List ℕ → Type 0
 Takes spell fits entry found old new = MatchOption found (SpellsNone spell fits old) (λ x. Took spell fits (entry x) old new)

@@ -8,7 +8,8 @@ ghost use Rattle.bd_catalog.specs.Shown.{version_entry, volume_entry, open_entry
 ghost use Rattle.bd_catalog.specs.Widths.{FitList, FitsFour, FitsRow, FitsVersion, FitsVolume, FitsOpen, FitsPhase, IsSpellable};
 
 use crate::contents::Contents;
-use crate::rows::{ActiveCategory, Actives, ClosedVolume, Rows, VersionRow};
+use crate::rows::{Actives, Rows};
+use crate::spelled::take_many;
 use bd_model::{CategoryRow, Phase};
 use bd_space::Owned;
 use bd_wire::Cursor;
@@ -28,7 +29,7 @@ fn take_numbers(cursor: &mut Cursor) -> Option<(u32, u32, u32)>
 }
 
 // Three fields of 8 bytes.
-fn take_sizes(cursor: &mut Cursor) -> Option<(u64, u64, u64)>
+pub(crate) fn take_sizes(cursor: &mut Cursor) -> Option<(u64, u64, u64)>
     ensures taken { IfSome result (λ n. cursor.old ≡ eight n.0 ++ (eight n.1 ++ (eight n.2 ++ cursor.new))) }
     ensures short { IfNone result (length cursor.old < 24) }
 {
@@ -38,7 +39,7 @@ fn take_sizes(cursor: &mut Cursor) -> Option<(u64, u64, u64)>
     Some((first, second, third))
 }
 
-fn take_row(cursor: &mut Cursor) -> Option<CategoryRow>
+pub(crate) fn take_row(cursor: &mut Cursor) -> Option<CategoryRow>
     ensures taken { IfSome result (λ row. Took spelled_row FitsRow row cursor.old cursor.new) }
     ensures short { IfNone result (length cursor.old < 20) }
 {
@@ -65,7 +66,7 @@ fn take_phase(cursor: &mut Cursor) -> Option<Phase>
     }
 }
 
-fn take_extents(alloc: Global, cursor: &mut Cursor) -> Result<Option<Owned>, OutOfMemory>
+pub(crate) fn take_extents(alloc: Global, cursor: &mut Cursor) -> Result<Option<Owned>, OutOfMemory>
     ensures { IfOk result (λ found. Takes spelled_extents (FitList FitsFour) (λ owned. owned.numbers) found cursor.old cursor.new) }
 {
     let Some(count) = cursor.take_u32() else {
@@ -84,7 +85,7 @@ fn take_extents(alloc: Global, cursor: &mut Cursor) -> Result<Option<Owned>, Out
     Ok(Some(Owned::from_vec(numbers)))
 }
 
-fn take_rows(alloc: Global, cursor: &mut Cursor) -> Result<Option<Rows>, OutOfMemory>
+pub(crate) fn take_rows(alloc: Global, cursor: &mut Cursor) -> Result<Option<Rows>, OutOfMemory>
     ensures { IfOk result (λ found. Takes spelled_rows (FitList FitsRow) (λ rows. rows.items) found cursor.old cursor.new) }
 {
     let Some(count) = cursor.take_u32() else {
@@ -104,103 +105,17 @@ fn take_rows(alloc: Global, cursor: &mut Cursor) -> Result<Option<Rows>, OutOfMe
     Ok(Some(rows))
 }
 
-fn take_version(alloc: Global, cursor: &mut Cursor) -> Result<Option<VersionRow>, OutOfMemory>
-    ensures { IfOk result (λ found. Takes spelled_version FitsVersion version_entry found cursor.old cursor.new) }
-{
-    let Some((length, chunks, fresh)) = take_sizes(cursor) else {
-        return Ok(None);
-    };
-    let found = take_extents(alloc, cursor)?;
-    let Some(recipe) = found else {
-        return Ok(None);
-    };
-    Ok(Some(VersionRow {
-        length,
-        chunks,
-        fresh,
-        recipe,
-    }))
-}
-
-fn take_volume(alloc: Global, cursor: &mut Cursor) -> Result<Option<ClosedVolume>, OutOfMemory>
-    ensures { IfOk result (λ found. Takes spelled_volume FitsVolume volume_entry found cursor.old cursor.new) }
-{
-    let found = take_rows(alloc, cursor)?;
-    let Some(rows) = found else {
-        return Ok(None);
-    };
-    let owned = take_extents(alloc, cursor)?;
-    let Some(extents) = owned else {
-        return Ok(None);
-    };
-    Ok(Some(ClosedVolume { rows, extents }))
-}
-
-fn take_active(alloc: Global, cursor: &mut Cursor) -> Result<Option<ActiveCategory>, OutOfMemory>
-    ensures { IfOk result (λ found. Takes spelled_active FitsOpen open_entry found cursor.old cursor.new) }
-{
-    let Some(row) = take_row(cursor) else {
-        return Ok(None);
-    };
-    let found = take_extents(alloc, cursor)?;
-    let Some(extents) = found else {
-        return Ok(None);
-    };
-    Ok(Some(ActiveCategory { row, extents }))
-}
-
-fn take_versions(
-    alloc: Global,
-    cursor: &mut Cursor,
-    count: u32,
-) -> Result<Option<Vec<VersionRow>>, OutOfMemory>
-    ensures { IfOk result (λ found. Takes (flat_map spelled_version) (FitMany FitsVersion count) (λ rows. map version_entry rows.items) found cursor.old cursor.new) }
-{
-    let mut rows = Vec::new(alloc);
-    for _ in 0..count {
-        let found = take_version(alloc, cursor)?;
-        let Some(row) = found else {
-            return Ok(None);
-        };
-        rows.push(row)?;
-    }
-    Ok(Some(rows))
-}
-
-fn take_volumes(
-    alloc: Global,
-    cursor: &mut Cursor,
-    count: u32,
-) -> Result<Option<Vec<ClosedVolume>>, OutOfMemory>
-    ensures { IfOk result (λ found. Takes (flat_map spelled_volume) (FitMany FitsVolume count) (λ volumes. map volume_entry volumes.items) found cursor.old cursor.new) }
-{
-    let mut volumes = Vec::new(alloc);
-    for _ in 0..count {
-        let found = take_volume(alloc, cursor)?;
-        let Some(volume) = found else {
-            return Ok(None);
-        };
-        volumes.push(volume)?;
-    }
-    Ok(Some(volumes))
-}
-
 fn take_actives(alloc: Global, cursor: &mut Cursor) -> Result<Option<Actives>, OutOfMemory>
     ensures { IfOk result (λ found. Takes spelled_actives (FitList FitsOpen) (λ actives. map open_entry actives.items) found cursor.old cursor.new) }
 {
     let Some(count) = cursor.take_u32() else {
         return Ok(None);
     };
-    let mut actives = Actives::new(alloc);
-    for _ in 0..count {
-        let found = take_active(alloc, cursor)?;
-        let Some(active) = found else {
-            return Ok(None);
-        };
-        actives.reserve(1)?;
-        actives.push(active);
-    }
-    Ok(Some(actives))
+    let found = take_many(alloc, cursor, count)?;
+    let Some(actives) = found else {
+        return Ok(None);
+    };
+    Ok(Some(Actives::from_vec(actives)))
 }
 
 pub(crate) fn take_contents(
@@ -215,11 +130,11 @@ pub(crate) fn take_contents(
     let Some(phase) = take_phase(cursor) else {
         return Ok(None);
     };
-    let retained = take_versions(alloc, cursor, count)?;
+    let retained = take_many(alloc, cursor, count)?;
     let Some(versions) = retained else {
         return Ok(None);
     };
-    let closed = take_volumes(alloc, cursor, count.saturating_sub(1))?;
+    let closed = take_many(alloc, cursor, count.saturating_sub(1))?;
     let Some(volumes) = closed else {
         return Ok(None);
     };

@@ -2,19 +2,19 @@
 ghost use Rattle.std.specs.Prelude.{◌≡◌, ℕ, ◌+◌, ◌*◌, ◌^◌, ◌<◌, ◌≤◌, List, ◌∷◌, ◌++◌, length, drop, map, All};
 ghost use Rattle.std.specs.List.{flat_map};
 ghost use Rattle.bd_model.specs.Records.{four};
-ghost use Rattle.bd_catalog.specs.Spelling.{spelled_extents, spelled_phase, spelled_row, spelled_version, spelled_volume, spelled_active, spelled};
-ghost use Rattle.bd_catalog.specs.Shown.{version_entry, volume_entry, open_entry, catalogue_of_contents};
-ghost use Rattle.bd_catalog.specs.Widths.{FitList, FitsFour, FitsRow, FitsVersion, FitsVolume, FitsOpen, IsSpellable};
-ghost use Rattle.bd_catalog.specs.Writing.{put_at, spelled_version_row, spelled_volume_row, spelled_active_row, spelled_head};
+ghost use Rattle.bd_catalog.specs.Spelling.{spelled_extents, spelled_phase, spelled_row, spelled};
+ghost use Rattle.bd_catalog.specs.Shown.{catalogue_of_contents};
+ghost use Rattle.bd_catalog.specs.Widths.{IsSpellable};
+ghost use Rattle.bd_catalog.specs.Writing.{put_at, spelled_head};
 
 use crate::contents::Contents;
-use crate::rows::{ActiveCategory, ClosedVolume, VersionRow};
+use crate::spelled::put_many;
 use bd_model::{CategoryRow, Phase};
 use bd_wire::{put_u8, put_u32, put_u64};
 
 // Each of these writes from place `at` on and answers the place behind what it wrote.
 
-fn put_extents(into: &mut [u8], at: usize, numbers: &[u32]) -> usize
+pub(crate) fn put_extents(into: &mut [u8], at: usize, numbers: &[u32]) -> usize
     requires room { at + length (spelled_extents numbers.now) ≤ length into.old }
     requires count { length numbers.now < 2 ^ 32 }
     ensures written { into.new ≡ put_at into.old at (spelled_extents numbers.now) }
@@ -29,7 +29,7 @@ fn put_extents(into: &mut [u8], at: usize, numbers: &[u32]) -> usize
     place
 }
 
-fn put_row(into: &mut [u8], at: usize, row: &CategoryRow) -> usize
+pub(crate) fn put_row(into: &mut [u8], at: usize, row: &CategoryRow) -> usize
     requires { at + 20 ≤ length into.old }
     ensures written { into.new ≡ put_at into.old at (spelled_row row.now) }
     ensures behind { result ≡ at + 20 }
@@ -40,7 +40,7 @@ fn put_row(into: &mut [u8], at: usize, row: &CategoryRow) -> usize
     at + 20
 }
 
-fn put_rows(into: &mut [u8], at: usize, rows: &[CategoryRow]) -> usize
+pub(crate) fn put_rows(into: &mut [u8], at: usize, rows: &[CategoryRow]) -> usize
     requires room { at + length (four (length rows.now) ++ flat_map spelled_row rows.now) ≤ length into.old }
     requires count { length rows.now < 2 ^ 32 }
     ensures written { into.new ≡ put_at into.old at (four (length rows.now) ++ flat_map spelled_row rows.now) }
@@ -50,69 +50,6 @@ fn put_rows(into: &mut [u8], at: usize, rows: &[CategoryRow]) -> usize
     let mut place = at + 4;
     for row in rows {
         place = put_row(into, place, row);
-    }
-    place
-}
-
-/// What a catalogue has a list of.
-trait Spelled {
-    /// The bytes that spell it.
-    ghost spell: { Self → List ℕ };
-
-    /// That its numbers fit the fields that spell them.
-    ghost fits: { Self → Type 0 };
-
-    fn put(&self, into: &mut [u8], at: usize) -> usize
-        requires room { at + length (spell self.now) ≤ length into.old }
-        requires fits { fits self.now }
-        ensures written { into.new ≡ put_at into.old at (spell self.now) }
-        ensures behind { result ≡ at + length (spell self.now) };
-}
-
-impl Spelled for VersionRow {
-    ghost spell = { spelled_version_row };
-
-    ghost fits = { λ row. FitsVersion (version_entry row) };
-
-    fn put(&self, into: &mut [u8], at: usize) -> usize {
-        put_u64(into, at, self.length);
-        put_u64(into, at + 8, self.chunks);
-        put_u64(into, at + 16, self.fresh);
-        put_extents(into, at + 24, self.recipe.numbers())
-    }
-}
-
-impl Spelled for ClosedVolume {
-    ghost spell = { spelled_volume_row };
-
-    ghost fits = { λ volume. FitsVolume (volume_entry volume) };
-
-    fn put(&self, into: &mut [u8], at: usize) -> usize {
-        let place = put_rows(into, at, self.rows.as_slice());
-        put_extents(into, place, self.extents.numbers())
-    }
-}
-
-impl Spelled for ActiveCategory {
-    ghost spell = { spelled_active_row };
-
-    ghost fits = { λ active. FitsOpen (open_entry active) };
-
-    fn put(&self, into: &mut [u8], at: usize) -> usize {
-        let place = put_row(into, at, &self.row);
-        put_extents(into, place, self.extents.numbers())
-    }
-}
-
-fn put_many<T: Spelled>(into: &mut [u8], at: usize, items: &[T]) -> usize
-    requires room { at + length (flat_map T.spell items.now) ≤ length into.old }
-    requires fit { All T.fits items.now }
-    ensures written { into.new ≡ put_at into.old at (flat_map T.spell items.now) }
-    ensures behind { result ≡ at + length (flat_map T.spell items.now) }
-{
-    let mut place = at;
-    for item in items {
-        place = item.put(into, place);
     }
     place
 }

@@ -10,6 +10,7 @@ mod laws;
 mod load;
 mod rows;
 mod rules;
+mod spelled;
 mod step;
 #[cfg(test)]
 mod tests;

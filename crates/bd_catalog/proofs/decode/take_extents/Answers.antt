@@ -6,7 +6,7 @@ use Rattle.bd_catalog.specs.Spelling.{read_four}
 use Rattle.bd_catalog.specs.Widths.{FitsFour}
 use Rattle.bd_catalog.proofs.Lengths.{length-fours}
 use Rattle.bd_catalog.proofs.Spelling.{four_back}
-use Rattle.bd_catalog.proofs.Reading.{list_none, too_short, fewer}
+use Rattle.bd_catalog.proofs.Reading.{list_none, same_rest, too_short, fewer}
 use Rattle.bd_catalog.proofs.decode.take_extents.Goals as goal
 
 pub returns-then-left-count : goal.returns-then-left-count
@@ -18,5 +18,5 @@ returns-then-left-count c = λ xs rest fit same.
 pub returns-in_default-take_u32 : goal.returns-in_default-take_u32
 returns-in_default-take_u32 c =
     let small : c.in-Some.count < 2 ^ 32 = search rules in
-    list_none read_four four FitsFour four_back c.in-Some.count c.loop.numbers.items c.args.cursor.now c.loop.cursor small c.loop.invariant.fit (omega arith) c.loop.invariant.so
+    list_none four FitsFour (same_rest read_four four FitsFour four_back) c.in-Some.count c.loop.numbers.items c.args.cursor.now c.loop.cursor small c.loop.invariant.fit (omega arith) c.loop.invariant.so
     (too_short four FitsFour 4 c.loop.cursor (λ n. omega arith) (fewer 4 (length c.loop.cursor) c.in_default-take_u32.ensures.enough.1))

@@ -8,7 +8,7 @@ use Rattle.bd_catalog.specs.Spelling.{read_row, spelled_row}
 use Rattle.bd_catalog.specs.Widths.{FitsRow}
 use Rattle.bd_catalog.proofs.Lengths.{length-rows}
 use Rattle.bd_catalog.proofs.Spelling.{row_back}
-use Rattle.bd_catalog.proofs.Reading.{list_none, too_short, took_more}
+use Rattle.bd_catalog.proofs.Reading.{list_none, same_rest, too_short, took_more}
 use Rattle.bd_catalog.proofs.decode.take_rows.Goals as goal
 
 pub returns-then-left-count : goal.returns-then-left-count
@@ -20,7 +20,7 @@ returns-then-left-count c = λ xs rest fit same.
 pub returns-in_default-take_row : goal.returns-in_default-take_row
 returns-in_default-take_row c =
     let small : c.in-Some.count < 2 ^ 32 = search rules in
-    list_none read_row spelled_row FitsRow row_back c.in-Some.count c.loop.rows.items c.args.cursor.now c.loop.cursor small c.loop.invariant.fit (omega arith) c.loop.invariant.so
+    list_none spelled_row FitsRow (same_rest read_row spelled_row FitsRow row_back) c.in-Some.count c.loop.rows.items c.args.cursor.now c.loop.cursor small c.loop.invariant.fit (omega arith) c.loop.invariant.so
     (too_short spelled_row FitsRow 20 c.loop.cursor (λ r. omega arith) c.in_default-take_row.ensures.short)
 
 pub loop-preserved : goal.loop-preserved

@@ -2,7 +2,7 @@ use Rattle.std.proofs.Common.{ℕ, ◌+◌, List, ◌∙◌, ap, arith}
 use Rattle.bd_catalog.specs.Spelling.{spelled_extents, spelled_row}
 use Rattle.bd_catalog.specs.Writing.{put_at}
 use Rattle.bd_catalog.proofs.Writing.{put_at-append}
-use Rattle.bd_catalog.proofs.encode.ActiveCategorySpelled.put.Goals as goal
+use Rattle.bd_catalog.proofs.spelled.ActiveCategorySpelled.put.Goals as goal
 
 pub returns-clause-written : goal.returns-clause-written
 returns-clause-written c =

@@ -3,7 +3,7 @@ use Rattle.bd_model.specs.Records.{eight}
 use Rattle.bd_catalog.specs.Spelling.{spelled_extents}
 use Rattle.bd_catalog.specs.Writing.{put_at}
 use Rattle.bd_catalog.proofs.Writing.{put_at-append}
-use Rattle.bd_catalog.proofs.encode.VersionRowSpelled.put.Goals as goal
+use Rattle.bd_catalog.proofs.spelled.VersionRowSpelled.put.Goals as goal
 
 pub returns-clause-written : goal.returns-clause-written
 returns-clause-written c =

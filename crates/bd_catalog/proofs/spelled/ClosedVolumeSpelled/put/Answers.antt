@@ -5,7 +5,7 @@ use Rattle.bd_model.specs.declared.layout.CategoryRow.{CategoryRow}
 use Rattle.bd_catalog.specs.Spelling.{spelled_extents, spelled_row}
 use Rattle.bd_catalog.specs.Writing.{put_at}
 use Rattle.bd_catalog.proofs.Writing.{put_at-append}
-use Rattle.bd_catalog.proofs.encode.ClosedVolumeSpelled.put.Goals as goal
+use Rattle.bd_catalog.proofs.spelled.ClosedVolumeSpelled.put.Goals as goal
 
 pub returns-clause-written : goal.returns-clause-written
 returns-clause-written c =

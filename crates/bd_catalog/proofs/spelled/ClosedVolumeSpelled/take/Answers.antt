@@ -1,5 +1,5 @@
 use Rattle.bd_catalog.proofs.Reading.{volume_none}
-use Rattle.bd_catalog.proofs.decode.take_volume.Goals as goal
+use Rattle.bd_catalog.proofs.spelled.ClosedVolumeSpelled.take.Goals as goal
 
 pub returns-in_default-owned : goal.returns-in_default-owned
 returns-in_default-owned c =
