@@ -125,6 +125,7 @@ impl Spelled for ActiveCategory {
     }
 }
 
+// Writes the items one behind the other, and answers the place behind them.
 pub(crate) fn put_many<T: Spelled>(into: &mut [u8], at: usize, items: &[T]) -> usize
     requires room { at + length (flat_map T.spell (map T.entry items.now)) ≤ length into.old }
     requires fit { All T.fits (map T.entry items.now) }
@@ -138,6 +139,7 @@ pub(crate) fn put_many<T: Spelled>(into: &mut [u8], at: usize, items: &[T]) -> u
     place
 }
 
+// Takes `count` of them off the front; None where the bytes don't begin with so many.
 pub(crate) fn take_many<T: Spelled>(
     alloc: Global,
     cursor: &mut Cursor,
