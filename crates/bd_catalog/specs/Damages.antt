@@ -1,8 +1,8 @@
 -- What a named damage says of the bytes on a disk, and where they lie.
-use Rattle.std.specs.Prelude.{◌≡◌, ◌≢◌, ◌⊎◌, ℕ, ◌+◌, ◌-◌, ◌*◌, ◌==◌, ◌<◌, Bool, ◌&&◌, not, List, [], ◌∷◌, ◌++◌, length, map, filter, flat_map, sum_by, nat_le, bytes_eq, slice_index_or, slice_get, Some, Contains, All, IsTrue, IsFalse}
+use Rattle.std.specs.Prelude.{◌≡◌, ◌≢◌, ◌⊎◌, ℕ, ◌+◌, ◌-◌, ◌*◌, ◌==◌, ◌<◌, Bool, ◌&&◌, not, List, [], ◌∷◌, ◌++◌, length, map, filter, flat_map, sum_by, nat_le, bytes_eq, slice_index_or, slice_get, Some, Contains, IsTrue, IsFalse}
 use Rattle.std.specs.List.{list_all}
 use Rattle.bd_disk.specs.History.{History}
-use Rattle.bd_disk.specs.Trace.{reads}
+use Rattle.bd_disk.specs.Trace.{HasRead}
 use Rattle.bd_model.specs.Sizes.{Sizes}
 use Rattle.bd_model.specs.Extents.{places_at}
 use Rattle.bd_model.specs.Marks.{mark}
@@ -93,12 +93,6 @@ IsOfVersion v (Row who start recorded found) = Unit {0}
 IsOfVersion v (Body who at recorded found) = Unit {0}
 IsOfVersion v (Length u m recorded found) = u ≡ v
 IsOfVersion v (Missing u index m) = u ≡ v
-
--- these places were read between the two moments
-pub record HasRead (places : List ℕ) (old new : History) : Type 0 where
-  pub more : List ℕ
-  pub so : reads new ≡ reads old ++ more
-  pub all : All (λ place. Contains more place) places
 
 -- the bytes that the damage names were read between these moments, and break its rule
 pub record IsSeen (s : Sizes) (c : Catalogue) (image : List ℕ) (rows : List RowPlace) (damage : Damage) (old new : History) : Type 0 where

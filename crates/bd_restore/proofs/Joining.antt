@@ -1,15 +1,15 @@
 -- Walks that follow each other, what is met on them, and the records and rows that they go over.
 use Rattle.std.proofs.Common.{◌≡◌, ℕ, zero, suc, ◌+◌, ◌-◌, ◌<◌, ◌≤◌, Bool, List, [], ◌∷◌, ◌++◌, length, take, drop, get_or, refl, sym, ◌∙◌, ap, subst, arith, append_assoc}
-use Rattle.std.specs.Prelude.{if◌then◌else◌, Contains, nat_le, Result, Ok, Err, IsErrAnd, IsTrue}
+use Rattle.std.specs.Prelude.{if◌then◌else◌, nat_le, Result, Ok, Err, IsErrAnd, IsTrue}
 use Rattle.std.specs.List.{flat_map, list_all, range_with_len}
 use Rattle.std.proofs.lemmas.List.{append-nil, map-append, take-append-drop, take_more}
-use Rattle.std.proofs.lemmas.List.Elements.{filter-append, All-weaker, Contains-append_right}
+use Rattle.std.proofs.lemmas.List.Elements.{filter-append}
 use Rattle.std.proofs.lemmas.List.Sums.{sum_by-append, sum_by-cons}
 use Rattle.std.proofs.lemmas.Grind.{flat_map-append}
 use Rattle.bd_disk.specs.History.{Call, History}
 use Rattle.bd_disk.specs.Made.{Made}
-use Rattle.bd_disk.specs.Trace.{reads, ReadsOnly}
-use Rattle.bd_disk.proofs.Traces.{part, reads_both, reads_none, reads_on}
+use Rattle.bd_disk.specs.Trace.{ReadsOnly}
+use Rattle.bd_disk.proofs.Traces.{has_read_later, reads_both, reads_none}
 use Rattle.bd_model.specs.Sizes.{Sizes}
 use Rattle.bd_model.specs.Extents.{places_at}
 use Rattle.bd_model.specs.Records.{Stored, stored_at}
@@ -20,7 +20,7 @@ use Rattle.bd_model.specs.declared.layout.RecipeEntry.{RecipeEntry}
 use Rattle.bd_model.specs.Chunks.{numbers}
 use Rattle.bd_model.proofs.ListLemmas.{numbers-split, range_with_len-suc}
 use Rattle.bd_catalog.specs.Catalogue.{Catalogue, bytes_of_rows}
-use Rattle.bd_catalog.specs.Damages.{HasRead, header_holds}
+use Rattle.bd_catalog.specs.Damages.{header_holds}
 use Rattle.bd_catalog.specs.Rows.{row_bytes, spot_in, RowPlace, Spot, begun_by, first_spots, records_at, row_place, row_spots, rows_from, spots_in, volume_rows, spots_from, past}
 use Rattle.bd_restore.specs.declared.fault.RestoreFault.{RestoreFault}
 use Rattle.bd_restore.specs.declared.fault.RestoreFault.TheVariants.{TargetFault, DiskFault, Damaged, OutOfMemory}
@@ -65,16 +65,6 @@ module _ (s : Sizes) (entries : List RecipeEntry) where
   }
 
 -- ---- what is met on a walk
-
--- what was read after other calls was read
-pub has_read_later : {Kind : Call → Type 0} (places : List ℕ) {a b c : History} → Made Kind a b → HasRead places b c → HasRead places a c
-has_read_later places {a} f read =
-    let first = part a f.calls in
-    record {
-      more = first ++ read.more;
-      so = read.so ∙ ap (λ l. l ++ read.more) (ap reads f.so ∙ reads_on a f.calls) ∙ append_assoc (reads a) first read.more;
-      all = All-weaker (λ place. Contains read.more place) (λ place. Contains (first ++ read.more) place) (λ place there. Contains-append_right first read.more place there) places read.all;
-    }
 
 module _ (s : Sizes) (v : ℕ) (entries : List RecipeEntry) (image : List ℕ) (damage : Damage) where
   pub spots-append : (xs ys : List RowPlace) → spots_in s image (xs ++ ys) ≡ spots_in s image xs ++ spots_in s image ys

@@ -5,9 +5,9 @@ use Rattle.std.specs.Int.{w32, from_be_bytes}
 use Rattle.std.proofs.Math.Seq.{take-add}
 use Rattle.std.proofs.lemmas.Bool.{cases_lt, lt-leb, ltb-true, ltb-false}
 use Rattle.std.proofs.lemmas.List.{take-take}
-use Rattle.std.proofs.lemmas.List.Elements.{All-contains_itself}
 use Rattle.bd_disk.specs.History.{History}
-use Rattle.bd_disk.specs.Trace.{reads, ReadsOnly}
+use Rattle.bd_disk.specs.Trace.{reads, HasRead, ReadsOnly}
+use Rattle.bd_disk.proofs.Traces.{read_all}
 use Rattle.bd_model.specs.Sizes.{Sizes}
 use Rattle.bd_model.specs.Extents.{owner_bytes, owner_places, places_at}
 use Rattle.bd_model.specs.Marks.{mark}
@@ -17,7 +17,7 @@ use Rattle.bd_model.specs.declared.damage.Damage.{Damage}
 use Rattle.bd_model.specs.declared.damage.Damage.TheVariants.{Header as BadHeader, Body as BadBody, Length as BadLength}
 use Rattle.bd_model.specs.declared.layout.RecipeEntry.{RecipeEntry}
 use Rattle.bd_model.specs.declared.mark.Mark.{Mark}
-use Rattle.bd_catalog.specs.Damages.{HasRead, header_holds, header_places, record_places}
+use Rattle.bd_catalog.specs.Damages.{header_holds, header_places, record_places}
 use Rattle.bd_catalog.specs.Rows.{RowPlace, Spot, row_end, spot_in}
 use Rattle.bd_catalog.specs.Sound.{length_holds}
 use Rattle.bd_category.specs.declared.fault.Header.{Header}
@@ -44,9 +44,6 @@ same_fit at n end room =
       | inl over ↦ lt-leb (at + 36 + n) end over ∙ sym (lt-leb n (end - at - 36) (omega (arith, over, room)))
       | inr fits ↦ le-leb (at + 36 + n) end fits ∙ sym (le-leb n (end - at - 36) (omega (arith, fits)))
     ]
-
-read_all : {places : List ℕ} {old new : History} → ReadsOnly places old new → HasRead places old new
-read_all {places} {old} {new} only = record { more = places; so = only.so; all = All-contains_itself places }
 
 module _ (s : Sizes) (image : List ℕ) (p : RowPlace) (at : ℕ) where
   abbrev x : Spot

@@ -2,7 +2,7 @@
 use Rattle.std.specs.Prelude.{◌≡◌, ◌≢◌, ℕ, ◌<◌, List, ◌∷◌, ◌++◌, length, Bool, All, Contains, IsTrue, IsFalse}
 use Rattle.std.specs.List.{list_all}
 use Rattle.bd_disk.specs.History.{History}
-use Rattle.bd_disk.specs.Trace.{reads}
+use Rattle.bd_disk.specs.Trace.{reads, HasRead}
 use Rattle.bd_model.specs.Sizes.{Sizes}
 use Rattle.bd_model.specs.Recipe.{has_mark}
 use Rattle.bd_model.specs.Records.{Stored}
@@ -10,7 +10,7 @@ use Rattle.bd_model.specs.declared.damage.Damage.{Damage}
 use Rattle.bd_model.specs.declared.damage.Damage.TheVariants.{Entry, Sum, Header, Row, Body, Length, Missing}
 use Rattle.bd_model.specs.declared.layout.RecipeEntry.{RecipeEntry}
 use Rattle.bd_catalog.specs.Catalogue.{Catalogue}
-use Rattle.bd_catalog.specs.Damages.{BreaksRule, HasRead, IsBadBody, IsBadHeader, header_holds, record_places}
+use Rattle.bd_catalog.specs.Damages.{BreaksRule, IsBadBody, IsBadHeader, header_holds, record_places}
 use Rattle.bd_catalog.specs.Rows.{RowPlace, Spot, records_at, row_spots, spots_in, walk}
 use Rattle.bd_catalog.specs.Sound.{is_stored, part_holds, parts_for, records_for}
 use Rattle.bd_recipe.specs.Reading.{recipe_places}

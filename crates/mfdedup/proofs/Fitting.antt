@@ -3,6 +3,7 @@ use Rattle.std.proofs.Common.{◌≡◌, ◌⊎◌, ◌∙◌, ℕ, List, [], �
 use Rattle.bd_disk.specs.History.{History, contents}
 use Rattle.bd_disk.specs.Made.{WritesNothing}
 use Rattle.bd_disk.proofs.Frames.{unchanged}
+use Rattle.bd_disk.proofs.Traces.{has_read_later}
 use Rattle.bd_model.specs.declared.answer.Answer.{Answer}
 use Rattle.bd_model.specs.declared.command.Command.{Command}
 use Rattle.bd_model.specs.declared.command.Command.TheVariants.{Backup, Restore, Expire, Reorganise, Scrub, List as Listing}
@@ -15,7 +16,6 @@ use Rattle.bd_catalog.specs.Sound.{recipe_of}
 use Rattle.bd_recover.specs.declared.fault.OpenFault.{OpenFault}
 use Rattle.bd_recover.specs.declared.fault.OpenFault.TheVariants.{NotAStore as OpenNotAStore, DiskFault as OpenDisk, OutOfMemory as OpenMemory}
 use Rattle.bd_restore.specs.Met.{IsNeeded}
-use Rattle.bd_restore.proofs.Joining.{has_read_later}
 use Rattle.bd_store.specs.Naming.{NamesDamage as StoreNames, IsDamageOf}
 use Rattle.bd_store.specs.Openings.{AnswersOpening}
 use Rattle.bd_store.specs.declared.fault.StoreFault.{StoreFault}
