@@ -16,7 +16,7 @@ use Rattle.bd_model.specs.Records.{four, record_of, records_of, spelled_entry, s
 use Rattle.bd_model.specs.Sizes.{Sizes, extent_place, disk_bytes}
 use Rattle.bd_model.specs.declared.layout.RecipeEntry.{RecipeEntry}
 use Rattle.bd_model.specs.declared.mark.Mark.{Mark}
-use Rattle.bd_model.proofs.RecordLemmas.{length-mark, length-record}
+use Rattle.bd_model.proofs.RecordLemmas.{length-mark, length-record, length-spelled_entry}
 use Rattle.bd_category.specs.Records.{record_with}
 use Rattle.bd_extio.specs.Ranges.{AreExtents, InOwner}
 use Rattle.bd_extio.proofs.Places.{length-owner_bytes}
@@ -30,12 +30,9 @@ use Rattle.bd_intake.proofs.Firsts.{entry}
 records-push : (cs : List (List ℕ)) (c : List ℕ) → records_of (cs ++ c ∷ []) ≡ records_of cs ++ record_of c
 records-push cs c = flat_map-append record_of cs (c ∷ []) ∙ ap (λ xs. records_of cs ++ xs) (append-nil (record_of c))
 
-length-entry : (v : ℕ) (c : List ℕ) → length (spelled_entry (entry v c)) ≡ 40
-length-entry v c = omega (arith, length-append (mark c ++ four (length c)) (four v), length-append (mark c) (four (length c)), length-mark c)
-
 pub length-entries : (v : ℕ) (cs : List (List ℕ)) → length (spelled_recipe (entries_in [] v cs)) ≡ 40 * length cs
 length-entries v [] = refl
-length-entries v (c ∷ cs) = omega (arith, length-append (spelled_entry (entry v c)) (spelled_recipe (entries_in [] v cs)), length-entry v c, length-entries v cs)
+length-entries v (c ∷ cs) = omega (arith, length-append (spelled_entry (entry v c)) (spelled_recipe (entries_in [] v cs)), length-spelled_entry (entry v c) (length-mark c), length-entries v cs)
 
 entries-push : (v : ℕ) (cs : List (List ℕ)) (c : List ℕ) → spelled_recipe (entries_in [] v (cs ++ c ∷ [])) ≡ spelled_recipe (entries_in [] v cs) ++ spelled_entry (entry v c)
 entries-push v cs c =
@@ -77,7 +74,7 @@ module _ (s : Sizes) (extents : List ℕ) (some : 1 ≤ s.extent) where
         let whole : owner_bytes s extents new ≡ overwritten (owner_bytes s extents old) (length front) (spelled_entry (entry v body)) =
         written ∙ (λ k. overwritten (owner_bytes s extents old) (place k) (spelled_entry (is k))) in
         subst (λ bytes. BeginWith s extents bytes new) (sym (entries-push v taken body))
-        (begin_with_more s extents front (spelled_entry (entry v body)) old new begins (omega (arith, place, length-entry v body, fits, sized)) whole)
+        (begin_with_more s extents front (spelled_entry (entry v body)) old new begins (omega (arith, place, length-spelled_entry (entry v body) (length-mark body), fits, sized)) whole)
 
 -- ---- two owners
 

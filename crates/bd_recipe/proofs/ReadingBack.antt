@@ -1,10 +1,11 @@
 -- Entries that were written are read back.
-use Rattle.std.proofs.Common.{◌≡◌, ℕ, List, [], ◌∷◌, ◌++◌, length, take, drop, refl, sym, ◌∙◌, ap, arith, append_assoc, length-append}
+use Rattle.std.proofs.Common.{◌≡◌, ℕ, List, [], ◌∷◌, ◌++◌, length, take, drop, refl, sym, ◌∙◌, ap, append_assoc}
 use Rattle.std.specs.Prelude.{All}
 use Rattle.std.proofs.lemmas.List.{take-append-drop, take_at, drop_at}
 use Rattle.std.proofs.lemmas.List.Elements.{All-head, All-tail}
 use Rattle.bd_model.specs.Records.{four, spelled_entry, spelled_recipe, entry_at, entries_in}
 use Rattle.bd_model.specs.declared.layout.RecipeEntry.{RecipeEntry}
+use Rattle.bd_model.proofs.RecordLemmas.{length-spelled_entry}
 use Rattle.bd_recipe.specs.Laws.{FitsEntry}
 use Rattle.bd_recipe.proofs.Entries.{entry_at-fields}
 
@@ -22,11 +23,8 @@ module _ (e : RecipeEntry) (rest : List ℕ) (fits : FitsEntry e) where
       (ap (drop 32) bytes-are ∙ drop_at e.mark.0 (four e.length ++ (four e.start ++ rest)) 32 fits.mark)
       refl)
 
-  length-spelled : length (spelled_entry e) ≡ 40
-  length-spelled = omega (arith, length-append (e.mark.0 ++ four e.length) (four e.start), length-append e.mark.0 (four e.length), fits.mark)
-
   behind_entry : drop 40 bytes ≡ rest
-  behind_entry = drop_at (spelled_entry e) rest 40 length-spelled
+  behind_entry = drop_at (spelled_entry e) rest 40 (length-spelled_entry e fits.mark)
 
 pub entries-read : (entries : List RecipeEntry) (rest : List ℕ) → All FitsEntry entries → entries_in (length entries) (spelled_recipe entries ++ rest) ≡ entries
 entries-read [] rest fits = refl
