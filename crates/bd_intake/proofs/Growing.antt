@@ -1,10 +1,9 @@
 -- What is staged, one chunk after the other.
-use Rattle.std.proofs.Common.{◌≡◌, ℕ, ◌+◌, ◌-◌, ◌*◌, ◌^◌, ◌<◌, ◌≤◌, Bool, true, false, cond, not, ◌||◌, List, [], ◌∷◌, ◌++◌, length, filter, refl, sym, ◌∙◌, ap, subst, arith, append_assoc, length-append}
+use Rattle.std.proofs.Common.{◌≡◌, ℕ, ◌+◌, ◌*◌, ◌^◌, ◌≤◌, Bool, true, false, cond, not, ◌||◌, List, [], ◌∷◌, ◌++◌, length, filter, refl, sym, ◌∙◌, ap, subst, arith, append_assoc, length-append}
 use mir.Val.{bool_byte}
 use Rattle.std.specs.Str.{bytes_eq}
 use Rattle.std.specs.List.{AllByRecursion, concat}
-use Rattle.std.proofs.Math.Nat.{mod-lt, mul-le-mul_right}
-use Rattle.std.proofs.lemmas.Nat.{div-add-mod'}
+use Rattle.std.proofs.Math.Nat.{mul-le-mul_right}
 use Rattle.std.proofs.lemmas.List.{append-nil}
 use Rattle.std.proofs.lemmas.List.Elements.{All-append, All-from_recursion, recursion_from_All}
 use Rattle.std.proofs.lemmas.List.Folds.{concat-append}
@@ -14,6 +13,7 @@ use Rattle.bd_model.specs.Layout.{record_bytes}
 use Rattle.bd_model.specs.Marks.{mark}
 use Rattle.bd_model.specs.Room.{up}
 use Rattle.bd_model.specs.Sizes.{Sizes, sizes_of}
+use Rattle.bd_model.proofs.RoomLemmas.{up-enough}
 use Rattle.bd_space.specs.Allotment.{Allotment, free_count}
 use Rattle.bd_space.specs.Holding.{Holding}
 use Rattle.bd_extio.proofs.Places.{range_small}
@@ -62,11 +62,6 @@ grows_both {space} {one} {two} {a} {b} {d} f g = record {
 
 -- ---- numbers
 
-pub up-enough : (extent bytes : ℕ) → 1 ≤ extent → bytes ≤ up extent bytes * extent
-up-enough extent bytes some =
-    let positive : 0 < extent = omega arith in
-    omega (arith, div-add-mod' (bytes + (extent - 1)) extent, mod-lt (bytes + (extent - 1)) positive)
-
 -- each chunk has a byte, and no more than the most
 abbrev pub IsShort : ℕ → List ℕ → Type 0
 IsShort most c = (1 ≤ length c) × (length c ≤ most)
@@ -108,14 +103,12 @@ module _ (shape : Shape) (staging : Staging) where
       record {
         entries = omega (
           arith,
-          up-enough s.extent (40 * staging.chunks) some_extent,
-          ap (λ n. n * s.extent) long.recipe,
+          up-enough s.extent (40 * staging.chunks) (length staging.recipe.numbers) some_extent long.recipe,
           range_small s staging.recipe.numbers apart.recipe_extents (omega (arith, shape.in_range.extents_high)) (omega (arith, shape.in_range.extent_high)),
         );
         records = omega (
           arith,
-          up-enough s.extent staging.fresh_bytes some_extent,
-          ap (λ n. n * s.extent) long.fresh,
+          up-enough s.extent staging.fresh_bytes (length staging.fresh.numbers) some_extent long.fresh,
           range_small s staging.fresh.numbers apart.fresh_extents (omega (arith, shape.in_range.extents_high)) (omega (arith, shape.in_range.extent_high)),
         );
         stream = omega (arith, has.stream_bytes, has.chunk_count, stream-high s.max taken all, most);

@@ -13,6 +13,7 @@ use Rattle.std.proofs.lemmas.Option.{get_or_from_slice_get, slice_get-map}
 use Rattle.bd_model.specs.Sizes.{Sizes}
 use Rattle.bd_model.specs.Room.{up}
 use Rattle.bd_model.proofs.ListLemmas.{left_and, right_and}
+use Rattle.bd_model.proofs.RoomLemmas.{up-enough}
 use Rattle.bd_extio.specs.Ranges.{AreExtents, IsWithin}
 use Rattle.bd_catalog.specs.Catalogue.{Catalogue, VersionEntry, oldest_in, recipe_extents, all_extents}
 use Rattle.bd_catalog.specs.Rules.{all_differ, fits_eight, obeys, version_holds, extents_hold}
@@ -81,10 +82,6 @@ extents_of_version s e h =
     let p6 = p5 && fits_eight (40 * e.chunks) in
     eqb-true (length e.extents) (up s.extent (40 * e.chunks)) (right_and p3 (length e.extents == up s.extent (40 * e.chunks)) (left_and p4 (fits_eight (s.max * e.chunks)) (left_and p5 (fits_eight (40 * e.chunks)) (left_and p6 (fits_eight e.length) h))))
 
--- so many extents have room for the bytes
-room_of : (extent bytes n : ℕ) → 1 ≤ extent → n ≡ up extent bytes → bytes ≤ n * extent
-room_of extent bytes n some is = subst (λ m. bytes ≤ m * extent) (sym is) (omega arith)
-
 at_map : {Y : Type 0} (f : VersionEntry → Y) (es : List VersionEntry) (i : ℕ) (e : VersionEntry) (d : Y) → slice_get es i ≡ Some e → f e ≡ get_or (map f es) i d
 at_map f es i e d is = sym (get_or_from_slice_get (map f es) i (f e) d (slice_get-map f es i ∙ ap (option_map f) is))
 
@@ -100,5 +97,5 @@ version_is s c v e some rules is =
       chunks = at_map (λ x. x.chunks) c.versions i e 0 is;
       bytes = at_map (λ x. x.length) c.versions i e 0 is;
       numbers = are_of s c.versions i e is (are_left s versions volumes (are_left s (versions ++ volumes) actives (are_all s c each.extents)));
-      range = omega (arith, room_of s.extent (40 * e.chunks) (length e.extents) some (extents_of_version s e (holds_at (version_holds s) c.versions i e each.versions is)));
+      range = omega (arith, up-enough s.extent (40 * e.chunks) (length e.extents) some (extents_of_version s e (holds_at (version_holds s) c.versions i e each.versions is)));
     }

@@ -19,6 +19,7 @@ use Rattle.bd_model.specs.FileMap.{FileMap}
 use Rattle.bd_model.specs.Records.{Stored}
 use Rattle.bd_model.specs.declared.layout.RecipeEntry.{RecipeEntry}
 use Rattle.bd_model.proofs.ListLemmas.{left_and, right_and}
+use Rattle.bd_model.proofs.RoomLemmas.{up-enough}
 use Rattle.bd_extio.specs.Ranges.{AreExtents}
 use Rattle.bd_files.specs.Files.{ChangesOnly}
 use Rattle.bd_files.proofs.FileLemmas.{only_equal_names_tie, held_put}
@@ -43,14 +44,11 @@ ok_of (Err e) P not_err p = absurd (wrong not_err) where
 
 -- ---- the room of rows
 
-enough : (extent bytes n : ℕ) → 1 ≤ extent → n ≡ up extent bytes → bytes ≤ n * extent
-enough extent bytes n some is = subst (λ m. bytes ≤ m * extent) (sym is) (omega arith)
-
 opens_of : (s : Sizes) (es : List OpenEntry) → 1 ≤ s.extent → list_all (active_holds s) es ≡ true → AreExtents s (flat_map (λ e. e.extents) es) → (k : ℕ) (d : RowPlace) → k < length (map open_row es) → IsInRoom s (get_or (map open_row es) k d)
 opens_of s [] some hold are k d lt = absurd (omega arith)
 opens_of s (x ∷ es) some hold are zero d lt =
     let mine = left_and (active_holds s x) (list_all (active_holds s) es) hold in
-    let room : x.row.bytes ≤ length x.extents * s.extent = enough s.extent x.row.bytes (length x.extents) some (eqb-true (length x.extents) (up s.extent x.row.bytes) (right_and (row_holds s x.row) (length x.extents == up s.extent x.row.bytes) mine)) in
+    let room : x.row.bytes ≤ length x.extents * s.extent = up-enough s.extent x.row.bytes (length x.extents) some (eqb-true (length x.extents) (up s.extent x.row.bytes) (right_and (row_holds s x.row) (length x.extents == up s.extent x.row.bytes) mine)) in
     record { numbers = are_left s x.extents (flat_map (λ e. e.extents) es) are; room = omega (arith, room) }
 opens_of s (x ∷ es) some hold are (suc k) d lt = opens_of s es some (right_and (active_holds s x) (list_all (active_holds s) es) hold) (are_right s x.extents (flat_map (λ e. e.extents) es) are) k d (omega arith)
 
@@ -105,7 +103,7 @@ volume_is s c j e some rules is =
       extents = at_map (λ x. x.extents) c.volumes i e [] is;
       rows = at_map (λ x. x.rows) c.volumes i e [] is;
       numbers = extents_at s c.volumes i e is (are_right s versions volumes (are_left s (versions ++ volumes) actives (are_all s c each.extents)));
-      inside = enough s.extent (bytes_of_rows e.rows) (length e.extents) some (eqb-true (length e.extents) (up s.extent (bytes_of_rows e.rows)) (right_and rows sized first));
+      inside = up-enough s.extent (bytes_of_rows e.rows) (length e.extents) some (eqb-true (length e.extents) (up s.extent (bytes_of_rows e.rows)) (right_and rows sized first));
       short = ltb-true (bytes_of_rows e.rows) (2 ^ 64) (right_and (rows && sized) (fits_eight (bytes_of_rows e.rows)) holds);
     }
 
