@@ -7,7 +7,8 @@ use Rattle.bd_model.specs.declared.shape.Shape.{Shape}
 use Rattle.bd_model.specs.declared.command.Command.{Command}
 use Rattle.bd_model.specs.declared.command.Command.TheVariants.{Backup, Restore, Expire, Reorganise, Scrub, List as Listing}
 use Rattle.bd_model.specs.declared.answer.Answer.{Answer}
-use Rattle.bd_model.specs.declared.answer.Answer.TheVariants.{BackedUp, Expired, FullNumbers, FullVersions, FullExtents, NoVersion, NothingRetained}
+use Rattle.bd_model.specs.declared.answer.Answer.TheVariants.{BackedUp, Expired, FullNumbers, FullVersions, FullExtents, Listed, NoVersion, NothingRetained}
+use Rattle.bd_model.specs.declared.answer.VersionLine.{VersionLine}
 use Rattle.bd_model.specs.declared.layout.Phase.{Phase}
 use Rattle.bd_model.specs.declared.layout.Phase.TheVariants.{Settled, Waiting}
 use Rattle.bd_model.specs.Chunks.{chunks}
@@ -19,7 +20,7 @@ use Rattle.bd_model.specs.Room.{counted, need, fresh}
 use Rattle.bd_model.specs.CommandLaws.{Keeps}
 use Rattle.bd_model.specs.Laws.{BackupsGrowTheHistory, grown}
 use Rattle.std.proofs.lemmas.Option.{IfSome_then}
-use Rattle.bd_model.specs.Step.{unchanged, restore, expired_extents, step, backup, free_extents, drop_oldest, with_version, next_start, phase_after_step}
+use Rattle.bd_model.specs.Step.{unchanged, restore, expired_extents, step, backup, free_extents, drop_oldest, with_version, next_start, phase_after, phase_after_step, without_room}
 use Rattle.bd_model.proofs.ListLemmas.{IfSome-find_range_with_len}
 
 module _ (shape : Shape) where
@@ -157,3 +158,8 @@ backups_grow_the_history = record {
       let last : get_or h.versions (length h.versions - 1) [] ≡ version h (newest h) = sym (ap (λ i. get_or ([] ∷ h.versions) i []) place) in
       λ k. record { base = h.base; versions = (last_of h.versions some ∙ ap (λ v. take (length h.versions - 1) h.versions ++ v ∷ []) last) k; expired = h.expired };
 }
+
+-- the phase stays at a list
+pub phase-listed : (s : VersionState) (phase : Phase) (a : Answer) (lines : List VersionLine) → without_room a ≡ Listed (record { items = lines; spare = 0 }) → phase_after s phase a ≡ phase
+phase-listed s phase (Listed l) lines e = refl
+phase-listed s phase _ lines e = absurd (cc e)

@@ -9,12 +9,10 @@ use Rattle.bd_model.specs.Chunks.{chunks}
 use Rattle.bd_model.specs.History.{newest, oldest, retained}
 use Rattle.bd_model.specs.Room.{need, counted, fresh}
 use Rattle.bd_model.specs.State.{VersionState, history, cut_of, last_number}
-use Rattle.bd_model.specs.Step.{Outcome, step, backup, unchanged, free_extents, with_version, phase_after, without_room}
+use Rattle.bd_model.specs.Step.{Outcome, step, backup, unchanged, free_extents, with_version, without_room}
 use Rattle.bd_model.specs.declared.shape.Shape.{Shape}
-use Rattle.bd_model.specs.declared.layout.Phase.{Phase}
 use Rattle.bd_model.specs.declared.answer.Answer.{Answer}
 use Rattle.bd_model.specs.declared.answer.Answer.TheVariants.{BackedUp, Restored, Expired, Arranged, Scrubbed, Listed, FullNumbers, FullVersions, FullExtents, NoVersion, NothingRetained, Formatted, Blanked, Soaked}
-use Rattle.bd_model.specs.declared.answer.VersionLine.{VersionLine}
 use Rattle.bd_model.specs.declared.command.Command.TheVariants.{Backup, Restore, List as Listing}
 use Rattle.bd_script.specs.Long.{is_long}
 use Rattle.mfdedup.specs.Reads.{ReadsFor}
@@ -73,23 +71,6 @@ unread shape st h t u (NothingRetained asked) e = tt
 unread shape st h t u Formatted e = tt
 unread shape st h t u (Blanked b) e = tt
 unread shape st h t u (Soaked s k b c w x m) e = tt
-
--- the phase stays at a list
-pub phase-listed : (st : VersionState) (phase : Phase) (a : Answer) (lines : List VersionLine) → without_room a ≡ Listed (record { items = lines; spare = 0 }) → phase_after st phase a ≡ phase
-phase-listed st phase (BackedUp v b c w x) lines e = absurd (cc e)
-phase-listed st phase (Restored v b) lines e = absurd (cc e)
-phase-listed st phase (Expired v x) lines e = absurd (cc e)
-phase-listed st phase (Arranged x y) lines e = absurd (cc e)
-phase-listed st phase (Scrubbed report) lines e = absurd (cc e)
-phase-listed st phase (Listed l) lines e = refl
-phase-listed st phase FullNumbers lines e = absurd (cc e)
-phase-listed st phase (FullVersions r) lines e = absurd (cc e)
-phase-listed st phase (FullExtents x y z) lines e = absurd (cc e)
-phase-listed st phase (NoVersion v o n) lines e = absurd (cc e)
-phase-listed st phase (NothingRetained asked) lines e = absurd (cc e)
-phase-listed st phase Formatted lines e = absurd (cc e)
-phase-listed st phase (Blanked b) lines e = absurd (cc e)
-phase-listed st phase (Soaked s k b c w x m) lines e = absurd (cc e)
 
 -- the outcome's answer, where there is one, isn't of the kind
 record Isnt (f : Answer → Bool) (r : Option Outcome) : Type 0 where
