@@ -3,6 +3,7 @@ pub mod FirstStops
 pub mod FirstCall
 pub mod FirstSteps
 pub mod LineLemmas
+pub mod Listed
 pub mod Making
 pub mod Quiet
 pub mod Refusing

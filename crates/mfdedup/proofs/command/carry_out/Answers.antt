@@ -2,8 +2,8 @@ use Rattle.std.proofs.Common.{sym, subst, Ok}
 use Rattle.bd_store.specs.Steps.{IsOneStep}
 use Rattle.bd_store.specs.Stops.{IsSafeAtStops}
 use Rattle.bd_store.specs.declared.fault.StoreFault.TheVariants.{OutOfMemory}
+use Rattle.bd_store.proofs.Listed.{listed_step, listed_stops}
 use Rattle.bd_store.proofs.Quiet.{safe_untouched}
-use Rattle.mfdedup.proofs.Listing.{listed_step, listed_stops}
 use Rattle.mfdedup.proofs.command.carry_out.Goals as goal
 
 pub returns-in-Ok-clause-step : goal.returns-in-Ok-clause-step

@@ -9,6 +9,7 @@ use Rattle.bd_model.specs.declared.shape.Shape.{Shape}
 use Rattle.bd_model.specs.declared.answer.Answer.{Answer}
 use Rattle.bd_model.specs.declared.answer.Answer.TheVariants.{Listed}
 use Rattle.bd_model.specs.declared.command.Command.TheVariants.{List as Listing}
+use Rattle.bd_model.proofs.StepLemmas.{phase-listed}
 use Rattle.bd_catalog.specs.Agreement.{Agrees}
 use Rattle.bd_catalog.specs.Catalogue.{oldest_in}
 use Rattle.bd_catalog.specs.Opening.{Found}
@@ -16,7 +17,6 @@ use Rattle.bd_catalog.specs.Standing.{StandsFor, lines_from}
 use Rattle.bd_catalog.proofs.Standing.{stands-shows}
 use Rattle.bd_store.specs.Steps.{IsOneStep}
 use Rattle.bd_store.specs.Stops.{IsSafeAtStops}
-use Rattle.mfdedup.proofs.AnswerKinds.{phase-listed}
 
 abbrev outcome_of : Shape → VersionState → FileMap → Outcome
 outcome_of shape st files = unchanged st files (Listed (record { items = version_lines st (history shape st); spare = 0 }))
