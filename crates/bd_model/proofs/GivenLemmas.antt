@@ -1,6 +1,7 @@
 -- The chunks that a state keeps and that commands read, from one command to the next.
-use Rattle.std.proofs.Common.{◌≡◌, ℕ, ◌+◌, true, false, cond, ◌&&◌, ◌||◌, List, [], ◌∷◌, ◌++◌, refl, sym, ◌∙◌, ap, subst, map, flat_map, length, nat_eq, nat_le, nat_lt, Some, None, IfSome, option_map, unwrap_or, append_assoc, ◌-◌, ⊎_elim}
+use Rattle.std.proofs.Common.{◌≡◌, ℕ, ◌+◌, true, false, cond, ◌&&◌, ◌||◌, List, [], ◌∷◌, ◌++◌, sym, ◌∙◌, ap, subst, map, flat_map, length, nat_eq, nat_le, nat_lt, Some, None, IfSome, option_map, unwrap_or, append_assoc, ◌-◌, ⊎_elim}
 use Rattle.std.proofs.lemmas.List.{append-nil}
+use Rattle.std.proofs.lemmas.List.Folds.{flat_map-map}
 use Rattle.std.proofs.lemmas.Bool.{false≢true, or_left, or_right, or_cases}
 use Rattle.std.specs.FinMap as map
 use Rattle.bd_model.specs.declared.shape.Shape.{Shape}
@@ -42,9 +43,9 @@ module _ (shape : Shape) where
   abbrev all_chunks : List Version → List (List ℕ)
   all_chunks versions = flat_map (chunks (cut_of shape)) (map (λ v. v.stream) versions)
 
-  joined : (versions : List Version) → flat_map (λ v. v) (map (chunks (cut_of shape)) (map (λ v. v.stream) versions)) ≡ all_chunks versions
-  joined [] = refl
-  joined (v ∷ versions) = ap (λ cs. chunks (cut_of shape) v.stream ++ cs) (joined versions)
+  -- those of the history that the versions make
+  pub joined : (versions : List Version) → flat_map (λ v. v) (map (chunks (cut_of shape)) (map (λ v. v.stream) versions)) ≡ flat_map (chunks (cut_of shape)) (map (λ v. v.stream) versions)
+  joined versions = flat_map-map (λ v. v) (chunks (cut_of shape)) (map (λ v. v.stream) versions)
 
   pushed : (versions : List Version) (v : Version) → Within (all_chunks (versions ++ v ∷ [])) (all_chunks versions ++ chunks (cut_of shape) v.stream)
   pushed [] v = λ c has. sym (ap (λ cs. contains cs c) (append-nil (chunks (cut_of shape) v.stream))) ∙ has

@@ -1,6 +1,8 @@
 -- Where marks tell all chunks that are given apart, they do so for a command.
-use Rattle.std.proofs.Common.{◌≡◌, ℕ, zero, suc, Bool, true, false, List, [], ◌∷◌, ◌++◌, map, flat_map, take, Option, Some, None, refl, ◌∙◌, sym, ap, subst, append-nil, append_assoc, add-one, if◌then◌else◌}
+use Rattle.std.proofs.Common.{◌≡◌, ℕ, zero, suc, Bool, true, false, List, [], ◌∷◌, ◌++◌, map, flat_map, take, Option, Some, None, refl, ◌∙◌, sym, ap, subst, append-nil, add-one, if◌then◌else◌}
 use Rattle.std.specs.Prelude.{option_map, option_to_list, unwrap_or, length}
+use Rattle.std.proofs.lemmas.Grind.{flat_map-append}
+use Rattle.std.proofs.lemmas.List.{map-append}
 use Rattle.std.specs.FinMap as files_at
 use Rattle.bd_model.specs.Chunks.{chunks}
 use Rattle.bd_model.specs.FileMap.{FileMap}
@@ -12,6 +14,7 @@ use Rattle.bd_model.specs.declared.shape.Shape.{Shape}
 use Rattle.bd_model.specs.declared.answer.Answer.{Answer}
 use Rattle.bd_model.specs.declared.command.Command.{Command}
 use Rattle.bd_model.specs.declared.command.Command.TheVariants.{Backup, Restore, Expire, Reorganise, Scrub, List as Listing}
+use Rattle.bd_model.proofs.GivenLemmas.{joined}
 use Rattle.bd_model.proofs.NeedLemmas.{Near-from_Distinct}
 use Rattle.bd_store.specs.Steps.{task, versions_with, is_full, IsNear}
 use Rattle.mfdedup.specs.Built.{is_built}
@@ -30,20 +33,12 @@ tried_one command answers = rw add-one (ap (λ l. command ∷ l) (take-nil (leng
 abbrev stream_of : Version → List ℕ
 stream_of v = v.stream
 
-module _ (f : List ℕ → List (List ℕ)) where
-  flat-map : (xs : List (List ℕ)) → flat_map (λ v. v) (map f xs) ≡ flat_map f xs
-  flat-map [] = refl
-  flat-map (x ∷ xs) = ap (λ l. f x ++ l) (flat-map xs)
-
-  flat-both : (xs ys : List Version) → flat_map f (map stream_of (xs ++ ys)) ≡ flat_map f (map stream_of xs) ++ flat_map f (map stream_of ys)
-  flat-both [] ys = refl
-  flat-both (x ∷ xs) ys = ap (λ l. f x.stream ++ l) (flat-both xs ys) ∙ sym (append_assoc (f x.stream) (flat_map f (map stream_of xs)) (flat_map f (map stream_of ys)))
-
-  flat-read : (full : Bool) (source : Option (List ℕ)) →
-      flat_map f (map stream_of (if full then [] else map (λ bytes. record { stream = bytes }) (option_to_list source))) ≡ (if full then [] else unwrap_or (option_map f source) [])
-  flat-read true source = refl
-  flat-read false None = refl
-  flat-read false (Some bytes) = append-nil (f bytes)
+-- the chunks that a backup reads
+flat-read : (f : List ℕ → List (List ℕ)) (full : Bool) (source : Option (List ℕ)) →
+    flat_map f (map stream_of (if full then [] else map (λ bytes. record { stream = bytes }) (option_to_list source))) ≡ (if full then [] else unwrap_or (option_map f source) [])
+flat-read f true source = refl
+flat-read f false None = refl
+flat-read f false (Some bytes) = append-nil (f bytes)
 
 none-left : (r : Option Outcome) → (elim r as (λ _. List (List ℕ)) [ None ↦ [] | Some o ↦ [] ]) ≡ []
 none-left None = refl
@@ -54,15 +49,17 @@ backup-given : (shape : Shape) (st : VersionState) (files : FileMap) (name : Lis
     flat_map (λ v. v) (history shape (versions_with (task shape 0 st files (Backup name)) (Backup name))).versions ≡ given shape st files (unheld (Backup name ∷ []))
 backup-given shape st files name =
     let f = chunks (cut_of shape) in
-    flat-map f _ ∙ flat-both f st.versions _
+    joined shape (versions_with (task shape 0 st files (Backup name)) (Backup name)).versions
+    ∙ ap (flat_map f) (map-append stream_of st.versions _)
+    ∙ flat_map-append f (streams st) _
     ∙ ap (λ l. flat_map f (streams st) ++ l) (flat-read f (is_full (task shape 0 st files (Backup name))) (files_at.get files name) ∙ sym (append-nil _) ∙ ap (λ l. chunks_read shape st files (Backup name) ++ l) (sym (none-left (step shape 0 st files (Backup name)))))
 
 pub near_one : (shape : Shape) (st : VersionState) (files : FileMap) (command : Command) → is_built command ≡ true → Distinct (given shape st files (unheld (command ∷ []))) → IsNear (task shape 0 st files command)
 near_one shape st files (Backup name) built apart = Near-from_Distinct (history shape (versions_with (task shape 0 st files (Backup name)) (Backup name))) (subst Distinct (sym (backup-given shape st files name)) apart)
-near_one shape st files Listing built apart = Near-from_Distinct (history shape st) (subst Distinct (append-nil (flat_map (chunks (cut_of shape)) (streams st)) ∙ sym (flat-map (chunks (cut_of shape)) (streams st))) apart)
+near_one shape st files Listing built apart = Near-from_Distinct (history shape st) (subst Distinct (append-nil (flat_map (chunks (cut_of shape)) (streams st)) ∙ sym (joined shape st.versions)) apart)
 near_one shape st files (Restore v name) built apart =
     let none = none-left (step shape 0 st files (Restore v name)) in
-    Near-from_Distinct (history shape st) (subst Distinct (ap (λ l. flat_map (chunks (cut_of shape)) (streams st) ++ l) none ∙ append-nil (flat_map (chunks (cut_of shape)) (streams st)) ∙ sym (flat-map (chunks (cut_of shape)) (streams st))) apart)
+    Near-from_Distinct (history shape st) (subst Distinct (ap (λ l. flat_map (chunks (cut_of shape)) (streams st) ++ l) none ∙ append-nil (flat_map (chunks (cut_of shape)) (streams st)) ∙ sym (joined shape st.versions)) apart)
 near_one shape st files Expire built apart = absurd (cc built)
 near_one shape st files Reorganise built apart = absurd (cc built)
 near_one shape st files Scrub built apart = absurd (cc built)
