@@ -10,7 +10,7 @@ use Rattle.bd_disk.specs.Looks.{Looks, LooksOnlyAt}
 use Rattle.bd_disk.specs.Trace.{shown, upward, places_of, reads, ReadsOnly}
 use Rattle.bd_disk.specs.declared.touch.Touch.TheVariants.{Read, Write, Sync}
 use Rattle.bd_disk.proofs.Frames.{made_done, made_fails, made_wider, idle_kind}
-use Rattle.bd_disk.proofs.Traces.{part, reads_on}
+use Rattle.bd_disk.proofs.Traces.{read_going_on, reads_on}
 
 call_wider : (Places Wider : ℕ → Type 0) → ((place : ℕ) → Places place → Wider place) → (call : Call) → Looks Places call → Looks Wider call
 call_wider Places Wider sub (Put at bytes) looks = tt
@@ -47,16 +47,16 @@ all-both : (P : ℕ → Type 0) (xs ys : List ℕ) → AllByRecursion P xs → A
 all-both P [] ys f g = g
 all-both P (x ∷ xs) ys f g = (f.0, all-both P xs ys f.1 g)
 
-all-part : (P : ℕ → Type 0) (h : History) (calls : List Call) → AllByRecursion (Looks P) calls → AllByRecursion P (part h calls)
-unfolding part
-all-part P h [] all = tt
-all-part P h (call ∷ calls) all = all-both P (part h calls) (places_of (shown call)) (all-part P h calls all.1) (all-places P call all.0)
+all-going_on : (P : ℕ → Type 0) (calls : List Call) → AllByRecursion (Looks P) calls → AllByRecursion P (read_going_on calls)
+unfolding read_going_on
+all-going_on P [] all = tt
+all-going_on P (call ∷ calls) all = all-both P (read_going_on calls) (places_of (shown call)) (all-going_on P calls all.1) (all-places P call all.0)
 
 -- what a run reads lies where it looks
 pub reads_within : {Places : ℕ → Type 0} {places : List ℕ} {a b : History} → LooksOnlyAt Places a b → ReadsOnly places a b → AllByRecursion Places places
 reads_within {Places} {places} {a} {b} f g =
-    let same : part a f.calls ≡ places = append_cancel_left (reads a) _ _ (sym (reads_on a f.calls) ∙ ap reads (sym f.so) ∙ g.so) in
-    subst (AllByRecursion Places) same (all-part Places a f.calls f.each)
+    let same : read_going_on f.calls ≡ places = append_cancel_left (reads a) _ _ (sym (reads_on a f.calls) ∙ ap reads (sym f.so) ∙ g.so) in
+    subst (AllByRecursion Places) same (all-going_on Places f.calls f.each)
 
 -- ---- back from what was read
 
@@ -85,13 +85,13 @@ all-last : (P : ℕ → Type 0) (xs ys : List ℕ) → AllByRecursion P (xs ++ y
 all-last P [] ys all = all
 all-last P (x ∷ xs) ys all = all-last P xs ys all.1
 
-from-part : (P : ℕ → Type 0) (h : History) (calls : List Call) → AllByRecursion P (part h calls) → AllByRecursion (Looks P) calls
-unfolding part
-from-part P h [] all = tt
-from-part P h (call ∷ calls) all = (from-places P call (all-last P (part h calls) (places_of (shown call)) all), from-part P h calls (all-first P (part h calls) (places_of (shown call)) all))
+from-going_on : (P : ℕ → Type 0) (calls : List Call) → AllByRecursion P (read_going_on calls) → AllByRecursion (Looks P) calls
+unfolding read_going_on
+from-going_on P [] all = tt
+from-going_on P (call ∷ calls) all = (from-places P call (all-last P (read_going_on calls) (places_of (shown call)) all), from-going_on P calls (all-first P (read_going_on calls) (places_of (shown call)) all))
 
 -- a run looks where the places lie that it reads
 pub looks_from : (Places : ℕ → Type 0) {places : List ℕ} {a b : History} → AllByRecursion Places places → ReadsOnly places a b → LooksOnlyAt Places a b
 looks_from Places {places} {a} {b} all f =
-    let same : part a f.made.calls ≡ places = append_cancel_left (reads a) _ _ (sym (reads_on a f.made.calls) ∙ ap reads (sym f.made.so) ∙ f.so) in
-    record { calls = f.made.calls; so = f.made.so; each = from-part Places a f.made.calls (subst (AllByRecursion Places) (sym same) all) }
+    let same : read_going_on f.made.calls ≡ places = append_cancel_left (reads a) _ _ (sym (reads_on a f.made.calls) ∙ ap reads (sym f.made.so) ∙ f.so) in
+    record { calls = f.made.calls; so = f.made.so; each = from-going_on Places f.made.calls (subst (AllByRecursion Places) (sym same) all) }

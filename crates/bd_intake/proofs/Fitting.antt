@@ -39,8 +39,8 @@ pub record VersionFacts (s : Sizes) (e : VersionEntry) : Type 0 where
   pub most : s.max * e.chunks < 2 ^ 64
   pub entries : 40 * e.chunks < 2 ^ 64
 
-version_is : (s : Sizes) (e : VersionEntry) → VersionFacts s e → version_holds s e ≡ true
-version_is s e f =
+version-holds : (s : Sizes) (e : VersionEntry) → VersionFacts s e → version_holds s e ≡ true
+version-holds s e f =
     let one = nat_le e.fresh e.chunks in
     let two = nat_le e.chunks e.length in
     let three = nat_le e.length (s.max * e.chunks) in
@@ -149,7 +149,7 @@ module _ (s : Sizes) (retain : 1 ≤ s.retain) (base : ℕ) (number : base < 429
       (and_from (numbers && true && versions) true
       (and_from (numbers && true) versions
       (and_from numbers true numbers_are refl)
-      (and_from (version_holds s entry) true (version_is s entry version) refl))
+      (and_from (version_holds s entry) true (version-holds s entry version) refl))
       refl)
       actives_are)
       refl)

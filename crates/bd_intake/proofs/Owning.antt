@@ -1,5 +1,5 @@
 -- What is taken of a space, one extent after the other.
-use Rattle.std.proofs.Common.{◌≡◌, ℕ, ◌<◌, List, [], ◌++◌, length, refl, sym, ◌∙◌, ap, subst, arith, append_assoc, length-append, nat_eq, ⊎_elim, Some}
+use Rattle.std.proofs.Common.{◌≡◌, ℕ, ◌<◌, List, [], ◌++◌, length, refl, sym, ◌∙◌, ap, subst, arith, append_assoc, length-append, nat_eq, Some}
 use Rattle.std.specs.Prelude.{All, Contains, IsPermutation, slice_get}
 use Rattle.std.specs.List.{IsDistinct}
 use Rattle.std.proofs.lemmas.List.{append-nil}
@@ -8,11 +8,12 @@ use Rattle.std.proofs.lemmas.List.Sorted.{IsPermutation-append_comm, IsPermutati
 use Rattle.std.proofs.lemmas.Map.Made.{AllPairs-from_IsDistinct}
 use Rattle.std.proofs.lemmas.Bool.Decides.{Decides-eqb}
 use Rattle.std.proofs.lemmas.Option.{slice_get_within}
-use Rattle.bd_space.specs.declared.space.Use.TheVariants.{Free, Taken}
+use Rattle.bd_space.specs.declared.space.Use.TheVariants.{Taken}
 use Rattle.bd_space.specs.Allotment.{Allotment, extent_count, IsFree, IsTaken, TakenExactly}
 use Rattle.bd_space.proofs.Distinct.{distinct_left, distinct_right, distinct_apart}
 use Rattle.bd_space.proofs.Exact.{TakenExactly-append, TakenExactly-permutation}
-use Rattle.bd_space.proofs.Numbers.{Contains_decided}
+use Rattle.bd_space.proofs.Kept.{still_free}
+use Rattle.bd_space.proofs.Marked.{IsMarked}
 use Rattle.bd_model.specs.Sizes.{Sizes}
 use Rattle.bd_intake.specs.Places.{AreApart}
 use Rattle.bd_intake.specs.Spaces.{Adds, Owns}
@@ -29,17 +30,6 @@ adds_none space xs = record {
   held = refl;
 }
 
-taken≢free : Some Taken ≡ Some Free → ⊥
-taken≢free e = cc
-
--- what is free after some numbers were taken was free before
-still_free : (old new : Allotment) (before after : List ℕ) → Adds old new before after → (n : ℕ) → IsFree new n → IsFree old n
-still_free old new before after adds n free =
-    ⊎_elim
-    (λ within. absurd (taken≢free (sym (All-contains (IsTaken new) adds.added n adds.marked.marked within) ∙ free)))
-    (λ without. sym (adds.marked.others n without) ∙ free)
-    (Contains_decided adds.added n)
-
 -- two lists in the other order
 turned : (base one other : List ℕ) → IsPermutation (base ++ one ++ other) (base ++ other ++ one)
 turned base one other =
@@ -51,12 +41,13 @@ module _ (base : List ℕ) (first old new : Allotment) (recipe fresh : List ℕ)
   pub owns_fresh : (after : List ℕ) → Adds old new fresh after → Owns base first new recipe after
   owns_fresh after adds =
       let were : All (IsFree first) adds.added = All-weaker (IsFree old) (IsFree first) owns.still adds.added adds.were_free in
+      let marked : IsMarked adds.added Taken old.uses new.uses = record { size = adds.marked.size; marked = adds.marked.marked; others = adds.marked.others } in
       record {
         exact = subst (TakenExactly new) (append_assoc (base ++ recipe) fresh adds.added ∙ ap (λ xs. base ++ recipe ++ xs) (sym adds.so))
             (TakenExactly-append old new (base ++ recipe ++ fresh) adds.added owns.exact adds.were_free adds.once adds.marked);
         were_free = subst (All (IsFree first)) (append_assoc recipe fresh adds.added ∙ ap (λ xs. recipe ++ xs) (sym adds.so))
             (All-append (IsFree first) (recipe ++ fresh) adds.added owns.were_free were);
-        still = λ n free. owns.still n (still_free old new fresh after adds n free);
+        still = λ n free. owns.still n (still_free adds.added old.uses new.uses n marked free).1;
         size = adds.marked.size ∙ owns.size;
         counted = omega (arith, owns.counted, adds.counted, ap length adds.so, length-append fresh adds.added);
         held = adds.held ∙ owns.held;

@@ -46,12 +46,12 @@ unfolding opened
 too_short image less = let short : nat_lt (length image) 64 ≡ true = lt-ltb (length image) 64 less in rw short refl
 
 -- a part of the first 64 bytes
-part : (k n : ℕ) (image : List ℕ) → k + n ≤ 64 → bytes_at k n (bytes_at 0 64 image) ≡ bytes_at k n image
-part k n image fits = sym (sub_bytes 0 64 k n image fits) ∙ ap (λ at. bytes_at at n image) (zero-add k)
+first_bytes : (k n : ℕ) (image : List ℕ) → k + n ≤ 64 → bytes_at k n (bytes_at 0 64 image) ≡ bytes_at k n image
+first_bytes k n image fits = sym (sub_bytes 0 64 k n image fits) ∙ ap (λ at. bytes_at at n image) (zero-add k)
 
 pub same_sizes : (image : List ℕ) → sizes_at (bytes_at 0 64 image) ≡ sizes_at image
 same_sizes image =
-    let number : (k : ℕ) → k + 4 ≤ 64 → four_at (bytes_at 0 64 image) k ≡ four_at image k = λ k fits. ap (from_be_bytes w32) (part k 4 image fits) in
+    let number : (k : ℕ) → k + 4 ≤ 64 → four_at (bytes_at 0 64 image) k ≡ four_at image k = λ k fits. ap (from_be_bytes w32) (first_bytes k 4 image fits) in
     λ i. record {
       extent = number 12 (omega arith) i;
       extents = number 16 (omega arith) i;
@@ -64,9 +64,9 @@ same_sizes image =
 same_fault : (image : List ℕ) → superblock_fault (bytes_at 0 64 image) ≡ superblock_fault image
 same_fault image =
     let gate : byte_at (bytes_at 0 64 image) 0 ≡ byte_at image 0 = get_or-bytes_at 0 64 image 0 (omega arith) in
-    let text : bytes_at 1 7 (bytes_at 0 64 image) ≡ bytes_at 1 7 image = part 1 7 image (omega arith) in
-    let number : four_at (bytes_at 0 64 image) 8 ≡ four_at image 8 = ap (from_be_bytes w32) (part 8 4 image (omega arith)) in
-    let padding : bytes_at 36 28 (bytes_at 0 64 image) ≡ bytes_at 36 28 image = part 36 28 image (omega arith) in
+    let text : bytes_at 1 7 (bytes_at 0 64 image) ≡ bytes_at 1 7 image = first_bytes 1 7 image (omega arith) in
+    let number : four_at (bytes_at 0 64 image) 8 ≡ four_at image 8 = ap (from_be_bytes w32) (first_bytes 8 4 image (omega arith)) in
+    let padding : bytes_at 36 28 (bytes_at 0 64 image) ≡ bytes_at 36 28 image = first_bytes 36 28 image (omega arith) in
     λ i. first_failing (gate i == open_gate) (bytes_eq (text i) magic) (number i == 1) (is_shape (same_sizes image i)) (bytes_eq (padding i) (replicate 28 0))
 
 module _ (image bytes : List ℕ) (long : 64 ≤ length image) (read : bytes ≡ bytes_at 0 64 image) where

@@ -60,7 +60,7 @@ taken≢free : Some Taken ≢ Some Free
 taken≢free e = cc
 
 -- a number that is free after others were taken is none of them, and was free
-still_free : (ns : List ℕ) (us vs : List Use) (n : ℕ) → IsMarked ns Taken us vs → slice_get vs n ≡ Some Free
+pub still_free : (ns : List ℕ) (us vs : List Use) (n : ℕ) → IsMarked ns Taken us vs → slice_get vs n ≡ Some Free
     → (Contains ns n → ⊥) × (slice_get us n ≡ Some Free)
 still_free ns us vs n m now =
     let apart : Contains ns n → ⊥ = λ c. taken≢free (sym (All-contains (λ k. slice_get vs k ≡ Some Taken) ns n m.marked c) ∙ now) in

@@ -10,7 +10,7 @@ use Rattle.std.proofs.lemmas.List.Elements.{All-nil, All-cons}
 use Rattle.std.specs.FinMap as files_at
 use Rattle.bd_disk.proofs.Frames.{goes_on, later, leaves_quiet, made_both, nothing_within, since_either, still_now, unchanged}
 use Rattle.bd_disk.proofs.Looking.{reads_within}
-use Rattle.bd_disk.proofs.Traces.{part, reads_on, reads_of_run, reads_still}
+use Rattle.bd_disk.proofs.Traces.{read_going_on, reads_on, reads_of_run, reads_still}
 use Rattle.bd_model.specs.FileMap.{FileMap}
 use Rattle.bd_model.specs.State.{VersionState}
 use Rattle.bd_model.specs.Sizes.{sizes_of, extent_place}
@@ -49,14 +49,14 @@ opens_first {shape} {st} {a} {b} {c} found honest opens quiet looks made = recor
   same : sizes_at (contents a) ≡ sizes_of shape
   same = sym (opened-found (contents a) found opens).sizes ∙ (stands-shows honest.stands.so opens).sizes
 
-  reads : ReadsOnly (part a looks.calls) a b
+  reads : ReadsOnly (read_going_on looks.calls) a b
   reads = record { made = goes_on quiet; so = ap reads_in looks.so ∙ reads_on a looks.calls }
 
-  run : reads_between c (clock a) (clock b) ≡ part a looks.calls
+  run : reads_between c (clock a) (clock b) ≡ read_going_on looks.calls
   run = reads_still (clock a) (clock b) (omega arith) made ∙ reads_of_run reads
 
-  within : AllByRecursion (λ place. place < extent_place (sizes_of shape) 0) (part a looks.calls)
-  within = subst (λ s. AllByRecursion (λ place. place < extent_place s 0) (part a looks.calls)) same (reads_within looks reads)
+  within : AllByRecursion (λ place. place < extent_place (sizes_of shape) 0) (read_going_on looks.calls)
+  within = subst (λ s. AllByRecursion (λ place. place < extent_place s 0) (read_going_on looks.calls)) same (reads_within looks reads)
 
 -- the commands met the headline from where the opening ended, and so they do from where it began
 pub after_opening : (shape : Shape) (st : VersionState) (begun : ℕ) (c : Course) (a : History) → WritesNothing a c.disk_before → WritesOnly (λ place. 64 ≤ place) c.disk_before c.disk_after → IsHonest shape st a →
