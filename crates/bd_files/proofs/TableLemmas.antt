@@ -1,5 +1,5 @@
--- What the entries of a map from names to bytes say of the files, and a write over a part of a slice.
-use Rattle.std.proofs.Common.{◌≡◌, ℕ, zero, suc, ◌+◌, ◌≤◌, Bool, true, false, cond, T, List, [], ◌∷◌, length, refl, sym, ap, subst, ◌∙◌, arith, map as each, Some, None, IsSome, is_some, Vec}
+-- What the entries of a map from names to bytes say of the files.
+use Rattle.std.proofs.Common.{◌≡◌, ℕ, Bool, true, false, cond, T, List, [], ◌∷◌, refl, sym, ap, subst, ◌∙◌, map as each, Some, None, IsSome, is_some, Vec}
 use Rattle.std.specs.declared.cmp.Ordering.{Ordering}
 use Rattle.std.specs.declared.cmp.Ordering.TheVariants.{Less, Equal, Greater}
 use Rattle.std.specs.Ordering.{nat_cmp, is_eq, eq_by_cmp, match_ordering}
@@ -10,22 +10,10 @@ use Rattle.std.specs.FinMap as map
 use Rattle.std.specs.FinMap.{find, get-from_entries, get-insert, same_map, nat_cmp-IsAntisymmetric, slice_cmp-IsAntisymmetric}
 use Rattle.std.specs.Map.{lookup, set_value}
 use Rattle.std.specs.BTreeMap.{insert_entry}
-use Rattle.bd_disk.specs.Images.{overwritten}
 use Rattle.bd_model.specs.FileMap.{FileMap}
 use Rattle.bd_files.specs.Files.{Holds}
 use Rattle.bd_files.specs.Table.{file_map}
 use Rattle.bd_files.proofs.FileLemmas.{held_once, only_equal_names_tie}
-use borrow.Rule.Slice.PartMut.{put_mid}
-
--- a write into a part of a slice
-pub put_is_overwritten : (xs : List ℕ) (at : ℕ) (ys : List ℕ) → at + length ys ≤ length xs → put_mid at (length ys) xs ys ≡ overwritten xs at ys
-unfolding overwritten
-put_is_overwritten [] zero [] fits = refl
-put_is_overwritten [] zero (y ∷ ys) fits = absurd (omega arith)
-put_is_overwritten [] (suc at) ys fits = absurd (omega arith)
-put_is_overwritten (x ∷ xs) zero [] fits = refl
-put_is_overwritten (x ∷ xs) zero (y ∷ ys) fits = ap (λ (l : List ℕ). y ∷ l) (put_is_overwritten xs zero ys (omega arith))
-put_is_overwritten (x ∷ xs) (suc at) ys fits = ap (λ (l : List ℕ). x ∷ l) (put_is_overwritten xs at ys (omega arith))
 
 -- ---- choices
 

@@ -1,6 +1,6 @@
 use Rattle.std.proofs.Common.{◌≡◌, ◌+◌, ◌-◌, length, ◌∙◌, ap, arith}
 use borrow.Rule.Slice.PartMut.{put_mid}
-use Rattle.bd_files.proofs.TableLemmas.{put_is_overwritten}
+use Rattle.bd_disk.proofs.Logs.{put_overwritten}
 use Rattle.bd_files.proofs.table.overwrite.Goals as goal
 
 pub returns : goal.returns
@@ -9,4 +9,4 @@ returns c =
     let same : c.copy_from_slice.new.self ≡ c.args.from.now = c.copy_from_slice.ensures.after in
     ap (λ k. put_mid c.args.at k c.args.into.now c.copy_from_slice.new.self) n
     ∙ ap (put_mid c.args.at (length c.args.from.now) c.args.into.now) same
-    ∙ put_is_overwritten c.args.into.now c.args.at c.args.from.now c.requires
+    ∙ put_overwritten c.args.into.now c.args.at c.args.from.now c.requires
