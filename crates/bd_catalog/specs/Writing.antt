@@ -4,7 +4,7 @@ use Rattle.bd_model.specs.Records.{four}
 use Rattle.bd_catalog.specs.Catalogue.{Catalogue}
 use Rattle.bd_catalog.specs.Spelling.{spelled_phase}
 
--- the bytes stand from place `at` on, and all else is as it was
+-- the bytes stand from place `at` on, and all else is as it was; the buffer grows by those past its end, which `overwritten` leaves out
 abbrev pub put_at : List ℕ → ℕ → List ℕ → List ℕ
 put_at buffer at bytes = take at buffer ++ bytes ++ drop (at + length bytes) buffer
 
