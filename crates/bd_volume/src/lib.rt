@@ -1,0 +1,8 @@
+//! Closed volumes and open categories: their rows, and which of these a restore walks over.
+#![tactic(auto)]
+
+mod piece;
+mod walk;
+
+pub use piece::{Piece, Pieces};
+pub use walk::front;
