@@ -1,9 +1,9 @@
--- The row that a piece names.
+-- The row that a piece names, and the piece that names a row.
 use Rattle.std.specs.Prelude.{ℕ, ◌-◌, List}
 use Rattle.bd_model.specs.declared.damage.Owner.{Owner}
 use Rattle.bd_model.specs.declared.damage.Owner.TheVariants.{Volume, Active}
 use Rattle.bd_catalog.specs.Catalogue.{Catalogue, active_extents, volume_extents}
-use Rattle.bd_catalog.specs.Rows.{RowPlace, row_place}
+use Rattle.bd_catalog.specs.Rows.{RowPlace, row_end, row_place}
 use Rattle.bd_volume.specs.declared.piece.Piece.{Piece}
 
 -- an owner's extents: of a closed volume those of its number, of an open category those of its start
@@ -14,3 +14,7 @@ extents_of c (Active start) = active_extents c start
 -- the row that a piece names, with its owner's extents
 abbrev pub place_of : Catalogue → Piece → RowPlace
 place_of c p = row_place p.who (extents_of c p.who) p.from (record { start = p.start; chunks = p.chunks; bytes = p.to - p.from })
+
+-- the piece that names a row
+abbrev pub piece_at : RowPlace → Piece
+piece_at p = record { who = p.who; start = p.row.start; from = p.from; to = row_end p; chunks = p.row.chunks }
