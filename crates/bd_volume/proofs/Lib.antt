@@ -1,2 +1,3 @@
-pub mod RowLists
+pub mod Held
 pub mod Naming
+pub mod RowLists
