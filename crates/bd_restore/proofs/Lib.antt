@@ -9,13 +9,10 @@ mod Reading
 mod Seeing
 mod Splits
 pub mod Standing
-pub mod StandingChunks
 pub mod StandingContent
 pub mod StandingEntries
 pub mod StandingLean
 pub mod StandingReads
-pub mod StandingRecords
 pub mod StandingRows
 pub mod StandingWalk
-mod WalkRecords
 mod Walking

@@ -32,12 +32,12 @@ use Rattle.bd_catalog.proofs.StandingFound.{Obeys, numbers-each, obeys-each, ope
 use Rattle.bd_recipe.specs.Reading.{recipe_found, recipe_places, total}
 use Rattle.bd_restore.specs.Met.{IsWhole}
 use Rattle.bd_restore.specs.Walk.{joined, walk_reads}
-use Rattle.bd_restore.proofs.StandingChunks.{EachOnce, times}
+use Rattle.bd_volume.proofs.ChunkCounts.{EachOnce, times}
 use Rattle.bd_restore.proofs.StandingContent.{all_wanted, recipe_joined, recipe_stored}
 use Rattle.bd_restore.proofs.StandingEntries.{chunks-stand, recipe-found, total-recipe, version-bounded, version-joined}
 use Rattle.bd_restore.proofs.StandingLean.{found_once, is_lean, open_all_used}
 use Rattle.bd_restore.proofs.StandingReads.{AreWanted, wanted-reads}
-use Rattle.bd_restore.proofs.StandingRecords.{stored_of}
+use Rattle.bd_volume.proofs.StoredChunks.{stored_of}
 use Rattle.bd_restore.proofs.StandingWalk.{parts_hold, reads_are, records_are, walked_are}
 
 -- one version waits for nothing

@@ -13,9 +13,9 @@ use Rattle.bd_model.proofs.ChunkListLemmas.{bytes_eq-refl, contains-append}
 use Rattle.bd_model.proofs.NeedLemmas.{TellsApart, has_mark-map}
 use Rattle.bd_catalog.specs.Sound.{is_stored, first_body, with_mark}
 use Rattle.bd_restore.specs.Walk.{joined, is_found, is_wanted}
-use Rattle.bd_restore.proofs.StandingChunks.{EachOnce, times, times-append, times-cons, contains-times}
+use Rattle.bd_volume.proofs.ChunkCounts.{EachOnce, times, times-append, times-cons, contains-times}
 use Rattle.bd_restore.proofs.StandingReads.{AreWanted}
-use Rattle.bd_restore.proofs.StandingRecords.{stored_of, with_mark-stored, contains_first, contains_later}
+use Rattle.bd_volume.proofs.StoredChunks.{stored_of, with_mark-stored, contains_first, contains_later}
 
 -- chunks each of which is there once
 module _ (h : History) (v : ℕ) (ws : List (List ℕ)) (once : EachOnce (version h v) ws) (apart : (c : List ℕ) → contains (version h v) c ≡ true → TellsApart c (version h v)) where

@@ -30,7 +30,7 @@ use Rattle.bd_recipe.specs.Laws.{FitsEntry}
 use Rattle.bd_recipe.proofs.Entries.{first_bad-none}
 use Rattle.bd_recipe.proofs.ReadingBack.{entries-begin}
 use Rattle.bd_model.proofs.RecordLemmas.{length-mark}
-use Rattle.bd_restore.proofs.StandingRecords.{Bounded, contains_first, contains_later}
+use Rattle.bd_volume.proofs.StoredChunks.{Bounded, contains_first, contains_later}
 
 -- ---- entries
 

@@ -16,7 +16,7 @@ use Rattle.bd_model.proofs.ListLemmas.{filter-all, flat_map-numbers}
 use Rattle.bd_model.proofs.PlaceLemmas.{a_version_uses_a_front}
 use Rattle.bd_model.proofs.WholeLemmas.{a_restore_finds_each_chunk_once}
 use Rattle.bd_catalog.specs.Walks.{IsLean, bodies_read, front, is_used}
-use Rattle.bd_restore.proofs.StandingChunks.{EachOnce, times, same_times, times-distinct}
+use Rattle.bd_volume.proofs.ChunkCounts.{EachOnce, times, same_times, times-distinct}
 
 -- a list of which all is used
 pub used_all : (p : List ℕ → Bool) (cs : List (List ℕ)) → ((c : List ℕ) → contains cs c ≡ true → p c ≡ true) → filter p cs ≡ cs

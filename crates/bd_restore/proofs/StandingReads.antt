@@ -9,7 +9,7 @@ use Rattle.bd_model.specs.declared.layout.RecipeEntry.{RecipeEntry}
 use Rattle.bd_catalog.specs.Rows.{Spot, records_at, spots_from}
 use Rattle.bd_catalog.specs.Walks.{record_reads}
 use Rattle.bd_restore.specs.Walk.{is_wanted, walk_reads}
-use Rattle.bd_restore.proofs.StandingRecords.{Bounded, stored_of, contains_first, contains_later, chunk-read, behind_chunk, small_first, bounded_later}
+use Rattle.bd_volume.proofs.StoredChunks.{Bounded, stored_of, contains_first, contains_later, chunk-read, behind_chunk, small_first, bounded_later}
 
 -- headers and bodies of all
 abbrev pub all_reads : Sizes → List Spot → List ℕ

@@ -19,9 +19,9 @@ use Rattle.bd_catalog.specs.Sound.{Part, part_holds, part_records}
 use Rattle.bd_catalog.specs.Standing.{HasActives}
 use Rattle.bd_catalog.specs.Walks.{is_used, record_reads}
 use Rattle.bd_restore.proofs.StandingReads.{all_reads, chunks-read}
-use Rattle.bd_restore.proofs.StandingRecords.{Bounded, stored_of, stored-records, part_stands}
+use Rattle.bd_volume.proofs.StoredChunks.{Bounded, stored_of, stored-records, part_stands}
 use Rattle.bd_restore.proofs.StandingRows.{IsOpen, each_open}
-use Rattle.bd_restore.proofs.WalkRecords.{spots_stored}
+use Rattle.bd_volume.proofs.WalkRecords.{spots_stored}
 
 module _ (s : Sizes) (short : s.max ≤ 65536) (h : History) (c : Catalogue) (image : List ℕ) (actives : HasActives s h Settled c image) (bounded : Bounded s (version h (newest h))) where
   abbrev v : ℕ

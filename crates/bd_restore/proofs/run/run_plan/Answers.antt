@@ -16,7 +16,7 @@ use Rattle.bd_restore.specs.Walk.{joined, walk_reads, AreFlags, AreGiven}
 use Rattle.bd_restore.proofs.Finishing.{ok_of, flags_none, given_none, target_begun, all_given, all_marked, only_put}
 use Rattle.bd_restore.proofs.Joining.{damaged_by}
 use Rattle.bd_restore.proofs.Seeing.{met_needed, met_part, met_seen, met_whole, missing_seen, missing_whole}
-use Rattle.bd_restore.proofs.WalkRecords.{walk_records}
+use Rattle.bd_volume.proofs.WalkRecords.{walk_records}
 use Rattle.bd_restore.proofs.run.run_plan.Goals as goal
 
 pub run_walk-requires-clause-there : goal.run_walk-requires-clause-there

@@ -17,7 +17,7 @@ use Rattle.bd_model.proofs.NeedLemmas.{TellsApart, bytes_eq-mark}
 use Rattle.bd_category.proofs.ReadingBack.{length-read, rest-read, stored-read}
 use Rattle.bd_catalog.specs.Sound.{Part, part_holds, part_records, stored_holds, with_mark}
 use Rattle.bd_model.proofs.RecordLemmas.{length-mark}
-use Rattle.bd_restore.proofs.StandingChunks.{times, times-cons}
+use Rattle.bd_volume.proofs.ChunkCounts.{times, times-cons}
 
 -- a chunk as a record that is read
 abbrev pub stored_of : List ℕ → Stored

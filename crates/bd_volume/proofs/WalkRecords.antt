@@ -13,7 +13,7 @@ use Rattle.bd_model.specs.declared.layout.CategoryRow.{CategoryRow}
 use Rattle.bd_catalog.specs.Catalogue.{Catalogue, OpenEntry, volume_extents}
 use Rattle.bd_catalog.specs.Rows.{RowPlace, Spot, open_row, records_at, row_bytes, row_spots, rows_from, rows_in, spots_from, spots_in, volume_rows, walk}
 use Rattle.bd_catalog.specs.Sound.{Part, active_parts, part_records, parts_for, parts_of, records_for, volume_parts}
-use Rattle.bd_restore.proofs.Splits.{filter_mapped, joined_same, map_joined}
+use Rattle.bd_volume.proofs.MappedLists.{filter_mapped, joined_same, map_joined}
 
 pub spots_stored : (extents bytes : List ℕ) (n at : ℕ) → records_at (spots_from extents bytes n at) ≡ stored_in n (drop at bytes)
 spots_stored extents bytes zero at = refl
