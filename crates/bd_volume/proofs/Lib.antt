@@ -1,5 +1,7 @@
 pub mod ChunkCounts
 pub mod Held
+pub mod HeldRows
+pub mod HeldWalk
 pub mod MappedLists
 pub mod Naming
 pub mod RowLists

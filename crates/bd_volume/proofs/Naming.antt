@@ -33,7 +33,7 @@ owned-append : (c : Catalogue) (xs ys : List RowPlace) → AreOwned c xs → Are
 owned-append c [] ys first rest = rest
 owned-append c (x ∷ xs) ys first rest = (first.0, owned-append c xs ys first.1 rest)
 
-owned-begun : (c : Catalogue) (v : ℕ) (xs : List RowPlace) → AreOwned c xs → AreOwned c (begun_by v xs)
+pub owned-begun : (c : Catalogue) (v : ℕ) (xs : List RowPlace) → AreOwned c xs → AreOwned c (begun_by v xs)
 owned-begun c v [] owned = tt
 owned-begun c v (x ∷ xs) owned =
     elim (nat_le x.row.start v) as (λ t. AreOwned c (cond t (x ∷ begun_by v xs) (begun_by v xs))) [
