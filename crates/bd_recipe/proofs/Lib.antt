@@ -8,5 +8,6 @@ pub mod Occurring
 pub mod Pieces
 pub mod ReadingBack
 pub mod Spelling
+pub mod Standing
 pub mod Versions
 pub mod Written

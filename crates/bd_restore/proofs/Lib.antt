@@ -10,7 +10,6 @@ mod Seeing
 mod Splits
 pub mod Standing
 pub mod StandingContent
-pub mod StandingEntries
 pub mod StandingLean
 pub mod StandingReads
 pub mod StandingRows

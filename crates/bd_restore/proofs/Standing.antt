@@ -34,7 +34,7 @@ use Rattle.bd_restore.specs.Met.{IsWhole}
 use Rattle.bd_restore.specs.Walk.{joined, walk_reads}
 use Rattle.bd_volume.proofs.ChunkCounts.{EachOnce, times}
 use Rattle.bd_restore.proofs.StandingContent.{all_wanted, recipe_joined, recipe_stored}
-use Rattle.bd_restore.proofs.StandingEntries.{chunks-stand, recipe-found, total-recipe, version-bounded, version-joined}
+use Rattle.bd_recipe.proofs.Standing.{chunks-stand, recipe-found, total-recipe, version-bounded, version-joined}
 use Rattle.bd_restore.proofs.StandingLean.{found_once, is_lean, open_all_used}
 use Rattle.bd_restore.proofs.StandingReads.{AreWanted, wanted-reads}
 use Rattle.bd_volume.proofs.StoredChunks.{stored_of}
