@@ -12,6 +12,4 @@ pub mod Standing
 pub mod StandingContent
 pub mod StandingLean
 pub mod StandingReads
-pub mod StandingRows
-pub mod StandingWalk
 mod Walking

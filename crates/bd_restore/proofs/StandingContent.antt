@@ -1,9 +1,9 @@
--- The records of a version's chunks, each of them once, give its entries what they need.
-use Rattle.std.proofs.Common.{◌≡◌, ℕ, ◌+◌, ◌≤◌, true, false, cond, not, ◌&&◌, List, [], ◌∷◌, ◌++◌, length, map, refl, sym, ◌∙◌, ap, subst, arith, replicate, nat_lt, lt-ltb, eq-eqb, append_assoc}
+-- Records that have each chunk of a version once, and others that marks tell apart, give its entries what they need.
+use Rattle.std.proofs.Common.{◌≡◌, ℕ, true, false, cond, not, ◌&&◌, List, [], ◌∷◌, ◌++◌, length, map, refl, sym, ◌∙◌, ap, subst, arith, replicate, nat_lt, lt-ltb, eq-eqb, append_assoc}
 use Rattle.std.specs.Prelude.{◌==◌}
 use Rattle.std.specs.Str.{bytes_eq}
 use Rattle.std.specs.List.{list_all, flat_map}
-use Rattle.std.proofs.lemmas.Bool.{or_left}
+use Rattle.std.proofs.lemmas.Bool.{or_left, or_right}
 use Rattle.std.proofs.lemmas.List.{map-append}
 use Rattle.bd_model.specs.History.{History, version, contains}
 use Rattle.bd_model.specs.Marks.{mark}
@@ -12,27 +12,25 @@ use Rattle.bd_model.specs.Records.{Stored}
 use Rattle.bd_model.proofs.ChunkListLemmas.{bytes_eq-refl, contains-append}
 use Rattle.bd_model.proofs.NeedLemmas.{TellsApart, has_mark-map}
 use Rattle.bd_catalog.specs.Sound.{is_stored, first_body, with_mark}
-use Rattle.bd_restore.specs.Walk.{joined, is_found, is_wanted}
-use Rattle.bd_volume.proofs.ChunkCounts.{EachOnce, times, times-append, times-cons, contains-times}
-use Rattle.bd_restore.proofs.StandingReads.{AreWanted}
+use Rattle.bd_volume.proofs.ChunkCounts.{times, times-append, times-cons, contains-times}
 use Rattle.bd_volume.proofs.StoredChunks.{stored_of, with_mark-stored, contains_first, contains_later}
+use Rattle.bd_restore.specs.Walk.{joined, is_found, is_wanted}
+use Rattle.bd_restore.proofs.StandingReads.{AreTold}
 
--- chunks each of which is there once
-module _ (h : History) (v : ℕ) (ws : List (List ℕ)) (once : EachOnce (version h v) ws) (apart : (c : List ℕ) → contains (version h v) c ≡ true → TellsApart c (version h v)) where
+-- chunks among which each of the version is once, and which marks tell apart from those of the version
+module _ (h : History) (v : ℕ) (ws : List (List ℕ)) (once : (c : List ℕ) → contains (version h v) c ≡ true → times ws c ≡ 1) (apart : (c : List ℕ) → contains ws c ≡ true → TellsApart c (version h v)) where
   abbrev cs : List (List ℕ)
   cs = version h v
 
-  pub same_chunks : (c : List ℕ) → contains ws c ≡ contains cs c
-  same_chunks c =
-      contains-times ws c ∙ ap (nat_lt 0) (once c)
-      ∙ elim (contains cs c) as (λ t. nat_lt 0 (cond t 1 0) ≡ t) [ true ↦ refl | false ↦ refl ]
+  there : (c : List ℕ) → contains cs c ≡ true → contains ws c ≡ true
+  there c has = contains-times ws c ∙ lt-ltb 0 (times ws c) (omega (arith, once c has))
 
   apart_in : (c : List ℕ) → contains cs c ≡ true → (xs : List (List ℕ)) → ((d : List ℕ) → contains xs d ≡ true → contains ws d ≡ true) → TellsApart c xs
-  apart_in c has xs inside = λ d there same. apart c has d (sym (same_chunks d) ∙ inside d there) same
+  apart_in c has xs inside = λ d in_xs same. sym (apart d (inside d in_xs) c has (sym same))
 
   -- the records with the mark of a chunk are its own one
   own_record : (c : List ℕ) → contains cs c ≡ true → with_mark (mark c) (map stored_of ws) ≡ stored_of c ∷ []
-  own_record c has = with_mark-stored ws c (apart_in c has ws (λ d there. there)) ∙ ap (λ n. replicate n (stored_of c)) (once c ∙ ap (λ t. cond t 1 0) has)
+  own_record c has = with_mark-stored ws c (apart_in c has ws (λ d in_ws. in_ws)) ∙ ap (λ n. replicate n (stored_of c)) (once c has)
 
   entry_stored : (c : List ℕ) → contains cs c ≡ true → is_stored (map stored_of ws) (entry_of h v c) ≡ true
   entry_stored c has =
@@ -59,32 +57,35 @@ module _ (h : History) (v : ℕ) (ws : List (List ℕ)) (once : EachOnce (versio
 
   -- ---- one record after the other
 
-  some_there : (front behind : List (List ℕ)) (c : List ℕ) → front ++ (c ∷ behind) ≡ ws → (1 ≤ times ws c) × (times front c + 1 ≤ times ws c)
-  some_there front behind c so =
+  -- one that stands behind others of its kind would be there twice
+  none_before : (front behind : List (List ℕ)) (c : List ℕ) → front ++ (c ∷ behind) ≡ ws → contains cs c ≡ true → times front c ≡ 0
+  none_before front behind c so has =
       let one : ◌≡◌ {A = ℕ} (cond (bytes_eq c c) 1 0) 1 = ap (λ t. cond t 1 0) (bytes_eq-refl c) in
-      let all : times front c + (1 + times behind c) ≡ times ws c = omega (arith, one, times-append front (c ∷ behind) c, times-cons c behind c, ap (λ xs. times xs c) so) in
-      (omega arith, omega arith)
+      omega (arith, one, times-append front (c ∷ behind) c, times-cons c behind c, ap (λ xs. times xs c) so, once c has)
 
-  wanted_here : (front behind : List (List ℕ)) (c : List ℕ) → front ++ (c ∷ behind) ≡ ws → is_wanted (recipe h v) (map stored_of front) (mark c) ≡ true
-  wanted_here front behind c so =
-      let there = some_there front behind c so in
-      let has : contains cs c ≡ true = sym (same_chunks c) ∙ contains-times ws c ∙ lt-ltb 0 (times ws c) (omega (arith, there.0)) in
-      let exactly : times ws c ≡ 1 = once c ∙ ap (λ t. cond t 1 0) has in
-      let none : times front c ≡ 0 = omega (arith, there.1) in
-      let known : has_mark (recipe h v) (mark c) ≡ true = has_mark-map (entry_of h v) (λ _. refl) cs c (apart c has) ∙ has in
-      let unseen : is_found (map stored_of front) (mark c) ≡ false =
+  unseen : (front behind : List (List ℕ)) (c : List ℕ) → front ++ (c ∷ behind) ≡ ws → contains cs c ≡ true → is_found (map stored_of front) (mark c) ≡ false
+  unseen front behind c so has =
       ap (λ (rs : List Stored). nat_lt 0 (length rs))
       (with_mark-stored front c (apart_in c has front (λ d at_front. ap (λ xs. contains xs d) (sym so) ∙ contains-append front (c ∷ behind) d ∙ or_left (contains front d) (contains (c ∷ behind) d) at_front))
-      ∙ ap (λ n. replicate n (stored_of c)) none) in
-      λ i. known i && not (unseen i)
+      ∙ ap (λ n. replicate n (stored_of c)) (none_before front behind c so has))
 
-  wanted_from : (front behind : List (List ℕ)) → front ++ behind ≡ ws → AreWanted (recipe h v) (map stored_of front) (map stored_of behind)
-  wanted_from front [] so = tt
-  wanted_from front (c ∷ behind) so = (
-    wanted_here front behind c so,
-    subst (λ seen. AreWanted (recipe h v) seen (map stored_of behind)) (map-append stored_of front (c ∷ [])) (wanted_from (front ++ (c ∷ [])) behind (append_assoc front (c ∷ []) behind ∙ so)),
+  told_here : (front behind : List (List ℕ)) (c : List ℕ) → front ++ (c ∷ behind) ≡ ws → is_wanted (recipe h v) (map stored_of front) (mark c) ≡ contains cs c
+  told_here front behind c so =
+      let in_ws : contains ws c ≡ true = ap (λ xs. contains xs c) (sym so) ∙ contains-append front (c ∷ behind) c ∙ or_right (contains front c) (contains (c ∷ behind) c) (contains_first c behind) in
+      let known : has_mark (recipe h v) (mark c) ≡ contains cs c = has_mark-map (entry_of h v) (λ _. refl) cs c (apart c in_ws) in
+      ap (λ t. t && not (is_found (map stored_of front) (mark c))) known
+      ∙ elim (contains cs c) as (λ t. contains cs c ≡ t → (t && not (is_found (map stored_of front) (mark c))) ≡ t) [
+        | true ↦ λ has. ap not (unseen front behind c so has)
+        | false ↦ λ _. refl
+      ] refl
+
+  told_from : (front behind : List (List ℕ)) → front ++ behind ≡ ws → AreTold (recipe h v) (contains cs) (map stored_of front) (map stored_of behind)
+  told_from front [] so = tt
+  told_from front (c ∷ behind) so = (
+    told_here front behind c so,
+    subst (λ seen. AreTold (recipe h v) (contains cs) seen (map stored_of behind)) (map-append stored_of front (c ∷ [])) (told_from (front ++ (c ∷ [])) behind (append_assoc front (c ∷ []) behind ∙ so)),
   )
 
-  -- each record is wanted
-  pub all_wanted : AreWanted (recipe h v) [] (map stored_of ws)
-  all_wanted = wanted_from [] ws refl
+  -- the recipe tells which records' bodies are wanted
+  pub all_told : AreTold (recipe h v) (contains cs) [] (map stored_of ws)
+  all_told = told_from [] ws refl

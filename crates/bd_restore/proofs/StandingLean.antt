@@ -27,7 +27,7 @@ module _ (h : History) (phase : Phase) (v : ℕ) (low : oldest h ≤ v) (high : 
   pub found_once : EachOnce (version h v) (walk h phase v)
   found_once c = a_restore_finds_each_chunk_once (λ d. cond (bytes_eq c d) 1 0) h phase v low high ∙ times-distinct (version h v) c
 
-  front-is : (j : ℕ) → v ≤ j → front h phase v j ≡ front_of h phase j v
+  pub front-is : (j : ℕ) → v ≤ j → front h phase v j ≡ front_of h phase j v
   front-is j past = let least : min v j ≡ v = omega arith in ap (λ n. flat_map (row_chunks h phase j) (numbers (oldest h) n)) least
 
   front_used : (j : ℕ) → v ≤ j → filter (is_used h v) (front h phase v j) ≡ front h phase v j
