@@ -1,6 +1,6 @@
 -- A restore of the one version that a store retains, over any state for which the contents stand. It writes nothing on the
 -- disk.
-use Rattle.std.proofs.Common.{◌≡◌, inl, ℕ, Bool, true, false, cond, List, [], ◌++◌, length, refl, sym, ◌∙◌, ap, subst, arith, append_assoc, Option, Some, None, Ok, Err, eqb}
+use Rattle.std.proofs.Common.{◌≡◌, ◌≤◌, inl, ℕ, Bool, true, false, cond, List, [], ◌++◌, length, refl, sym, ◌∙◌, ap, subst, arith, append_assoc, Option, Some, None, Ok, Err, eqb}
 use Rattle.std.specs.FinMap as map
 use Rattle.std.specs.List.{list_all}
 use Rattle.bd_disk.specs.History.{History, contents}
@@ -151,9 +151,15 @@ module _ (found : Found) (v : ℕ) (h0 : History) (agrees : Agrees found h0) (on
     leads : (files : FileMap) (name : List ℕ) → LeadsTo (task shape held st files (Restore v name)) (restore st files v name)
     leads files name = restore_step shape held st files v name (omega (arith, alone)) (omega (arith, is_first)) (omega (arith, is_last))
 
+    retained_low : oldest (history shape st) ≤ v
+    retained_low = omega (arith, is_first)
+
+    retained_high : v ≤ newest (history shape st)
+    retained_high = omega (arith, is_last)
+
     module _ (near : Near (history shape st)) where
       found_recipe : recipe_found s c (contents h0) v ≡ Ok (recipe (history shape st) v)
-      found_recipe = subst (λ n. recipe_found s c (contents h0) n ≡ Ok (recipe (history shape st) n)) is_last (recipe_stands shape st phase held (contents h0) found stands agrees.opens near alone)
+      found_recipe = recipe_stands shape st phase held (contents h0) found stands agrees.opens near v retained_low retained_high
 
       the_recipe : (entries : List RecipeEntry) → recipe_found s c (contents h0) v ≡ Ok entries → entries ≡ recipe (history shape st) v
       the_recipe entries is = let same : Ok entries ≡ Ok (recipe (history shape st) v) = sym is ∙ found_recipe in cc
@@ -163,27 +169,25 @@ module _ (found : Found) (v : ℕ) (h0 : History) (agrees : Agrees found h0) (on
 
       is_whole : (entries : List RecipeEntry) → recipe_found s c (contents h0) v ≡ Ok entries → IsWhole s c (contents h0) v entries
       is_whole entries is =
-          subst (IsWhole s c (contents h0) v) (sym (the_recipe entries is))
-          (subst (λ n. IsWhole s c (contents h0) n (recipe (history shape st) n)) is_last (whole_stands shape st phase held (contents h0) found stands agrees.opens near alone))
+          subst (IsWhole s c (contents h0) v) (sym (the_recipe entries is)) (whole_stands shape st phase held (contents h0) found stands agrees.opens near v retained_low retained_high)
 
       has_length : (entries : List RecipeEntry) → recipe_found s c (contents h0) v ≡ Ok entries → total entries ≡ length (stream_of st v)
       has_length entries is =
-          ap total (the_recipe entries is)
-          ∙ subst (λ n. total (recipe (history shape st) n) ≡ length (stream_of st n)) is_last (length_stands shape st phase held (contents h0) found stands agrees.opens near alone)
+          ap total (the_recipe entries is) ∙ length_stands shape st phase held (contents h0) found stands agrees.opens near v retained_low retained_high
 
       is_stream : (entries : List RecipeEntry) → recipe_found s c (contents h0) v ≡ Ok entries → joined entries (records_for s c (contents h0) v) ≡ stream_of st v
       is_stream entries is =
           ap (λ es. joined es (records_for s c (contents h0) v)) (the_recipe entries is)
-          ∙ subst (λ n. joined (recipe (history shape st) n) (records_for s c (contents h0) n) ≡ stream_of st n) is_last (content_stands shape st phase held (contents h0) found stands agrees.opens near alone)
+          ∙ content_stands shape st phase held (contents h0) found stands agrees.opens near v retained_low retained_high
 
       are_reads : (entries : List RecipeEntry) → recipe_found s c (contents h0) v ≡ Ok entries →
           recipe_places s c v ++ walk_reads s entries [] (spots_in s (contents h0) (walk c v)) ≡ restore_reads s c (history shape st) v
       are_reads entries is =
           ap (λ es. recipe_places s c v ++ walk_reads s es [] (spots_in s (contents h0) (walk c v))) (the_recipe entries is)
-          ∙ subst (λ n. recipe_places s c n ++ walk_reads s (recipe (history shape st) n) [] (spots_in s (contents h0) (walk c n)) ≡ restore_reads s c (history shape st) n) is_last (reads_stand shape st phase held (contents h0) found stands agrees.opens near alone)
+          ∙ reads_stand shape st phase held (contents h0) found stands agrees.opens near v retained_low retained_high
 
       is_lean : IsLean (history shape st) c.phase v
-      is_lean = subst (IsLean (history shape st) c.phase) is_last (lean_stands shape st phase held (contents h0) found stands agrees.opens near alone)
+      is_lean = lean_stands shape st phase held (contents h0) found stands agrees.opens near v retained_low retained_high
 
   -- a recipe that couldn't be read
   pub reading_one_step : (name : List ℕ) (held : ℕ) {h1 : History} (files : FileMap) (fault : ReadFault) → WritesNothing h0 h1 → AnswersPlan (recipe_found s c (contents h0) v) (Err fault) →
