@@ -2,17 +2,16 @@
 use Rattle.std.proofs.Common.{◌≡◌, ℕ, zero, suc, ◌+◌, ◌-◌, ◌^◌, ◌<◌, ◌≤◌, true, cond, ◌&&◌, List, [], ◌∷◌, length, map, get_or, refl, sym, ◌∙◌, ap, arith, nat_le, nat_lt, le-leb, lt-ltb, eq-eqb, None}
 use Rattle.std.specs.Prelude.{◌==◌, All, Ok, Err}
 use Rattle.std.specs.Str.{bytes_eq}
-use Rattle.std.specs.List.{list_all, range_with_len, flat_map}
+use Rattle.std.specs.List.{list_all, flat_map}
 use Rattle.std.proofs.lemmas.Bool.{or_left, or_right}
 use Rattle.std.proofs.lemmas.List.{length-map}
 use Rattle.std.proofs.lemmas.List.Elements.{All-cons}
 use Rattle.std.proofs.lemmas.List.Concat.{concat_is, length-flat_map}
 use Rattle.std.proofs.lemmas.List.Folds.{fold-map}
 use Rattle.bd_model.specs.declared.shape.Shape.{Shape}
-use Rattle.bd_model.specs.declared.answer.VersionLine.{VersionLine}
 use Rattle.bd_model.specs.declared.damage.Damage.TheVariants.{Sum}
 use Rattle.bd_model.specs.declared.layout.RecipeEntry.{RecipeEntry}
-use Rattle.bd_model.specs.Chunks.{Cut, chunks, chunks_from, numbers}
+use Rattle.bd_model.specs.Chunks.{Cut, chunks, chunks_from}
 use Rattle.bd_model.specs.Extents.{owner_bytes}
 use Rattle.bd_model.specs.History.{History, version, newest, oldest, contains}
 use Rattle.bd_model.specs.Laws.{IsCut}
@@ -20,12 +19,12 @@ use Rattle.bd_model.specs.Recipe.{recipe, entry_of, start_of}
 use Rattle.bd_model.specs.Records.{entries_in}
 use Rattle.bd_model.specs.Sizes.{sizes_of}
 use Rattle.bd_model.specs.State.{VersionState, cut_of, history, streams, stream_of}
-use Rattle.bd_model.specs.Step.{version_line, version_lines}
 use Rattle.bd_model.proofs.ChunkLemmas.{chunks_are_within_bounds, concat-chunks}
 use Rattle.bd_model.proofs.RecipeLemmas.{start_of-le, start_of-low}
-use Rattle.bd_catalog.specs.Catalogue.{Catalogue, VersionEntry, oldest_in, recipe_extents}
+use Rattle.bd_catalog.specs.Catalogue.{Catalogue, recipe_extents}
 use Rattle.bd_catalog.specs.Sound.{recipe_of, entry_holds}
-use Rattle.bd_catalog.specs.Standing.{HasNumbers, HasVersions, lines_from}
+use Rattle.bd_catalog.specs.Standing.{HasNumbers, HasVersions}
+use Rattle.bd_catalog.proofs.StandingLines.{bytes_recorded, chunks_recorded}
 use Rattle.bd_recipe.specs.Entries.{first_bad}
 use Rattle.bd_recipe.specs.Reading.{chunks_in, length_in, recipe_found, total, with_sum}
 use Rattle.bd_recipe.specs.Laws.{FitsEntry}
@@ -47,31 +46,12 @@ fit_all : (e : List ℕ → RecipeEntry) (cs : List (List ℕ)) → ((c : List �
 fit_all e [] fits = λ i d lt. absurd (omega arith)
 fit_all e (c ∷ cs) fits = All-cons FitsEntry (e c) (map e cs) (fits c (has_first c cs)) (fit_all e cs (λ d has. fits d (has_later c d cs has)))
 
--- ---- a version's entry of the catalogue
+-- ---- the chunks of a version
 
 get_or-map_at : {X Y : Type 0} (f : X → Y) (xs : List X) (k : ℕ) (d : X) → get_or (map f xs) k (f d) ≡ f (get_or xs k d)
 get_or-map_at f [] k d = refl
 get_or-map_at f (x ∷ xs) zero d = refl
 get_or-map_at f (x ∷ xs) (suc k) d = get_or-map_at f xs k d
-
-get_or-map_range : {X : Type 0} (f : ℕ → X) (a n k : ℕ) (d : X) → k < n → get_or (map f (range_with_len a n)) k d ≡ f (a + k)
-get_or-map_range f a zero k d lt = absurd (omega arith)
-get_or-map_range f a (suc n) zero d lt = ap f (omega arith)
-get_or-map_range f a (suc n) (suc k) d lt = get_or-map_range f (a + 1) n k d (omega arith) ∙ ap f (omega arith)
-
-lines-chunks : (v : ℕ) (es : List VersionEntry) → map (λ (l : VersionLine). l.chunks) (lines_from v es) ≡ map (λ e. e.chunks) es
-lines-chunks v [] = refl
-lines-chunks v (e ∷ es) = ap (λ ns. e.chunks ∷ ns) (lines-chunks (v + 1) es)
-
-lines-bytes : (v : ℕ) (es : List VersionEntry) → map (λ (l : VersionLine). l.bytes) (lines_from v es) ≡ map (λ e. e.length) es
-lines-bytes v [] = refl
-lines-bytes v (e ∷ es) = ap (λ ns. e.length ∷ ns) (lines-bytes (v + 1) es)
-
-map-map : {X Y Z : Type 0} (g : Y → Z) (f : X → Y) (xs : List X) → map g (map f xs) ≡ map (λ x. g (f x)) xs
-map-map g f [] = refl
-map-map g f (x ∷ xs) = ap (λ ys. g (f x) ∷ ys) (map-map g f xs)
-
--- ---- the chunks of a version
 
 cut_is : (shape : Shape) → IsCut (cut_of shape)
 cut_is shape = (shape.in_range.min_low, shape.in_range.max_low)
@@ -106,27 +86,11 @@ module _ (shape : Shape) (st : VersionState) (v : ℕ) where
   -- ---- where the version is retained, and the catalogue shows the state
 
   module _ (c : Catalogue) (image : List ℕ) (low : oldest h ≤ v) (high : v ≤ newest h) (numbered : HasNumbers h c) (versions : HasVersions shape st c image) (some : h.expired < length h.versions) (small : c.newest < 2 ^ 32) where
-    index-is : v - oldest_in c ≡ v - oldest h
-    index-is = omega (arith, numbered.newest, numbered.retained)
-
-    at_lines : {X : Type 0} (f : VersionLine → X) (d : X) → get_or (map f (version_lines st h)) (v - oldest h) d ≡ f (version_line st h v)
-    at_lines f d =
-        let place : oldest h + (v - oldest h) ≡ v = omega arith in
-        ap (λ xs. get_or xs (v - oldest h) d) (map-map f (version_line st h) (numbers (oldest h) (newest h)))
-        ∙ get_or-map_range (λ u. f (version_line st h u)) (oldest h) (newest h + 1 - oldest h) (v - oldest h) d (omega arith)
-        ∙ ap (λ u. f (version_line st h u)) place
-
     pub chunks-stand : chunks_in c v ≡ length (version h v)
-    chunks-stand =
-        ap (λ k. get_or (map (λ e. e.chunks) c.versions) k 0) index-is
-        ∙ ap (λ xs. get_or xs (v - oldest h) 0) (sym (lines-chunks (oldest_in c) c.versions) ∙ ap (map (λ (l : VersionLine). l.chunks)) versions.lines)
-        ∙ at_lines (λ l. l.chunks) 0
+    chunks-stand = chunks_recorded shape st c image numbered versions v low high
 
     pub bytes-stand : length_in c v ≡ length (stream_of st v)
-    bytes-stand =
-        ap (λ k. get_or (map (λ e. e.length) c.versions) k 0) index-is
-        ∙ ap (λ xs. get_or xs (v - oldest h) 0) (sym (lines-bytes (oldest_in c) c.versions) ∙ ap (map (λ (l : VersionLine). l.bytes)) versions.lines)
-        ∙ at_lines (λ l. l.bytes) 0
+    bytes-stand = bytes_recorded shape st c image numbered versions v low high
 
     entry_fits : (x : List ℕ) → contains (version h v) x ≡ true → FitsEntry (entry_of h v x)
     entry_fits x has = record {

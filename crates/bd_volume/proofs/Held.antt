@@ -2,8 +2,7 @@
 use Rattle.std.proofs.Common.{◌≡◌, ℕ, zero, suc, ◌+◌, ◌-◌, ◌<◌, ◌≤◌, true, false, cond, List, [], ◌∷◌, ◌++◌, length, take, drop, drop-drop, get_or, map, refl, sym, ◌∙◌, ap, subst, arith, nat_lt, length-append}
 use Rattle.std.specs.Prelude.{IsTrue}
 use Rattle.std.specs.List.{flat_map, range_with_len}
-use Rattle.std.proofs.lemmas.List.{get_or-map, take-take, drop-take, take_at, drop_at}
-use Rattle.std.proofs.lemmas.List.FromFn.{get_or-range_with_len, length-range_with_len}
+use Rattle.std.proofs.lemmas.List.{take-take, drop-take, take_at, drop_at}
 use Rattle.std.proofs.lemmas.Grind.{flat_map-append}
 use Rattle.bd_model.specs.declared.damage.Owner.{Owner}
 use Rattle.bd_model.specs.declared.damage.Owner.TheVariants.{Volume}
@@ -25,6 +24,7 @@ use Rattle.bd_catalog.specs.Rules.{obeys}
 use Rattle.bd_catalog.specs.Standing.{BeginWith, HasActives, HasNumbers, HasVolumes}
 use Rattle.bd_catalog.proofs.Standing.{Shows, stands-shows}
 use Rattle.bd_catalog.proofs.StandingFound.{opened-found}
+use Rattle.bd_catalog.proofs.StandingLines.{get_or-map_range}
 use Rattle.bd_volume.specs.Holding.{HoldsRows, LayoutsAreHeld, group_at, groups_over}
 use Rattle.bd_volume.proofs.Naming.{AreOwned, opens_owned}
 
@@ -112,10 +112,6 @@ module _ (s : Sizes) (image : List ℕ) (f : ℕ → List (List ℕ)) where
         ] is
 
 -- ---- the layout of a state
-
-get_or-map_range : {X : Type 0} (f : ℕ → X) (a n k : ℕ) (d : X) → k < n → get_or (map f (range_with_len a n)) k d ≡ f (a + k)
-get_or-map_range f a n k d lt =
-    get_or-map f (range_with_len a n) k 0 d (omega (arith, length-range_with_len a n, lt)) ∙ ap f (get_or-range_with_len a n k 0 lt)
 
 module _ (s : Sizes) (h : History) (phase : Phase) (c : Catalogue) (image : List ℕ) where
   -- the rows of a closed volume
