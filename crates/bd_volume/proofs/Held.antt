@@ -40,6 +40,17 @@ second_part x y z is =
     ∙ ap (λ n. drop (length x) (take n z)) (sym (length-append x y))
     ∙ ap (drop (length x)) is ∙ drop_at x y (length x) refl
 
+-- a list of entries whose rows have a first one
+pub one_entry : (es : List OpenEntry) (row : CategoryRow) (rows : List CategoryRow) → map (λ (e : OpenEntry). e.row) es ≡ row ∷ rows → (Q : List OpenEntry → Type 0) →
+    ((e : OpenEntry) (later : List OpenEntry) → e.row ≡ row → map (λ (x : OpenEntry). x.row) later ≡ rows → Q (e ∷ later)) → Q es
+one_entry [] row rows is Q by = absurd (no_row is) where
+  no_row : ◌≡◌ {A = List CategoryRow} [] (row ∷ rows) → ⊥
+  no_row e = cc
+one_entry (e ∷ later) row rows is Q by =
+    let first : e.row ≡ row = cc in
+    let others : map (λ (x : OpenEntry). x.row) later ≡ rows = cc in
+    by e later first others
+
 module _ (s : Sizes) (image : List ℕ) (f : ℕ → List (List ℕ)) where
   -- ---- rows of one owner, end to end
 
@@ -75,16 +86,6 @@ module _ (s : Sizes) (image : List ℕ) (f : ℕ → List (List ℕ)) where
         next at = omega (arith, length-records (f a))
 
   -- ---- open categories
-
-  one_entry : (es : List OpenEntry) (row : CategoryRow) (rows : List CategoryRow) → map (λ (e : OpenEntry). e.row) es ≡ row ∷ rows → (Q : List OpenEntry → Type 0) →
-      ((e : OpenEntry) (later : List OpenEntry) → e.row ≡ row → map (λ (x : OpenEntry). x.row) later ≡ rows → Q (e ∷ later)) → Q es
-  one_entry [] row rows is Q by = absurd (no_row is) where
-    no_row : ◌≡◌ {A = List CategoryRow} [] (row ∷ rows) → ⊥
-    no_row e = cc
-  one_entry (e ∷ later) row rows is Q by =
-      let first : e.row ≡ row = cc in
-      let others : map (λ (x : OpenEntry). x.row) later ≡ rows = cc in
-      by e later first others
 
   module _ (c : Catalogue) where
     pub opens_held : (es : List OpenEntry) (a n : ℕ) → map (λ (e : OpenEntry). e.row) es ≡ rows_over f (range_with_len a n) → AreOwned c (map open_row es) →

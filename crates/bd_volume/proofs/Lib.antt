@@ -3,6 +3,7 @@ pub mod Held
 pub mod HeldRows
 pub mod HeldWalk
 pub mod MappedLists
+pub mod NamedPlaces
 pub mod Naming
 pub mod RowLists
 pub mod StoredChunks

@@ -5,6 +5,6 @@ mod laws;
 mod piece;
 mod walk;
 
-pub use laws::layouts_are_held;
+pub use laws::{layouts_are_held, named_bytes_decide};
 pub use piece::{Piece, Pieces};
 pub use walk::front;
