@@ -46,7 +46,7 @@ before_next : (s : Sizes) (a b : ℕ) → a < b → extent_place s a + s.extent 
 before_next s a b lt = omega (arith, mul-le-mul_right {m = a + 1} {n = b} s.extent (omega arith))
 
 -- a place lies in one extent
-one_extent : (s : Sizes) (a b place : ℕ) → InRange (extent_place s a) s.extent place → InRange (extent_place s b) s.extent place → a ≡ b
+pub one_extent : (s : Sizes) (a b place : ℕ) → InRange (extent_place s a) s.extent place → InRange (extent_place s b) s.extent place → a ≡ b
 one_extent s a b place in_a in_b =
     ⊎_elim
     (λ less. absurd (omega (arith, before_next s a b less, in_a.1, in_b.0)))

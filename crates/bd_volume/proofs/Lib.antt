@@ -7,4 +7,5 @@ pub mod NamedPlaces
 pub mod Naming
 pub mod RowLists
 pub mod StoredChunks
+pub mod Unnamed
 pub mod WalkRecords

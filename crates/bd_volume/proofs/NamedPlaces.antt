@@ -1,6 +1,6 @@
 -- An image shows what another one does that agrees with it on the bytes that the catalogue names.
 use Rattle.std.proofs.Common.{◌≡◌, ⊎_elim, ℕ, zero, suc, ◌+◌, ◌-◌, ◌*◌, ◌<◌, ◌≤◌, Bool, true, false, cond, ◌&&◌, List, [], ◌∷◌, ◌++◌, length, take, map, get_or, refl, sym, ◌∙◌, ap, subst, arith, nat_lt, nat_le, length-append}
-use Rattle.std.specs.Prelude.{All, Contains, IsTrue, ◌==◌}
+use Rattle.std.specs.Prelude.{All, Contains, IsTrue, Ok, ◌==◌}
 use Rattle.std.specs.List.{flat_map, list_all, range_with_len}
 use Rattle.std.proofs.lemmas.Bool.{cases_lt, eqb-true, false≢true, ltb-true}
 use Rattle.std.proofs.lemmas.List.{get_or-map, get_or-take, length-map, length-take}
@@ -30,14 +30,14 @@ use Rattle.bd_model.proofs.RowLemmas.{no_chunks, rows_describe_the_volume, rows_
 use Rattle.bd_extio.specs.Ranges.{InOwner, place_of}
 use Rattle.bd_extio.proofs.Places.{get_or-owner_bytes, length-owner_bytes}
 use Rattle.bd_catalog.specs.Catalogue.{Catalogue, OpenEntry, VersionEntry, VolumeEntry, active_extents, all_extents, bytes_of_rows, oldest_in, recipe_extents, volume_extents}
-use Rattle.bd_catalog.specs.Opening.{Found}
+use Rattle.bd_catalog.specs.Opening.{Found, opened}
 use Rattle.bd_catalog.specs.Rows.{open_row}
 use Rattle.bd_catalog.specs.Rules.{active_holds, all_differ, fits_eight, obeys, row_holds, version_holds, volume_holds}
-use Rattle.bd_catalog.specs.Standing.{BeginWith, HasActives, HasNumbers, HasVersions, HasVolumes}
+use Rattle.bd_catalog.specs.Standing.{BeginWith, HasActives, HasNumbers, HasVersions, HasVolumes, StandsFor}
 use Rattle.bd_catalog.proofs.Standing.{Shows, shows_same, stands-shown, stands-shows}
 use Rattle.bd_catalog.proofs.StandingFound.{Obeys, obeys-each, opened-found}
 use Rattle.bd_catalog.proofs.StandingLines.{chunks_recorded}
-use Rattle.bd_volume.specs.Named.{InNamed, Named, NamedBytesDecide, named_by, open_named, recipe_named, volume_named}
+use Rattle.bd_volume.specs.Named.{InNamed, Named, named_by, open_named, recipe_named, volume_named}
 use Rattle.bd_volume.proofs.Held.{one_entry, rows_stand}
 use Rattle.bd_volume.proofs.Naming.{AreOwned, opens_owned}
 
@@ -272,7 +272,9 @@ module _ {shape : Shape} {st : VersionState} {phase : Phase} {held : ℕ} {found
         reserve = shows.reserve;
       }
 
-pub named_bytes_decide : NamedBytesDecide
-named_bytes_decide shape st phase held old new found again opens opens_new sizes catalogue agree stands =
+-- an image stands for what another one does that has its catalogue and agrees on them
+pub stands_named : (shape : Shape) (st : VersionState) (phase : Phase) (held : ℕ) (old new : List ℕ) (found again : Found) → opened old ≡ Ok found → opened new ≡ Ok again →
+    again.sizes ≡ found.sizes → again.catalogue ≡ found.catalogue → Agree (InNamed found.sizes found.catalogue) old new → StandsFor shape st phase held old → StandsFor shape st phase held new
+stands_named shape st phase held old new found again opens opens_new sizes catalogue agree stands =
     let is = opened-found old found opens in
     stands-shown stands.state opens_new (shows_same found again sizes catalogue (named_agrees is.obeys is.room agree (stands-shows stands opens)))

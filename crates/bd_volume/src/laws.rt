@@ -9,7 +9,7 @@ pub fn layouts_are_held()
 {}
 
 /// What an image stands for is decided by its catalogue and the bytes that this names. So records may be appended behind
-/// those of an owner's last extent, and whatever a stop leaves of them, the state is as it was.
+/// those of an owner, in its last extent and in further ones, and whatever a stop leaves of them, the state is as it was.
 pub fn named_bytes_decide()
     ensures { NamedBytesDecide }
 {}
