@@ -13,7 +13,7 @@ use Rattle.bd_catalog.specs.Catalogue.{Catalogue, OpenEntry, volume_extents}
 use Rattle.bd_catalog.specs.Rows.{RowPlace, begun_by, open_row, rows_from, volume_rows, walk}
 use Rattle.bd_catalog.specs.Rules.{ascends, obeys}
 use Rattle.bd_catalog.proofs.StandingFound.{obeys-each}
-use Rattle.bd_volume.specs.Pieces.{extents_of, piece_at, place_of}
+use Rattle.bd_volume.specs.Pieces.{extents_of, piece_at, pieces_of, place_of}
 use Rattle.bd_volume.specs.declared.piece.Piece.{Piece}
 use Rattle.bd_volume.proofs.RowLists.{begun-append}
 
@@ -92,10 +92,6 @@ walk_owned s c v rules =
     owned-begun c v (volumes ++ map open_row c.actives) (owned-append c volumes (map open_row c.actives) (owned_volumes c (numbers v (c.newest - 1))) (opens_owned s c rules))
 
 -- ---- pieces behind others
-
--- the pieces of rows that begin at v or before
-abbrev pub pieces_of : ℕ → List RowPlace → List Piece
-pieces_of v ps = map piece_at (begun_by v ps)
 
 pub pieces-append : (v : ℕ) (xs ys : List RowPlace) → pieces_of v (xs ++ ys) ≡ pieces_of v xs ++ pieces_of v ys
 pieces-append v xs ys = ap (map piece_at) (begun-append v xs ys) ∙ map-append piece_at (begun_by v xs) (begun_by v ys)

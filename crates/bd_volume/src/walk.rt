@@ -1,11 +1,10 @@
 //! The rows that a restore walks over.
-ghost use Rattle.std.specs.Prelude.{◌≡◌, ◌+◌, ◌-◌, ◌^◌, ◌<◌, ◌≤◌, [], ◌∷◌, ◌++◌, length, map, nat_le, flat_map, if◌then◌else◌, IfOk, IfSome, IsTrue};
-ghost use Rattle.bd_model.specs.Chunks.{numbers};
+ghost use Rattle.std.specs.Prelude.{◌≡◌, ◌+◌, ◌^◌, ◌<◌, ◌≤◌, [], ◌∷◌, ◌++◌, length, map, nat_le, if◌then◌else◌, IfOk, IfSome, IsTrue};
 ghost use Rattle.bd_catalog.specs.Catalogue.{bytes_of_rows, oldest_in};
-ghost use Rattle.bd_catalog.specs.Rows.{begun_by, open_row, rows_from, volume_rows, walk};
+ghost use Rattle.bd_catalog.specs.Rows.{open_row, walk};
 ghost use Rattle.bd_catalog.specs.Rules.{obeys};
-ghost use Rattle.bd_catalog.specs.Shown.{open_entry};
-ghost use Rattle.bd_volume.specs.Pieces.{piece_at, place_of};
+ghost use Rattle.bd_catalog.specs.Shown.{open_entry, volume_entry};
+ghost use Rattle.bd_volume.specs.Pieces.{closed_rows, pieces_of, place_of, rows_closed_from};
 
 use crate::piece::{Piece, Pieces};
 use bd_catalog::{ActiveCategory, Catalog, ClosedVolume};
@@ -27,7 +26,7 @@ fn put_begun(pieces: &mut Pieces, piece: Piece, version: u32)
 fn put_volume(pieces: &mut Pieces, number: u32, volume: &ClosedVolume, version: u32)
     requires spare { length volume.now.rows.items ≤ pieces.old.spare }
     requires short { bytes_of_rows volume.now.rows.items < 2 ^ 64 }
-    ensures items { pieces.new.items ≡ pieces.old.items ++ map piece_at (begun_by version (rows_from (Owner.Volume number) volume.now.extents.numbers 0 volume.now.rows.items)) }
+    ensures items { pieces.new.items ≡ pieces.old.items ++ pieces_of version (closed_rows number (volume_entry volume.now)) }
     ensures spare { pieces.old.spare ≤ pieces.new.spare + length volume.now.rows.items }
 {
     let mut from = 0;
@@ -49,9 +48,9 @@ fn put_volumes(pieces: &mut Pieces, catalog: &Catalog, version: u32)
     requires rules { IsTrue (obeys catalog.now.found.sizes catalog.now.found.catalogue) }
     requires oldest { oldest_in catalog.now.found.catalogue ≤ version }
     requires newest { version ≤ catalog.now.found.catalogue.newest }
-    requires spare { length (flat_map (volume_rows catalog.now.found.catalogue) (numbers version (catalog.now.found.catalogue.newest - 1))) ≤ pieces.old.spare }
-    ensures items { pieces.new.items ≡ pieces.old.items ++ map piece_at (begun_by version (flat_map (volume_rows catalog.now.found.catalogue) (numbers version (catalog.now.found.catalogue.newest - 1)))) }
-    ensures spare { pieces.old.spare ≤ pieces.new.spare + length (flat_map (volume_rows catalog.now.found.catalogue) (numbers version (catalog.now.found.catalogue.newest - 1))) }
+    requires spare { length (rows_closed_from catalog.now.found.catalogue version) ≤ pieces.old.spare }
+    ensures items { pieces.new.items ≡ pieces.old.items ++ pieces_of version (rows_closed_from catalog.now.found.catalogue version) }
+    ensures spare { pieces.old.spare ≤ pieces.new.spare + length (rows_closed_from catalog.now.found.catalogue version) }
 {
     for number in version..catalog.newest() {
         let volume = catalog.volume(number).unwrap();
@@ -62,7 +61,7 @@ fn put_volumes(pieces: &mut Pieces, catalog: &Catalog, version: u32)
 // Puts the open categories behind the others, those that begin at the version or before.
 fn put_categories(pieces: &mut Pieces, actives: &[ActiveCategory], version: u32)
     requires { length actives.now ≤ pieces.old.spare }
-    ensures { pieces.new.items ≡ pieces.old.items ++ map piece_at (begun_by version (map open_row (map open_entry actives.now))) }
+    ensures { pieces.new.items ≡ pieces.old.items ++ pieces_of version (map open_row (map open_entry actives.now)) }
 {
     for active in actives {
         let piece = Piece {
@@ -82,7 +81,7 @@ fn rows_ahead(catalog: &Catalog, version: u32) -> Option<usize>
     requires rules { IsTrue (obeys catalog.now.found.sizes catalog.now.found.catalogue) }
     requires oldest { oldest_in catalog.now.found.catalogue ≤ version }
     requires newest { version ≤ catalog.now.found.catalogue.newest }
-    ensures { IfSome result (λ n. n ≡ length (flat_map (volume_rows catalog.now.found.catalogue) (numbers version (catalog.now.found.catalogue.newest - 1))) + length catalog.now.found.catalogue.actives) }
+    ensures { IfSome result (λ n. n ≡ length (rows_closed_from catalog.now.found.catalogue version) + length catalog.now.found.catalogue.actives) }
 {
     let mut count = catalog.actives().len();
     for number in version..catalog.newest() {

@@ -5,7 +5,8 @@ use Rattle.bd_model.specs.Chunks.{numbers}
 use Rattle.bd_model.specs.declared.damage.Owner.TheVariants.{Volume}
 use Rattle.bd_catalog.specs.Rows.{rows_from, volume_rows}
 use Rattle.bd_catalog.specs.Shown.{volume_entry}
-use Rattle.bd_volume.proofs.Naming.{pieces_of, put_behind}
+use Rattle.bd_volume.specs.Pieces.{pieces_of}
+use Rattle.bd_volume.proofs.Naming.{put_behind}
 use Rattle.bd_volume.proofs.RowLists.{ClosedIs, all_numbers, closed_is, length-rows_from, rows_of, volumes_next, volumes_rest}
 use Rattle.bd_volume.proofs.walk.put_volumes.Goals as goal
 

@@ -1,7 +1,7 @@
 use Rattle.std.proofs.Common.{◌≡◌, ◌+◌, ◌-◌, ◌≤◌, ◌++◌, length}
 use Rattle.std.specs.List.{flat_map, range_with_len}
 use Rattle.bd_catalog.specs.Rows.{volume_rows}
-use Rattle.bd_volume.proofs.Naming.{pieces_of}
+use Rattle.bd_volume.specs.Pieces.{pieces_of}
 use Rattle.bd_volume.proofs.walk.put_volumes.Given as goal
 
 abbrev pub invariant-loop-number : goal.invariant-loop-number
