@@ -1,22 +1,24 @@
 -- What is known of an answer that passes a fault on.
-use Rattle.std.proofs.Common.{◌≡◌, ℕ, refl, sym, subst, arith}
+use Rattle.std.proofs.Common.{◌≡◌, ℕ, refl, sym, subst}
 use Rattle.std.specs.Prelude.{Result, Ok, Err, IsErrAnd}
 use Rattle.bd_model.specs.declared.damage.Damage.{Damage}
 use Rattle.bd_category.specs.declared.fault.CategoryFault.{CategoryFault}
 use Rattle.bd_category.specs.declared.fault.CategoryFault.TheVariants.{DiskFault as RecordFault, Damaged as BadRecord}
 use Rattle.bd_restore.specs.declared.fault.RestoreFault.{RestoreFault}
 use Rattle.bd_restore.specs.declared.fault.RestoreFault.TheVariants.{TargetFault, DiskFault, Damaged, OutOfMemory}
-use Rattle.bd_restore.specs.Faults.{fault_of, IfDamaged, OfTarget, FailsByDisk}
+use Rattle.bd_restore.specs.Faults.{fault_of, FailsByCounts, IfDamaged}
 
--- the disk's count stays where the fault isn't the disk's
-pub disk_stays : (U : Type 0) {T : Type 0} (before now : ℕ) (fault : RestoreFault) (result : Result T RestoreFault) → IsErrAnd result (λ e. e ≡ fault) → OfTarget {T = U} (Err fault) → now ≡ before → FailsByDisk before now result
-disk_stays U before now fault (Ok value) is only same = absurd is
-disk_stays U {T} before now fault (Err e) is only same = subst (λ f. FailsByDisk {T = T} before now (Err f)) (sym is) (by fault only) where
-  by : (f : RestoreFault) → OfTarget {T = U} (Err f) → FailsByDisk {T = T} before now (Err f)
-  by TargetFault only = record { later = omega (arith, same); cause = same }
-  by DiskFault only = absurd only
-  by (Damaged damage) only = record { later = omega (arith, same); cause = same }
-  by OutOfMemory only = absurd only
+-- the counts of a fault that is passed on, where the target's count stood before
+pub passed_counts : (U : Type 0) {T : Type 0} (reads reads_now puts begun puts_now : ℕ) (fault : RestoreFault) (result : Result T RestoreFault) → IsErrAnd result (λ e. e ≡ fault) → begun ≡ puts →
+    FailsByCounts {T = U} reads reads_now begun puts_now (Err fault) → FailsByCounts reads reads_now puts puts_now result
+passed_counts U reads reads_now puts begun puts_now fault (Ok value) is same counts = absurd is
+passed_counts U {T} reads reads_now puts begun puts_now fault (Err e) is same counts =
+    subst (λ n. FailsByCounts {T = T} reads reads_now n puts_now (Err e)) same (subst (λ f. FailsByCounts {T = T} reads reads_now begun puts_now (Err f)) (sym is) (by fault counts)) where
+      by : (f : RestoreFault) → FailsByCounts {T = U} reads reads_now begun puts_now (Err f) → FailsByCounts {T = T} reads reads_now begun puts_now (Err f)
+      by TargetFault c = record { disk = record { later = c.disk.later; cause = c.disk.cause }; target = record { later = c.target.later; cause = c.target.cause }; memory = λ e. cc }
+      by DiskFault c = record { disk = record { later = c.disk.later; cause = c.disk.cause }; target = record { later = c.target.later; cause = c.target.cause }; memory = λ e. cc }
+      by (Damaged damage) c = record { disk = record { later = c.disk.later; cause = c.disk.cause }; target = record { later = c.target.later; cause = c.target.cause }; memory = λ e. cc }
+      by OutOfMemory c = let no : ⊥ = c.memory refl in absurd no
 
 -- the damage of a record is passed on
 pub record_damage : {T : Type 0} (Q : Damage → Type 0) (fault : CategoryFault) (result : Result T RestoreFault) → IsErrAnd result (λ e. e ≡ fault_of fault) → ((damage : Damage) → fault ≡ BadRecord damage → Q damage) → IfDamaged result Q

@@ -1,9 +1,13 @@
 mod Answering
 mod Cuts
+mod Ending
 mod Finishing
+pub mod Frames
+mod Going
 pub mod Joining
 mod Marks
 mod Meeting
+mod Owning
 mod Putting
 mod Reading
 mod Seeing

@@ -23,7 +23,7 @@ use Rattle.bd_catalog.specs.Sound.{length_holds}
 use Rattle.bd_category.specs.declared.fault.Header.{Header}
 use Rattle.bd_category.specs.Records.{header_at, header_in, body_at}
 use Rattle.bd_restore.specs.Met.{HasEntry, MetAt}
-use Rattle.bd_restore.specs.Walk.{AreFlags, is_found, is_wanted}
+use Rattle.bd_restore.specs.Walk.{AreFlags, Sought, is_found, is_wanted}
 use Rattle.bd_restore.proofs.Cuts.{same_length}
 use Rattle.bd_restore.proofs.Reading.{IsStored, is_stored, passed, second}
 use Rattle.bd_restore.proofs.Walking.{both_true, has_then}
@@ -45,7 +45,10 @@ same_fit at n end room =
       | inr fits ↦ le-leb (at + 36 + n) end fits ∙ sym (le-leb n (end - at - 36) (omega (arith, fits)))
     ]
 
-module _ (s : Sizes) (image : List ℕ) (p : RowPlace) (at : ℕ) where
+module _ (w : Sought) (image : List ℕ) (p : RowPlace) (at : ℕ) where
+  abbrev s : Sizes
+  s = w.sizes
+
   abbrev x : Spot
   x = spot_in s image p at
 
@@ -81,13 +84,16 @@ module _ (s : Sizes) (image : List ℕ) (p : RowPlace) (at : ℕ) where
       let read = second (nat_lt (row_end p - at) 36) (BadHeader p.who at 0 (row_end p - at)) (header_in s.max p.who at left header) h is in
       holds_is (omega (arith, fits)) ∙ passed test as_read h (BadHeader p.who at said left) read.1
 
-  module _ (v : ℕ) (entries : List RecipeEntry) (filled : List Bool) where
-    pub header_met : (damage : Damage) {old new : History} → at ≤ row_end p → header_at s p.who at (row_end p) owner ≡ Err damage → ReadsOnly (if nat_lt (row_end p - at) 36 then [] else header_places s x) old new → MetAt s v entries filled p x damage old new
+  module _ (filled : List Bool) where
+    abbrev entries : List RecipeEntry
+    entries = w.entries
+
+    pub header_met : (damage : Damage) {old new : History} → at ≤ row_end p → header_at s p.who at (row_end p) owner ≡ Err damage → ReadsOnly (if nat_lt (row_end p - at) 36 then [] else header_places s x) old new → MetAt w filled p x damage old new
     header_met damage {old} {new} low is reads =
         elim (either (nat_lt (row_end p - at) 36) (BadHeader p.who at 0 (row_end p - at)) (header_in s.max p.who at left header) damage is) [
           | inl short ↦
               (let few : row_end p - at < 36 = ltb-true (row_end p - at) 36 short.0 in
-              subst (λ d. MetAt s v entries filled p x d old new) (sym short.1) (record {
+              subst (λ d. MetAt w filled p x d old new) (sym short.1) (record {
                 places = [];
                 breaks = λ seen flags. (refl, refl, inl (few, omega (arith, low), refl, refl));
                 read = read_all (subst (λ b. ReadsOnly (if b then [] else header_places s x) old new) short.0 reads);
@@ -96,7 +102,7 @@ module _ (s : Sizes) (image : List ℕ) (p : RowPlace) (at : ℕ) where
               (let room : 36 ≤ row_end p - at = ltb-false (row_end p - at) 36 long.0 in
               let bad = refused test as_read (BadHeader p.who at said left) damage long.1 in
               let inside : at + 36 ≤ row_end p = omega (arith, room, low) in
-              subst (λ d. MetAt s v entries filled p x d old new) (sym bad.1) (record {
+              subst (λ d. MetAt w filled p x d old new) (sym bad.1) (record {
                 places = header_places s x;
                 breaks = λ seen flags. (refl, refl, inr (omega (arith, inside), sym (said_is inside), holds_is inside ∙ bad.0, refl));
                 read = read_all (subst (λ b. ReadsOnly (if b then [] else header_places s x) old new) long.0 reads);
@@ -119,10 +125,10 @@ module _ (s : Sizes) (image : List ℕ) (p : RowPlace) (at : ℕ) where
           read_all (subst (λ l. ReadsOnly l old new) same reads)
 
       pub body_met : (damage : Damage) (body : List ℕ) {old new : History} → body ≡ body_at h owner → damage ≡ BadBody p.who h.at h.mark (record { 0 = mark body }) → (mark body ≡ h.mark.0 → ⊥) →
-          ReadsOnly (header_places s x ++ places_at s p.extents (h.at + 36) h.length) old new → MetAt s v entries filled p x damage old new
+          ReadsOnly (header_places s x ++ places_at s p.extents (h.at + 36) h.length) old new → MetAt w filled p x damage old new
       body_met damage body {old} {new} given so other reads =
           let differ : record { 0 = mark body } ≢ h.mark = λ same. other (ap (λ (m : Mark). m.0) same) in
-          subst (λ d. MetAt s v entries filled p x d old new) (sym so) (record {
+          subst (λ d. MetAt w filled p x d old new) (sym so) (record {
             places = record_places s x;
             breaks = λ seen flags. (
               refl,
@@ -133,10 +139,10 @@ module _ (s : Sizes) (image : List ℕ) (p : RowPlace) (at : ℕ) where
             read = whole_read reads;
           })
 
-      pub length_met : (damage : Damage) (m : Mark) (recorded found : ℕ) {old new : History} → damage ≡ BadLength v m recorded found → m.0 ≡ h.mark.0 → found ≡ h.length → found ≢ recorded → HasEntry entries h.mark.0 recorded →
-          ReadsOnly (header_places s x ++ places_at s p.extents (h.at + 36) h.length) old new → MetAt s v entries filled p x damage old new
+      pub length_met : (damage : Damage) (m : Mark) (recorded found : ℕ) {old new : History} → damage ≡ BadLength w.version m recorded found → m.0 ≡ h.mark.0 → found ≡ h.length → found ≢ recorded → HasEntry entries h.mark.0 recorded →
+          ReadsOnly (header_places s x ++ places_at s p.extents (h.at + 36) h.length) old new → MetAt w filled p x damage old new
       length_met damage m recorded found {old} {new} so same size differ has reads =
-          subst (λ d. MetAt s v entries filled p x d old new) (sym so) (record {
+          subst (λ d. MetAt w filled p x d old new) (sym so) (record {
             places = record_places s x;
             breaks = λ seen flags. (
               refl,

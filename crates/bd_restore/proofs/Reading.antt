@@ -1,14 +1,19 @@
 -- A header and a body as they were read are those of the record there.
-use Rattle.std.proofs.Common.{◌≡◌, ℕ, ◌+◌, ◌-◌, ◌≤◌, Bool, true, false, ◌&&◌, List, take, drop, refl, sym, ◌∙◌, ap, arith, drop-drop}
+use Rattle.std.proofs.Common.{◌≡◌, ℕ, ◌+◌, ◌-◌, ◌≤◌, Bool, true, false, ◌&&◌, List, [], ◌++◌, length, take, drop, refl, sym, ◌∙◌, ap, subst, arith, drop-drop}
 use Rattle.std.specs.Prelude.{Result, Ok, Err, nat_lt, nat_le, if◌then◌else◌}
 use Rattle.std.specs.Int.{w32, from_be_bytes}
-use Rattle.std.proofs.lemmas.List.{take-take, drop-take}
+use Rattle.std.proofs.lemmas.Bool.{le-ltb, ltb-false}
+use Rattle.std.proofs.lemmas.List.{take-take, drop-take, take_at}
+use Rattle.bd_disk.specs.History.{History}
+use Rattle.bd_disk.specs.Trace.{ReadsOnly}
 use Rattle.bd_model.specs.Sizes.{Sizes}
+use Rattle.bd_model.specs.Extents.{places_at}
 use Rattle.bd_model.specs.Records.{Stored, stored_at}
 use Rattle.bd_model.specs.declared.damage.Damage.{Damage}
 use Rattle.bd_model.specs.declared.damage.Damage.TheVariants.{Header as BadHeader}
 use Rattle.bd_model.specs.declared.damage.Owner.{Owner}
 use Rattle.bd_category.specs.declared.fault.Header.{Header}
+use Rattle.bd_category.specs.Places.{header_room, ReadsHeader}
 use Rattle.bd_category.specs.Records.{header_at, header_in, body_at}
 
 pub second : (b : Bool) (e : Damage) (x : Result Header Damage) (h : Header) → (if b then Err e else x) ≡ Ok h → (b ≡ false) × (x ≡ Ok h)
@@ -74,3 +79,20 @@ is_stored s who at to owner h low fits is =
     let middle : take 32 (drop 4 part) ≡ take 32 (drop (at + 4) owner) = (λ i. take 32 (drop (sym four_on i) part)) ∙ of_front at 32 (at + 4) to owner (omega arith) (omega (arith, fits)) in
     let whole : take h.length (drop 36 part) ≡ take h.length (drop (at + 36) owner) = (λ i. take h.length (drop (sym body_on i) part)) ∙ of_front at h.length (at + 36) to owner (omega arith) (omega (arith, fits)) in
     stored_in s who at to owner part h is front middle whole
+
+-- where a header was given, its 36 bytes were read
+pub header_read : (s : Sizes) (extents : List ℕ) (at to : ℕ) (h : Header) {old new : History} → at + 36 + h.length ≤ to → ReadsHeader s extents at to old new (Ok h) → ReadsOnly (places_at s extents at 36) old new
+header_read s extents at to h {old} {new} fits reads =
+    subst (λ b. ReadsOnly (if b then [] else places_at s extents at 36) old new) (le-ltb (to - at) 36 (omega (arith, fits))) reads
+
+-- the header lies within the row
+pub header_within : (at to : ℕ) → at ≤ to → at + header_room at to ≤ to
+header_within at to low =
+    elim (nat_lt (to - at) 36) as (λ b. nat_lt (to - at) 36 ≡ b → at + (if b then 0 else 36) ≤ to) [
+      | true ↦ λ _. omega (arith, low)
+      | false ↦ λ long. omega (arith, low, ltb-false (to - at) 36 long)
+    ] refl
+
+-- what a Vec has once a part of it, that is all of it, was written over
+pub written_back : {X : Type 0} (len : ℕ) (now old first : List X) → length now ≡ length first → length first ≡ len → take len (now ++ drop (length now) old) ≡ now
+written_back len now old first same sized = take_at now (drop (length now) old) len (same ∙ sized)

@@ -29,9 +29,9 @@ use Rattle.bd_catalog.specs.Sound.{is_stored, part_holds, part_records, recipe_o
 use Rattle.bd_recipe.specs.Reading.{chunks_in, recipe_places}
 use Rattle.bd_recipe.proofs.Entries.{length-entries_in}
 use Rattle.bd_recipe.proofs.Found.{places_of_entry}
-use Rattle.bd_restore.specs.Met.{BreaksAt, HasEntry, IsNeeded, IsSeenAfter, IsWhole, MetOn}
+use Rattle.bd_restore.specs.Met.{BreaksAt, ComesTo, HasEntry, IsNeeded, IsReached, IsSeenAfter, IsWhole, MetOn}
 use Rattle.bd_restore.specs.Target.{flag_at, length_at, mark_at}
-use Rattle.bd_restore.specs.Walk.{AreFlags, is_found}
+use Rattle.bd_restore.specs.Walk.{AreFlags, HasGoodHeaders, Sought, is_found}
 use Rattle.bd_restore.proofs.Cuts.{past_sum, place_is, taken}
 use Rattle.bd_volume.proofs.WalkRecords.{part_at, records_both, row_records, walk_parts, walk_records}
 use Rattle.bd_restore.proofs.Walking.{bool_cases}
@@ -74,7 +74,13 @@ none_unlike e (y ∷ xs) none =
       some h = cc
 
 module _ (s : Sizes) (c : Catalogue) (image : List ℕ) (v : ℕ) where
-  module _ (entries : List RecipeEntry) (filled : List Bool) (damage : Damage) (old new : History) (none : AreFlags entries [] filled) (met : MetOn s v entries image filled (walk c v) damage old new) where
+  module _ (entries : List RecipeEntry) (filled : List Bool) (damage : Damage) (old new : History) (none : AreFlags entries [] filled) (met : MetOn (record { sizes = s; version = v; entries = entries }) image filled (walk c v) damage old new) where
+    abbrev w : Sought
+    w = record { sizes = s; version = v; entries = entries }
+
+    abbrev r : IsReached s image (walk c v) met.place met.spot
+    r = met.reached
+
     abbrev p : RowPlace
     p = met.place
 
@@ -83,26 +89,26 @@ module _ (s : Sizes) (c : Catalogue) (image : List ℕ) (v : ℕ) where
 
     -- the records of the walk up to it, and those behind it
     abbrev ahead : List Spot
-    ahead = spots_in s image met.before ++ met.first
+    ahead = spots_in s image r.before ++ r.first
 
     abbrev rest : List Spot
-    rest = met.later ++ spots_in s image met.behind
+    rest = r.later ++ spots_in s image r.behind
 
-    breaks : BreaksAt s v entries (records_at ahead) p x damage met.places
+    breaks : BreaksAt w (records_at ahead) p x damage met.places
     breaks = met.breaks [] none
 
     spots_are : spots_in s image (walk c v) ≡ ahead ++ (x ∷ rest)
     spots_are =
-        let front = spots_in s image met.before in
-        let behind = spots_in s image met.behind in
-        ap (spots_in s image) met.so ∙ flat_map-append (row_spots s image) met.before (p ∷ met.behind)
-        ∙ ap (λ l. front ++ (l ++ behind)) met.spots
-        ∙ ap (λ l. front ++ l) (append_assoc met.first (x ∷ met.later) behind)
-        ∙ sym (append_assoc front met.first (x ∷ rest))
+        let front = spots_in s image r.before in
+        let behind = spots_in s image r.behind in
+        ap (spots_in s image) r.so ∙ flat_map-append (row_spots s image) r.before (p ∷ r.behind)
+        ∙ ap (λ l. front ++ (l ++ behind)) r.spots
+        ∙ ap (λ l. front ++ l) (append_assoc r.first (x ∷ r.later) behind)
+        ∙ sym (append_assoc front r.first (x ∷ rest))
 
     -- ---- the damage is one of this restore
 
-    part_of : (d : Damage) → BreaksAt s v entries (records_at ahead) p x d met.places → IsOfVersion v d
+    part_of : (d : Damage) → BreaksAt w (records_at ahead) p x d met.places → IsOfVersion v d
     part_of (Header who at said left) b = tt
     part_of (Body who at recorded found) b = tt
     part_of (Length u m recorded found) b = b.0
@@ -114,7 +120,7 @@ module _ (s : Sizes) (c : Catalogue) (image : List ℕ) (v : ℕ) where
     pub met_part : IsOfVersion v damage
     met_part = part_of damage breaks
 
-    needed_by : (d : Damage) → BreaksAt s v entries (records_at ahead) p x d met.places → IsNeeded entries d
+    needed_by : (d : Damage) → BreaksAt w (records_at ahead) p x d met.places → IsNeeded entries d
     needed_by (Header who at said left) b = tt
     needed_by (Body who at recorded found) b = b.3
     needed_by (Length u m recorded found) b = tt
@@ -130,13 +136,13 @@ module _ (s : Sizes) (c : Catalogue) (image : List ℕ) (v : ℕ) where
 
     record_of : (who : Owner) (at : ℕ) → p.who ≡ who → x.at ≡ at → IsRecordOf s image (walk c v) who at p x
     record_of who at whose there = record {
-      is_row = subst (λ l. Contains l p) (sym met.so) (Contains-append_right met.before (p ∷ met.behind) p (0, omega arith, refl));
+      is_row = subst (λ l. Contains l p) (sym r.so) (Contains-append_right r.before (p ∷ r.behind) p (0, omega arith, refl));
       is_owner = whose;
       is_at = there;
-      before = met.first;
-      behind = met.later;
-      so = met.spots;
-      good = met.good;
+      before = r.first;
+      behind = r.later;
+      so = r.spots;
+      good = r.good;
     }
 
     first_unlike : (e : RecipeEntry) → x.stored.mark ≡ e.mark.0 → x.stored.length ≢ e.length → is_found (records_at ahead) e.mark.0 ≡ false → slice_get (unlike e (spots_in s image (walk c v))) 0 ≡ Some x
@@ -148,7 +154,7 @@ module _ (s : Sizes) (c : Catalogue) (image : List ℕ) (v : ℕ) where
         ∙ (λ i. none_unlike e ahead (no_element (with_mark e.mark.0 (records_at ahead)) unseen) i ++ cond (hit i) (x ∷ unlike e rest) (unlike e rest)))
 
     module _ (are : entries ≡ recipe_of s c image v) where
-      rule_of : (d : Damage) → BreaksAt s v entries (records_at ahead) p x d met.places → BreaksRule s c image (walk c v) d met.places
+      rule_of : (d : Damage) → BreaksAt w (records_at ahead) p x d met.places → BreaksRule s c image (walk c v) d met.places
       rule_of (Header who at said left) b = (p, x, record_of who at b.0 b.1, b.2)
       rule_of (Body who at recorded found) b = (p, x, record_of who at b.0 b.1, b.2)
       rule_of (Length u m recorded found) b =
@@ -163,6 +169,21 @@ module _ (s : Sizes) (c : Catalogue) (image : List ℕ) (v : ℕ) where
       rule_of (Row who start recorded found) b = absurd b
       rule_of (Missing u index m) b = absurd b
 
+      abbrev found : Sought
+      found = record { sizes = s; version = v; entries = recipe_of s c image v }
+
+      breaks_found : BreaksAt found (records_at ahead) p x damage met.places
+      breaks_found = subst (λ es. BreaksAt (record { sizes = s; version = v; entries = es }) (records_at ahead) p x damage met.places) are breaks
+
+      comes_of : (d : Damage) → BreaksAt found (records_at ahead) p x d met.places → ComesTo found image (walk c v) d met.places
+      comes_of (Header who at said left) b = (p, x, r, b)
+      comes_of (Body who at recorded found) b = (p, x, r, b)
+      comes_of (Length u m recorded found) b = (p, x, r, b)
+      comes_of (Row who start recorded found) b = (p, x, r, b)
+      comes_of (Entry u index said start) b = tt
+      comes_of (Sum u recorded found) b = tt
+      comes_of (Missing u index m) b = absurd b
+
       pub met_seen : IsSeenAfter s c image v damage old new
       met_seen = record {
         places = met.places;
@@ -170,6 +191,7 @@ module _ (s : Sizes) (c : Catalogue) (image : List ℕ) (v : ℕ) where
         so = met.read.so;
         read = All-weaker (λ k. Contains met.read.more k) (λ k. Contains (recipe_places s c v ++ met.read.more) k) (λ k h. Contains-append_right (recipe_places s c v) met.read.more k h) met.places met.read.all;
         breaks = rule_of damage breaks;
+        comes = comes_of damage breaks_found;
       }
 
     -- ---- where the walk is whole no damage is met
@@ -180,35 +202,35 @@ module _ (s : Sizes) (c : Catalogue) (image : List ℕ) (v : ℕ) where
     module _ (sound : IsWhole s c image v entries) where
       part_is : part_holds s (part_at s image p) ≡ true
       part_is =
-          let all : list_all (part_holds s) (map (part_at s image) (met.before ++ (p ∷ met.behind))) ≡ true =
-          ap (λ l. list_all (part_holds s) (map (part_at s image) l)) (sym met.so) ∙ ap (list_all (part_holds s)) (walk_parts s image c v) ∙ sound.rows in
-          let joined : list_all (part_holds s) (map (part_at s image) met.before ++ map (part_at s image) (p ∷ met.behind)) ≡ true = ap (list_all (part_holds s)) (sym (map-append (part_at s image) met.before (p ∷ met.behind))) ∙ all in
-          let behind = right_and (list_all (part_holds s) (map (part_at s image) met.before)) (list_all (part_holds s) (map (part_at s image) (p ∷ met.behind))) (sym (list_all-append (part_holds s) (map (part_at s image) met.before) (map (part_at s image) (p ∷ met.behind))) ∙ joined) in
-          left_and (part_holds s (part_at s image p)) (list_all (part_holds s) (map (part_at s image) met.behind)) behind
+          let all : list_all (part_holds s) (map (part_at s image) (r.before ++ (p ∷ r.behind))) ≡ true =
+          ap (λ l. list_all (part_holds s) (map (part_at s image) l)) (sym r.so) ∙ ap (list_all (part_holds s)) (walk_parts s image c v) ∙ sound.rows in
+          let joined : list_all (part_holds s) (map (part_at s image) r.before ++ map (part_at s image) (p ∷ r.behind)) ≡ true = ap (list_all (part_holds s)) (sym (map-append (part_at s image) r.before (p ∷ r.behind))) ∙ all in
+          let behind = right_and (list_all (part_holds s) (map (part_at s image) r.before)) (list_all (part_holds s) (map (part_at s image) (p ∷ r.behind))) (sym (list_all-append (part_holds s) (map (part_at s image) r.before) (map (part_at s image) (p ∷ r.behind))) ∙ joined) in
+          left_and (part_holds s (part_at s image p)) (list_all (part_holds s) (map (part_at s image) r.behind)) behind
 
       abbrev front : List Stored
-      front = records_at met.first
+      front = records_at r.first
 
       abbrev back : List Stored
-      back = x.stored ∷ records_at met.later
+      back = x.stored ∷ records_at r.later
 
       records_are : part_records (part_at s image p) ≡ front ++ back
-      records_are = sym (row_records s image p) ∙ ap records_at met.spots ∙ records_both s image met.first (x ∷ met.later)
+      records_are = sym (row_records s image p) ∙ ap records_at r.spots ∙ records_both s image r.first (x ∷ r.later)
 
       each_holds : list_all (stored_holds s) (front ++ back) ≡ true
       each_holds = ap (list_all (stored_holds s)) (sym records_are) ∙ left_and (list_all (stored_holds s) (part_records (part_at s image p))) (taken (part_records (part_at s image p)) == p.row.bytes) part_is
 
       stored_is : stored_holds s x.stored ≡ true
       stored_is =
-          left_and (stored_holds s x.stored) (list_all (stored_holds s) (records_at met.later))
+          left_and (stored_holds s x.stored) (list_all (stored_holds s) (records_at r.later))
           (right_and (list_all (stored_holds s) front) (list_all (stored_holds s) back) (sym (list_all-append (stored_holds s) front back) ∙ each_holds))
 
       fits_in : x.at + 36 + x.stored.length ≤ row_end p
       fits_in =
           let size : taken (front ++ back) ≡ p.row.bytes = ap taken (sym records_are) ∙ eqb-true (taken (part_records (part_at s image p))) p.row.bytes (right_and (list_all (stored_holds s) (part_records (part_at s image p))) (taken (part_records (part_at s image p)) == p.row.bytes) part_is) in
           let sum : taken (front ++ back) ≡ taken front + taken back = sum_by-append (λ (r : Stored). 36 + r.length) front back in
-          let one : taken back ≡ 36 + x.stored.length + taken (records_at met.later) = sum_by-cons (λ (r : Stored). 36 + r.length) x.stored (records_at met.later) in
-          omega (arith, place_is p.extents (row_bytes s image p) p.row.chunks p.from met.first x met.later met.spots, past_sum p.from met.first, size, sum, one)
+          let one : taken back ≡ 36 + x.stored.length + taken (records_at r.later) = sum_by-cons (λ (r : Stored). 36 + r.length) x.stored (records_at r.later) in
+          omega (arith, place_is p.extents (row_bytes s image p) p.row.chunks p.from r.first x r.later r.spots, past_sum p.from r.first, size, sum, one)
 
       fronts : (length_holds s x.stored.length && length x.stored.body == x.stored.length) ≡ true
       fronts = left_and (length_holds s x.stored.length && length x.stored.body == x.stored.length) (bytes_eq (mark x.stored.body) x.stored.mark) stored_is
@@ -240,7 +262,7 @@ module _ (s : Sizes) (c : Catalogue) (image : List ℕ) (v : ℕ) where
           let equal : x.stored.length ≡ e.length = eqb-true x.stored.length e.length (left_and (same_size x.stored) (list_all same_size behind) here) in
           differs (equal ∙ sym entry.3 ∙ has.is_length)
 
-      no_damage : (d : Damage) → BreaksAt s v entries (records_at ahead) p x d met.places → ⊥
+      no_damage : (d : Damage) → BreaksAt w (records_at ahead) p x d met.places → ⊥
       no_damage (Header who at said left) b = good_header said left b.2
       no_damage (Body who at recorded found) b =
           let same : found.0 ≡ recorded.0 = b.2.2 ∙ marked ∙ sym b.2.1 in
@@ -260,8 +282,8 @@ module _ (s : Sizes) (c : Catalogue) (image : List ℕ) (v : ℕ) where
     not_found : is_found (records_for s c image v) (mark_at entries k) ≡ false
     not_found = sym (flags.each k lt) ∙ miss
 
-    pub missing_seen : (m : Mark) (more : List ℕ) {old new : History} → m.0 ≡ mark_at entries k → entries ≡ recipe_of s c image v → ReadsOnly more old new → IsSeenAfter s c image v (Missing v k m) old new
-    missing_seen m more is_mark is reads =
+    pub missing_seen : (m : Mark) (more : List ℕ) {old new : History} → m.0 ≡ mark_at entries k → entries ≡ recipe_of s c image v → ReadsOnly more old new → HasGoodHeaders s image (walk c v) → IsSeenAfter s c image v (Missing v k m) old new
+    missing_seen m more is_mark is reads good =
         let no_one : RecipeEntry = record { mark = m; length = 0; start = 0 } in
         let recipe = recipe_of s c image v in
         let inside : k < length recipe = subst (λ l. k < length l) is lt in
@@ -275,6 +297,7 @@ module _ (s : Sizes) (c : Catalogue) (image : List ℕ) (v : ℕ) where
           read = All-weaker (λ x. Contains (recipe_places s c v) x) (λ x. Contains (recipe_places s c v ++ more) x) (λ x h. Contains-append_left (recipe_places s c v) more x h) (places_at s (recipe_extents c v) (40 * k) 40)
               (places_of_entry s (recipe_extents c v) k (chunks_in c v) (omega (arith, inside, count)));
           breaks = (e, slice_get-get_or recipe k no_one inside, (λ i. record { 0 = marks i }), no_element (with_mark m.0 (records_for s c image v)) (ap (λ l. nat_lt 0 (length (with_mark l (records_for s c image v)))) is_mark ∙ not_found), refl);
+          comes = good;
         }
 
     pub missing_whole : IsWhole s c image v entries → ⊥

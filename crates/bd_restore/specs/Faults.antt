@@ -1,5 +1,5 @@
 -- Why a version wasn't given back, and by which count.
-use Rattle.std.specs.Prelude.{◌≡◌, ℕ, ◌≤◌, Result, Ok, Err}
+use Rattle.std.specs.Prelude.{◌≡◌, ◌≢◌, ℕ, ◌≤◌, Result, Ok, Err}
 use Rattle.bd_disk.specs.Calls.{Rose}
 use Rattle.bd_model.specs.declared.damage.Damage.{Damage}
 use Rattle.bd_category.specs.declared.fault.CategoryFault.{CategoryFault}
@@ -35,6 +35,12 @@ pub record FailsByDisk {T : Type 0} (before now : ℕ) (result : Result T Restor
 pub record FailsByTarget {T : Type 0} (before now : ℕ) (result : Result T RestoreFault) : Type 0 where
   pub later : before ≤ now
   pub cause : TargetByCount before now result
+
+-- the one and the other, and no want of memory; the counts of the disk come first
+pub record FailsByCounts {T : Type 0} (reads reads_now puts puts_now : ℕ) (result : Result T RestoreFault) : Type 0 where
+  pub disk : FailsByDisk reads reads_now result
+  pub target : FailsByTarget puts puts_now result
+  pub memory : result ≢ Err OutOfMemory
 
 -- no fault of the disk, and no want of memory
 abbrev pub OfTarget : {T : Type 0} → Result T RestoreFault → Type 0

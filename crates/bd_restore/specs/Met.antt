@@ -1,7 +1,8 @@
 -- A damage that a restore meets on its walk, and the walks that meet none.
 use Rattle.std.specs.Prelude.{◌≡◌, ◌≢◌, ℕ, ◌<◌, List, ◌∷◌, ◌++◌, length, Bool, All, Contains, IsTrue, IsFalse}
 use Rattle.std.specs.List.{list_all}
-use Rattle.bd_disk.specs.History.{History}
+use Rattle.bd_disk.specs.History.{History, contents}
+use Rattle.bd_disk.specs.declared.disk.Disk.{Ghosts}
 use Rattle.bd_disk.specs.Trace.{reads, HasRead}
 use Rattle.bd_model.specs.Sizes.{Sizes}
 use Rattle.bd_model.specs.Recipe.{has_mark}
@@ -11,11 +12,12 @@ use Rattle.bd_model.specs.declared.damage.Damage.TheVariants.{Entry, Sum, Header
 use Rattle.bd_model.specs.declared.layout.RecipeEntry.{RecipeEntry}
 use Rattle.bd_catalog.specs.Catalogue.{Catalogue}
 use Rattle.bd_catalog.specs.Damages.{BreaksRule, IsBadBody, IsBadHeader, header_holds, record_places}
-use Rattle.bd_catalog.specs.Rows.{RowPlace, Spot, records_at, row_spots, spots_in, walk}
-use Rattle.bd_catalog.specs.Sound.{is_stored, part_holds, parts_for, records_for}
+use Rattle.bd_catalog.specs.Rows.{RowPlace, Spot, records_at, row_spots, spot_in, spots_in, walk}
+use Rattle.bd_catalog.specs.Sound.{is_stored, part_holds, parts_for, recipe_of, records_for}
 use Rattle.bd_recipe.specs.Reading.{recipe_places}
 use Rattle.bd_restore.specs.Target.{mark_at, length_at}
-use Rattle.bd_restore.specs.Walk.{AreFlags, is_found}
+use Rattle.bd_restore.specs.Walk.{is_found, AreFlags, HasGoodHeaders, Sought}
+use Rattle.bd_restore.specs.Went.{Moment}
 
 -- ---- at one record
 
@@ -27,41 +29,68 @@ pub record HasEntry (entries : List RecipeEntry) (m : List ℕ) (n : ℕ) : Type
   pub is_length : length_at entries index ≡ n
 
 -- The record x of the row p breaks the rule that the damage names, which names the bytes at these places; the records
--- `seen` lie before it on the walk, and it is a restore of version v with these entries.
-abbrev pub BreaksAt : Sizes → ℕ → List RecipeEntry → List Stored → RowPlace → Spot → Damage → List ℕ → Type 0
-BreaksAt s v entries seen p x (Header who at said left) places = (p.who ≡ who) × (x.at ≡ at) × IsBadHeader s p x said left places
-BreaksAt s v entries seen p x (Body who at recorded found) places =
-    (p.who ≡ who) × (x.at ≡ at) × IsBadBody s p x recorded found places × IsTrue (has_mark entries recorded.0)
-BreaksAt s v entries seen p x (Length u m recorded found) places =
-    (u ≡ v) × HasEntry entries m.0 recorded × (x.stored.mark ≡ m.0) × (x.stored.length ≡ found) × (found ≢ recorded) × IsFalse (is_found seen m.0)
-    × (places ≡ record_places s x)
-BreaksAt s v entries seen p x (Entry u index said start) places = ⊥
-BreaksAt s v entries seen p x (Sum u recorded found) places = ⊥
-BreaksAt s v entries seen p x (Row who start recorded found) places = ⊥
-BreaksAt s v entries seen p x (Missing u index m) places = ⊥
+-- `seen` lie before it on the walk.
+abbrev pub BreaksAt : Sought → List Stored → RowPlace → Spot → Damage → List ℕ → Type 0
+BreaksAt w seen p x (Header who at said left) places = (p.who ≡ who) × (x.at ≡ at) × IsBadHeader w.sizes p x said left places
+BreaksAt w seen p x (Body who at recorded found) places =
+    (p.who ≡ who) × (x.at ≡ at) × IsBadBody w.sizes p x recorded found places × IsTrue (has_mark w.entries recorded.0)
+BreaksAt w seen p x (Length u m recorded found) places =
+    (u ≡ w.version) × HasEntry w.entries m.0 recorded × (x.stored.mark ≡ m.0) × (x.stored.length ≡ found) × (found ≢ recorded) × IsFalse (is_found seen m.0)
+    × (places ≡ record_places w.sizes x)
+BreaksAt w seen p x (Entry u index said start) places = ⊥
+BreaksAt w seen p x (Sum u recorded found) places = ⊥
+BreaksAt w seen p x (Row who start recorded found) places = ⊥
+BreaksAt w seen p x (Missing u index m) places = ⊥
 
 -- the reading of the record x of the row p met the damage, where an entry was filled for each mark that was seen
-pub record MetAt (s : Sizes) (v : ℕ) (entries : List RecipeEntry) (filled : List Bool) (p : RowPlace) (x : Spot) (damage : Damage) (old new : History) : Type 0 where
+pub record MetAt (w : Sought) (filled : List Bool) (p : RowPlace) (x : Spot) (damage : Damage) (old new : History) : Type 0 where
   pub places : List ℕ
-  pub breaks : (seen : List Stored) → AreFlags entries seen filled → BreaksAt s v entries seen p x damage places
+  pub breaks : (seen : List Stored) → AreFlags w.entries seen filled → BreaksAt w seen p x damage places
   pub read : HasRead places old new
+
+-- where the disk tells, the reading of the record at this place of the row met the damage
+abbrev pub MeetsAt : {D F : Type 0} → Ghosts D → Sought → RowPlace → ℕ → Moment D F → Moment D F → Damage → Type 0
+MeetsAt d w p at old new damage =
+    d.tells → MetAt w old.progress.filled.items p (spot_in w.sizes (contents (d.history old.disk)) p at) damage (d.history old.disk) (d.history new.disk)
 
 -- ---- on a walk
 
--- the walk over these rows met the damage, at the record `spot` of the row `place`, behind records whose headers hold
-pub record MetOn (s : Sizes) (v : ℕ) (entries : List RecipeEntry) (image : List ℕ) (filled : List Bool) (rows : List RowPlace) (damage : Damage) (old new : History) : Type 0 where
+-- the record x is one of the row p, which is one of these, and the header of each record before it holds
+pub record IsReached (s : Sizes) (image : List ℕ) (rows : List RowPlace) (p : RowPlace) (x : Spot) : Type 0 where
   pub before : List RowPlace
-  pub place : RowPlace
   pub behind : List RowPlace
-  pub so : rows ≡ before ++ (place ∷ behind)
+  pub so : rows ≡ before ++ (p ∷ behind)
+  pub ahead : HasGoodHeaders s image before
   pub first : List Spot
-  pub spot : Spot
   pub later : List Spot
-  pub spots : row_spots s image place ≡ first ++ (spot ∷ later)
-  pub good : IsTrue (list_all (header_holds s place) first)
+  pub spots : row_spots s image p ≡ first ++ (x ∷ later)
+  pub good : IsTrue (list_all (header_holds s p) first)
+
+-- the records before it
+abbrev pub records_before : {s : Sizes} {image : List ℕ} {rows : List RowPlace} {p : RowPlace} {x : Spot} → IsReached s image rows p x → List Stored
+records_before {s} {image} reached = records_at (spots_in s image reached.before ++ reached.first)
+
+-- the walk over these rows met the damage, at the record `spot` of the row `place`
+pub record MetOn (w : Sought) (image : List ℕ) (filled : List Bool) (rows : List RowPlace) (damage : Damage) (old new : History) : Type 0 where
+  pub place : RowPlace
+  pub spot : Spot
+  pub reached : IsReached w.sizes image rows place spot
   pub places : List ℕ
-  pub breaks : (seen : List Stored) → AreFlags entries seen filled → BreaksAt s v entries (seen ++ records_at (spots_in s image before ++ first)) place spot damage places
+  pub breaks : (seen : List Stored) → AreFlags w.entries seen filled → BreaksAt w (seen ++ records_before reached) place spot damage places
   pub read : HasRead places old new
+
+abbrev pub MeetsOn : {D F : Type 0} → Ghosts D → Sought → List RowPlace → Moment D F → Moment D F → Damage → Type 0
+MeetsOn d w rows old new damage =
+    d.tells → MetOn w (contents (d.history old.disk)) old.progress.filled.items rows damage (d.history old.disk) (d.history new.disk)
+
+-- A restore came to what the damage names: to a record that breaks the rule, behind records whose headers hold; to an entry
+-- without a record behind a walk on which all hold. A damage of the recipe comes before the walk.
+abbrev pub ComesTo : Sought → List ℕ → List RowPlace → Damage → List ℕ → Type 0
+ComesTo w image rows (Entry u index said start) places = Unit {0}
+ComesTo w image rows (Sum u recorded found) places = Unit {0}
+ComesTo w image rows (Missing u index m) places = HasGoodHeaders w.sizes image rows
+ComesTo w image rows damage places =
+    (p : RowPlace) × (x : Spot) × (reached : IsReached w.sizes image rows p x) × BreaksAt w (records_before reached) p x damage places
 
 -- each row of the walk of version v holds, and so is each of these entries stored there
 pub record IsWhole (s : Sizes) (c : Catalogue) (image : List ℕ) (v : ℕ) (entries : List RecipeEntry) : Type 0 where
@@ -74,10 +103,11 @@ IsNeeded entries (Body who place recorded found) = IsTrue (has_mark entries reco
 IsNeeded entries _ = Unit {0}
 
 -- the bytes that the damage names were read between these moments, or are of the recipe of version v, which was read
--- before; and they break its rule, where a restore of v looks
+-- before; they break its rule, where a restore of v looks, and the restore came to it
 pub record IsSeenAfter (s : Sizes) (c : Catalogue) (image : List ℕ) (v : ℕ) (damage : Damage) (old new : History) : Type 0 where
   pub places : List ℕ
   pub more : List ℕ
   pub so : reads new ≡ reads old ++ more
   pub read : All (λ place. Contains (recipe_places s c v ++ more) place) places
   pub breaks : BreaksRule s c image (walk c v) damage places
+  pub comes : ComesTo (record { sizes = s; version = v; entries = recipe_of s c image v }) image (walk c v) damage places

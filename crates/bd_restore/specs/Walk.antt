@@ -1,5 +1,6 @@
 -- What a restore reads of the records on its walk, and what it has given back by then.
-use Rattle.std.specs.Prelude.{◌≡◌, ℕ, ◌+◌, ◌<◌, Bool, ◌&&◌, not, List, [], ◌∷◌, ◌++◌, length, flat_map, nat_lt, ◌*◌, ◌≤◌, IsTrue, if◌then◌else◌}
+use Rattle.std.specs.Prelude.{◌≡◌, ℕ, ◌+◌, ◌<◌, Bool, ◌&&◌, not, List, [], ◌∷◌, ◌++◌, length, flat_map, nat_lt, ◌*◌, ◌≤◌, Contains, IsTrue, if◌then◌else◌}
+use Rattle.std.specs.List.{list_all}
 use Rattle.bd_disk.specs.History.{History}
 use Rattle.bd_disk.specs.Trace.{ReadsOnly}
 use Rattle.bd_model.specs.Sizes.{Sizes}
@@ -8,11 +9,17 @@ use Rattle.bd_model.specs.Marks.{mark}
 use Rattle.bd_model.specs.Recipe.{has_mark}
 use Rattle.bd_model.specs.Records.{Stored}
 use Rattle.bd_model.specs.declared.layout.RecipeEntry.{RecipeEntry}
-use Rattle.bd_extio.specs.Ranges.{AreExtents}
+use Rattle.bd_extio.specs.Ranges.{AreExtents, InOwner}
 use Rattle.bd_catalog.specs.Damages.{header_holds}
-use Rattle.bd_catalog.specs.Rows.{RowPlace, Spot, records_at, row_end, spot_in}
+use Rattle.bd_catalog.specs.Rows.{RowPlace, Spot, records_at, row_end, row_spots, spot_in}
 use Rattle.bd_catalog.specs.Sound.{with_mark, first_body}
 use Rattle.bd_restore.specs.Target.{mark_at, chunk_at, flag_at}
+
+-- what a restore looks for: the entries of a version's recipe, in records of these sizes
+pub record Sought : Type 0 where
+  pub sizes : Sizes
+  pub version : ℕ
+  pub entries : List RecipeEntry
 
 -- the extents of the owner are there, none twice, and have room for the row
 pub record IsInRoom (s : Sizes) (p : RowPlace) : Type 0 where
@@ -62,3 +69,16 @@ pub record Gives (entries : List RecipeEntry) (spots : List Spot) (filled : List
 -- of each entry the body of the first record with its mark, one after the other
 abbrev pub joined : List RecipeEntry → List Stored → List ℕ
 joined entries records = flat_map (λ e. first_body (with_mark e.mark.0 records)) entries
+
+-- the header of each record of these rows holds
+pub record HasGoodHeaders (s : Sizes) (image : List ℕ) (rows : List RowPlace) : Type 0 where
+  pub each : IsTrue (list_all (λ p. list_all (header_holds s p) (row_spots s image p)) rows)
+
+-- a place of a byte of the row, and of one of these rows
+abbrev pub InRow : Sizes → RowPlace → ℕ → Type 0
+InRow s p place = InOwner s p.extents p.from p.row.bytes place
+
+pub record InRows (s : Sizes) (rows : List RowPlace) (place : ℕ) : Type 0 where
+  pub row : RowPlace
+  pub is_row : Contains rows row
+  pub within : InRow s row place

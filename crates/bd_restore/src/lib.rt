@@ -1,10 +1,9 @@
 //! Restores: which records a restore of a version walks over, and how it gives the version's stream back.
 #![tactic(auto)]
 
-mod actives;
 mod fault;
 mod missing;
-mod piece;
+mod owner;
 mod plan;
 mod put;
 mod record;
@@ -12,7 +11,7 @@ mod run;
 mod tables;
 #[cfg(test)]
 mod tests;
-mod volumes;
+mod walk;
 
 pub use bd_recipe::ReadFault;
 pub use fault::RestoreFault;

@@ -2,10 +2,9 @@
 ghost use Rattle.std.specs.Prelude.{◌≡◌, ◌≢◌, ℕ, ◌<◌, ◌≤◌, length, true, OnOk, slice_set};
 ghost use Rattle.std.specs.FinMap as map;
 ghost use Rattle.bd_disk.specs.Images.{overwritten};
-ghost use Rattle.bd_files.specs.Files.{ChangesOnly};
 ghost use Rattle.bd_restore.specs.Faults.{FailsByTarget, IfDamaged, OfTarget};
 ghost use Rattle.bd_restore.specs.Met.{HasEntry};
-ghost use Rattle.bd_restore.specs.Target.{held, length_at, mark_at, place_at, IsTarget, Fills, Puts};
+ghost use Rattle.bd_restore.specs.Target.{held, length_at, mark_at, place_at, ChangesTarget, Fills, IsTarget, Puts};
 
 use crate::fault::RestoreFault;
 use crate::tables::Tables;
@@ -28,9 +27,7 @@ fn put_at<F: Files>(
     requires there { F.tells → IsTarget tables.now name.now (F.files files.old) }
     ensures cause { FailsByTarget (F.target_faults files.old) (F.target_faults files.new) result }
     ensures only { OfTarget result }
-    ensures sources { F.source_faults files.new ≡ F.source_faults files.old }
-    ensures strays { F.tells → F.strays files.new ≡ F.strays files.old }
-    ensures others { F.tells → ChangesOnly name.now (F.files files.old) (F.files files.new) }
+    ensures files { ChangesTarget F.Files name.now files.old files.new }
     ensures sized { OnOk result (length body.now ≡ length_at tables.now index) }
     ensures filled { OnOk result (filled.new ≡ slice_set filled.old index true) }
     ensures put { OnOk result (F.tells → F.files files.new ≡ map.insert (F.files files.old) name.now (overwritten (held (F.files files.old) name.now) (place_at tables.now index) body.now)) }
@@ -55,6 +52,7 @@ fn put_at<F: Files>(
 }
 
 /// Puts the body at the place of each entry with this mark.
+#[tactic(auto, using(crate::proofs::Frames::targets))]
 pub(crate) fn put_everywhere<F: Files>(
     tables: &Tables,
     version: u32,
@@ -69,9 +67,7 @@ pub(crate) fn put_everywhere<F: Files>(
     requires there { F.tells → IsTarget tables.now name.now (F.files files.old) }
     ensures cause { FailsByTarget (F.target_faults files.old) (F.target_faults files.new) result }
     ensures only { OfTarget result }
-    ensures sources { F.source_faults files.new ≡ F.source_faults files.old }
-    ensures strays { F.tells → F.strays files.new ≡ F.strays files.old }
-    ensures others { F.tells → ChangesOnly name.now (F.files files.old) (F.files files.new) }
+    ensures files { ChangesTarget F.Files name.now files.old files.new }
     ensures there { OnOk result (F.tells → IsTarget tables.now name.now (F.files files.new)) }
     ensures filled { OnOk result (Fills tables.now mark.now.0 (length tables.now) filled.old filled.new) }
     ensures put { OnOk result (F.tells → Puts tables.now mark.now.0 body.now (length tables.now) (held (F.files files.old) name.now) (held (F.files files.new) name.now)) }

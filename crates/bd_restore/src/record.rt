@@ -1,28 +1,33 @@
 //! One record of the walk.
-ghost use Rattle.std.specs.Prelude.{◌≡◌, ◌≢◌, ◌+◌, ◌*◌, ◌≤◌, [], ◌∷◌, List, length, OnOk, IfOk, Err};
-ghost use Rattle.bd_disk.specs.History.{contents};
-ghost use Rattle.bd_disk.specs.Made.{WritesNothing};
-ghost use Rattle.bd_catalog.specs.Rows.{row_place, spot_in};
-ghost use Rattle.bd_files.specs.Files.{ChangesOnly};
-ghost use Rattle.bd_model.specs.Sizes.{sizes_of, disk_bytes};
+ghost use Rattle.std.specs.Prelude.{◌≡◌, ◌+◌, ◌≤◌, List, length, take, OnOk, IfOk};
+ghost use Rattle.bd_disk.specs.Calls.{FailsByCount};
+ghost use Rattle.bd_disk.specs.Runs.{Reads};
+ghost use Rattle.bd_extio.specs.Owned.{owned_on};
+ghost use Rattle.bd_extio.specs.Ranges.{AreExtents, IsWithin};
+ghost use Rattle.bd_category.specs.Places.{InBody, ReadsBody};
+ghost use Rattle.bd_category.specs.Records.{AnswersBody, body_at, is_disk_fault};
+ghost use Rattle.bd_catalog.specs.Rows.{row_end};
+ghost use Rattle.bd_model.specs.Sizes.{disk_bytes};
 ghost use Rattle.bd_model.specs.Records.{Stored};
-ghost use Rattle.bd_extio.specs.Ranges.{AreExtents};
-ghost use Rattle.bd_restore.specs.Faults.{FailsByDisk, FailsByTarget, IfDamaged};
-ghost use Rattle.bd_restore.specs.Met.{MetAt};
-ghost use Rattle.bd_restore.specs.Target.{held, IsTarget};
-ghost use Rattle.bd_restore.specs.Walk.{is_wanted, AreFlags, Gives, GoesOver, Walks};
+ghost use Rattle.bd_restore.specs.Faults.{FailsByCounts, IfDamaged};
+ghost use Rattle.bd_restore.specs.Met.{MeetsAt};
+ghost use Rattle.bd_restore.specs.Target.{ChangesTarget};
+ghost use Rattle.bd_restore.specs.Walk.{is_wanted, AreFlags, InRow, IsInRoom};
+ghost use Rattle.bd_restore.specs.Went.{aim_of, moment, placed_row, sizes_at, sought_by, IsReady, Passes, WentPast};
 
 use crate::fault::RestoreFault;
+use crate::plan::{Progress, Wanted};
 use crate::put::put_everywhere;
 use crate::tables::Tables;
-use bd_category::{read_body, read_header};
+use bd_category::{CategoryFault, Header, read_body, read_header};
 use bd_disk::Disk;
 use bd_files::Files;
 use bd_model::{CategoryRow, Mark, Name, Owner, Shape};
 
 /// A row of a closed volume, or an open category: whose it is, that owner's extents, and where it begins among their bytes.
 #[derive(Clone, Copy)]
-pub(crate) struct Piece<'a> {
+pub(crate) struct Placed<'a> {
+    pub(crate) shape: &'a Shape,
     pub(crate) who: Owner,
     pub(crate) extents: &'a [u32],
     pub(crate) from: u64,
@@ -40,50 +45,67 @@ fn wants(tables: &Tables, filled: &[bool], mark: &Mark) -> bool
     }
 }
 
-/// Reads the record at place `at`: its header, and where its body is wanted that too, which is put at each of its places.
-/// The answer is where the record ends.
-pub(crate) fn read_record<D: Disk, F: Files>(
+// Reads the body behind a header into the front of the buffer.
+fn read_front<D: Disk>(
     disk: &mut D,
-    shape: &Shape,
-    piece: &Piece<'_>,
-    at: u64,
-    version: u32,
-    tables: &Tables,
-    filled: &mut [bool],
+    placed: &Placed<'_>,
+    header: &Header,
     buffer: &mut [u8],
-    files: &mut F,
-    name: &Name,
-) -> Result<u64, RestoreFault>
-    requires room { disk_bytes (sizes_of shape.now) ≤ D.bytes disk.old }
-    requires numbers { AreExtents (sizes_of shape.now) piece.now.extents.now }
-    requires from { at ≤ piece.now.from + piece.now.row.bytes }
-    requires to { piece.now.from + piece.now.row.bytes ≤ length piece.now.extents.now * shape.now.extent }
-    requires flags { length filled.old ≡ length tables.now }
-    requires buffer { length buffer.old ≡ shape.now.max }
-    requires there { F.tells → IsTarget tables.now name.now (F.files files.old) }
-    ensures bytes { D.bytes disk.new ≡ D.bytes disk.old }
-    ensures cause { FailsByDisk (D.faults disk.old) (D.faults disk.new) result }
-    ensures target { FailsByTarget (F.target_faults files.old) (F.target_faults files.new) result }
-    ensures memory { result ≢ Err RestoreFault.OutOfMemory }
-    ensures sources { F.source_faults files.new ≡ F.source_faults files.old }
-    ensures strays { F.tells → F.strays files.new ≡ F.strays files.old }
-    ensures others { F.tells → ChangesOnly name.now (F.files files.old) (F.files files.new) }
-    ensures writes { D.tells → WritesNothing (D.history disk.old) (D.history disk.new) }
-    ensures within { IfOk result (λ next. next ≤ piece.now.from + piece.now.row.bytes) }
-    ensures next { IfOk result (λ next. D.tells → GoesOver (sizes_of shape.now) (contents (D.history disk.old)) (row_place piece.now.who piece.now.extents.now piece.now.from piece.now.row) at next) }
-    ensures there { OnOk result (F.tells → IsTarget tables.now name.now (F.files files.new)) }
-    ensures damage { IfDamaged result (λ damage. D.tells → MetAt (sizes_of shape.now) version tables.now filled.old (row_place piece.now.who piece.now.extents.now piece.now.from piece.now.row) (spot_in (sizes_of shape.now) (contents (D.history disk.old)) (row_place piece.now.who piece.now.extents.now piece.now.from piece.now.row) at) damage (D.history disk.old) (D.history disk.new)) }
-    ensures walk { OnOk result (D.tells → Walks (sizes_of shape.now) tables.now (spot_in (sizes_of shape.now) (contents (D.history disk.old)) (row_place piece.now.who piece.now.extents.now piece.now.from piece.now.row) at ∷ []) filled.old filled.new (D.history disk.old) (D.history disk.new)) }
-    ensures gives { OnOk result (D.tells → F.tells → Gives tables.now (spot_in (sizes_of shape.now) (contents (D.history disk.old)) (row_place piece.now.who piece.now.extents.now piece.now.from piece.now.row) at ∷ []) filled.old (held (F.files files.old) name.now) (held (F.files files.new) name.now)) }
+) -> Result<(), CategoryFault>
+    requires room { disk_bytes (sizes_at placed.now) ≤ D.bytes disk.old }
+    requires numbers { AreExtents (sizes_at placed.now) placed.now.extents.now }
+    requires within { IsWithin (sizes_at placed.now) placed.now.extents.now header.now.at (36 + header.now.length) }
+    requires sized { header.now.length ≤ length buffer.old }
+    ensures disk { Reads D.Disk (InBody (sizes_at placed.now) placed.now.extents.now header.now) disk.old disk.new }
+    ensures cause { FailsByCount is_disk_fault (D.faults disk.old) (D.faults disk.new) result }
+    ensures body { D.tells → AnswersBody placed.now.who header.now (body_at header.now (owned_on D.Disk (sizes_at placed.now) placed.now.extents.now disk.old)) (take header.now.length buffer.new) result }
+    ensures places { D.tells → ReadsBody (sizes_at placed.now) placed.now.extents.now header.now (D.history disk.old) (D.history disk.new) result }
 {
-    let end = piece.from + piece.row.bytes;
-    let header = read_header(disk, shape, piece.extents, piece.who, at, end)?;
-    let next = at + 36 + u64::from(header.length);
-    if !wants(tables, filled, &header.mark) {
-        return Ok(next);
-    }
     let body = &mut buffer[..header.length as usize];
-    read_body(disk, shape, piece.extents, piece.who, &header, body)?;
-    put_everywhere(tables, version, filled, files, name, &header.mark, body)?;
-    Ok(next)
+    read_body(disk, placed.shape, placed.extents, placed.who, header, body)
+}
+
+impl Wanted {
+    /// Reads the record at place `at`: its header, and where its body is wanted that too, which is put at each of its
+    /// places. The answer is where the record ends.
+    #[tactic(auto, using(bd_disk::proofs::RunLemmas::runs, crate::proofs::Frames::targets))]
+    pub(crate) fn read_record<D: Disk, F: Files>(
+        &self,
+        progress: &mut Progress,
+        disk: &mut D,
+        placed: &Placed<'_>,
+        at: u64,
+        files: &mut F,
+        name: &Name,
+    ) -> Result<u64, RestoreFault>
+        requires room { disk_bytes (sizes_at placed.now) ≤ D.bytes disk.old }
+        requires inside { IsInRoom (sizes_at placed.now) (placed_row placed.now) }
+        requires from { placed.now.from ≤ at }
+        requires to { at ≤ row_end (placed_row placed.now) }
+        requires ready { IsReady F.Files (aim_of (sizes_at placed.now) self.now name.now) progress.old files.old }
+        ensures disk { Reads D.Disk (InRow (sizes_at placed.now) (placed_row placed.now)) disk.old disk.new }
+        ensures files { ChangesTarget F.Files name.now files.old files.new }
+        ensures cause { FailsByCounts (D.faults disk.old) (D.faults disk.new) (F.target_faults files.old) (F.target_faults files.new) result }
+        ensures next { IfOk result (λ next. Passes D.Disk (sizes_at placed.now) (placed_row placed.now) disk.old at next) }
+        ensures went { OnOk result (WentPast D.Disk F.Files (aim_of (sizes_at placed.now) self.now name.now) (placed_row placed.now) at (moment progress.old disk.old files.old) (moment progress.new disk.new files.new)) }
+        ensures damage { IfDamaged result (MeetsAt D.Disk (sought_by (sizes_at placed.now) self.now) (placed_row placed.now) at (moment progress.old disk.old files.old) (moment progress.new disk.new files.new)) }
+    {
+        let end = placed.from + placed.row.bytes;
+        let header = read_header(disk, placed.shape, placed.extents, placed.who, at, end)?;
+        let next = at + 36 + u64::from(header.length);
+        if !wants(&self.tables, &progress.filled, &header.mark) {
+            return Ok(next);
+        }
+        read_front(disk, placed, &header, &mut progress.buffer)?;
+        put_everywhere(
+            &self.tables,
+            self.version,
+            &mut progress.filled,
+            files,
+            name,
+            &header.mark,
+            &progress.buffer[..header.length as usize],
+        )?;
+        Ok(next)
+    }
 }

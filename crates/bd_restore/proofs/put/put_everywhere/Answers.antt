@@ -1,7 +1,7 @@
 use Rattle.std.proofs.Common.{◌≡◌, ◌≢◌, ℕ, ◌<◌, ◌-◌, length, refl, ◌∙◌, ap, subst, arith}
 use Rattle.bd_restore.specs.Target.{held, mark_at, Fills, Puts}
 use Rattle.bd_restore.proofs.Marks.{limit_of, IsAt, first_at, none_first, next_at, none_next, next_later}
-use Rattle.bd_files.proofs.FileLemmas.{changes_none, changes_both}
+use Rattle.bd_restore.proofs.Frames.{target_both, target_none}
 use Rattle.bd_restore.proofs.Putting.{target_after, puts_none, puts_more, fills_none, fills_more}
 use Rattle.bd_restore.proofs.put.put_everywhere.Goals as goal
 
@@ -14,9 +14,7 @@ loop-next-init g c =
     record {
       at = first_at entries m found c.first-next.ensures.within c.first-next.ensures.index;
       faults = refl;
-      sources = refl;
-      strays = λ told. refl;
-      others = λ told. changes_none c.args.name.now (g.F.Files.files c.args.files.now);
+      files = target_none;
       there = c.requires.there;
       filled = fills_none entries m c.args.filled.now (limit_of entries found) none;
       put = λ told. puts_none entries m c.args.body.now (held (g.F.Files.files c.args.files.now) c.args.name.now) (limit_of entries found) none;
@@ -38,9 +36,7 @@ loop-next-preserved g c =
     record {
       at = next_at entries m j at.0 at.1 found c.next-next.ensures.later c.next-next.ensures.index;
       faults = c.in_ok-put_at.ensures.cause.cause ∙ inv.faults;
-      sources = c.put_at.ensures.sources ∙ inv.sources;
-      strays = λ told. c.put_at.ensures.strays told ∙ inv.strays told;
-      others = λ told. changes_both name _ _ _ (inv.others told) (c.put_at.ensures.others told);
+      files = target_both inv.files c.put_at.ensures.files;
       there = λ told. target_after entries name body j (g.F.Files.files c.loop-next.files) _ (inv.there told) (c.in_ok-put_at.ensures.put told);
       filled = fills_more entries m j (limit_of entries found) c.args.filled.now c.loop-next.filled _ at.0 (inv.filled.count ∙ c.requires.flags) at.1 gap c.in_ok-put_at.ensures.filled
           (subst (λ n. Fills entries m n c.args.filled.now c.loop-next.filled) reached inv.filled);

@@ -1,6 +1,5 @@
 use Rattle.std.proofs.Common.{◌≡◌, ◌-◌, length}
-use Rattle.bd_files.specs.Files.{ChangesOnly}
-use Rattle.bd_restore.specs.Target.{held, IsTarget, Fills, Puts}
+use Rattle.bd_restore.specs.Target.{held, ChangesTarget, Fills, IsTarget, Puts}
 use Rattle.bd_restore.proofs.Marks.{limit_of, IsAt}
 use Rattle.bd_restore.proofs.put.put_everywhere.Given as goal
 
@@ -8,9 +7,7 @@ abbrev pub invariant-loop-next : goal.invariant-loop-next
 invariant-loop-next g l = record {
   at : IsAt l.tables l.mark.0 l.next;
   faults : g.F.Files.target_faults l.files ≡ g.F.Files.target_faults l.fn.files;
-  sources : g.F.Files.source_faults l.files ≡ g.F.Files.source_faults l.fn.files;
-  strays : g.F.Files.tells → g.F.Files.strays l.files ≡ g.F.Files.strays l.fn.files;
-  others : g.F.Files.tells → ChangesOnly l.name (g.F.Files.files l.fn.files) (g.F.Files.files l.files);
+  files : ChangesTarget g.F.Files l.name l.fn.files l.files;
   there : g.F.Files.tells → IsTarget l.tables l.name (g.F.Files.files l.files);
   filled : Fills l.tables l.mark.0 (limit_of l.tables l.next) l.fn.filled l.filled;
   put : g.F.Files.tells → Puts l.tables l.mark.0 l.body (limit_of l.tables l.next) (held (g.F.Files.files l.fn.files) l.name) (held (g.F.Files.files l.files) l.name);
