@@ -1,4 +1,4 @@
-//! A version given back, and what damage on the way says.
+//! Versions given back from images that hold several, and what damage on the way says.
 use crate::*;
 use bd_catalog::Catalog;
 use bd_category::write_chunk;
@@ -10,73 +10,80 @@ use bd_recipe::write_entries;
 use std::alloc::Global;
 use std::test::Fail;
 
-/// One version of 16 bytes in four chunks, three of which are the same. Its recipe lies in the extents 3, 1 and 5, its two
-/// records in the extents 0 and 2.
-const ONE: [u8; 93] = [
-    // base, newest, one version, settled
-    0, 0, 0, 0, 0, 0, 0, 1, 0, 0, 0, 1, 0, 0, 0, 0, 0,
-    // version 1: 16 bytes, four chunks, two of them fresh, three extents
-    0, 0, 0, 0, 0, 0, 0, 16, 0, 0, 0, 0, 0, 0, 0, 4, 0, 0, 0, 0, 0, 0, 0, 2, 0, 0, 0, 3, 0, 0, 0,
-    3, 0, 0, 0, 1, 0, 0, 0, 5,
-    // one open category, of start 1, two chunks in 80 bytes, two extents
-    0, 0, 0, 1, 0, 0, 0, 1, 0, 0, 0, 0, 0, 0, 0, 2, 0, 0, 0, 0, 0, 0, 0, 80, 0, 0, 0, 2, 0, 0, 0,
-    0, 0, 0, 0, 2,
-];
-
-/// Two versions of 12 bytes, arranged: the closed volume of version 1 has one row with one chunk, in the extent 4, the open
-/// categories have two chunks in the extents 5 and 6, and one in the extent 7.
-const TWO: [u8; 185] = [
-    // base, newest, two versions, settled
-    0, 0, 0, 0, 0, 0, 0, 2, 0, 0, 0, 2, 0, 0, 0, 0, 0,
-    // version 1: 12 bytes, three chunks, three of them fresh, two extents
-    0, 0, 0, 0, 0, 0, 0, 12, 0, 0, 0, 0, 0, 0, 0, 3, 0, 0, 0, 0, 0, 0, 0, 3, 0, 0, 0, 2, 0, 0, 0,
-    0, 0, 0, 0, 1,
+/// Three versions, ABEA, ACE and ABEB, in a store that waits: B was archived and came back, C isn't archived yet.
+const WAITING: [u8; 265] = [
+    // base, newest, three versions, waiting from 1 on
+    0, 0, 0, 0, 0, 0, 0, 3, 0, 0, 0, 3, 1, 0, 0, 0, 1,
+    // version 1: 16 bytes, four chunks, three of them fresh, three extents
+    0, 0, 0, 0, 0, 0, 0, 16, 0, 0, 0, 0, 0, 0, 0, 4, 0, 0, 0, 0, 0, 0, 0, 3, 0, 0, 0, 3, 0, 0, 0,
+    0, 0, 0, 0, 1, 0, 0, 0, 2,
     // version 2: 12 bytes, three chunks, one of them fresh, two extents
     0, 0, 0, 0, 0, 0, 0, 12, 0, 0, 0, 0, 0, 0, 0, 3, 0, 0, 0, 0, 0, 0, 0, 1, 0, 0, 0, 2, 0, 0, 0,
-    2, 0, 0, 0, 3,
-    // the volume of version 1: a row of start 1, one chunk in 40 bytes; one extent
+    3, 0, 0, 0, 4,
+    // version 3: 16 bytes, four chunks, one of them fresh, three extents
+    0, 0, 0, 0, 0, 0, 0, 16, 0, 0, 0, 0, 0, 0, 0, 4, 0, 0, 0, 0, 0, 0, 0, 1, 0, 0, 0, 3, 0, 0, 0,
+    5, 0, 0, 0, 6, 0, 0, 0, 7,
+    // the volume of version 1: B, in a row of start 1; one extent
     0, 0, 0, 1, 0, 0, 0, 1, 0, 0, 0, 0, 0, 0, 0, 1, 0, 0, 0, 0, 0, 0, 0, 40, 0, 0, 0, 1, 0, 0, 0,
-    4,
-    // two open categories: of start 1, two chunks in 80 bytes, two extents; of start 2, one chunk in 40 bytes, one extent
-    0, 0, 0, 2, 0, 0, 0, 1, 0, 0, 0, 0, 0, 0, 0, 2, 0, 0, 0, 0, 0, 0, 0, 80, 0, 0, 0, 2, 0, 0, 0,
-    5, 0, 0, 0, 6, 0, 0, 0, 2, 0, 0, 0, 0, 0, 0, 0, 1, 0, 0, 0, 0, 0, 0, 0, 40, 0, 0, 0, 1, 0, 0,
-    0, 7,
+    8,
+    // the volume of version 2: no row, no extent
+    0, 0, 0, 0, 0, 0, 0, 0,
+    // three open categories: of start 1, A and E in two extents; of start 2, C in one; of start 3, B in one
+    0, 0, 0, 3, 0, 0, 0, 1, 0, 0, 0, 0, 0, 0, 0, 2, 0, 0, 0, 0, 0, 0, 0, 80, 0, 0, 0, 2, 0, 0, 0,
+    9, 0, 0, 0, 13, 0, 0, 0, 2, 0, 0, 0, 0, 0, 0, 0, 1, 0, 0, 0, 0, 0, 0, 0, 40, 0, 0, 0, 1, 0, 0,
+    0, 10, 0, 0, 0, 3, 0, 0, 0, 0, 0, 0, 0, 1, 0, 0, 0, 0, 0, 0, 0, 40, 0, 0, 0, 1, 0, 0, 0, 11,
 ];
 
-fn entry(body: &[u8; 4]) -> RecipeEntry {
+/// The same versions, settled, but for a row of X before that of C, which no version uses.
+const FOREIGN: [u8; 285] = [
+    // base, newest, three versions, settled
+    0, 0, 0, 0, 0, 0, 0, 3, 0, 0, 0, 3, 0, 0, 0, 0, 0,
+    // version 1: 16 bytes, four chunks, three of them fresh, three extents
+    0, 0, 0, 0, 0, 0, 0, 16, 0, 0, 0, 0, 0, 0, 0, 4, 0, 0, 0, 0, 0, 0, 0, 3, 0, 0, 0, 3, 0, 0, 0,
+    0, 0, 0, 0, 1, 0, 0, 0, 2,
+    // version 2: 12 bytes, three chunks, one of them fresh, two extents
+    0, 0, 0, 0, 0, 0, 0, 12, 0, 0, 0, 0, 0, 0, 0, 3, 0, 0, 0, 0, 0, 0, 0, 1, 0, 0, 0, 2, 0, 0, 0,
+    3, 0, 0, 0, 4,
+    // version 3: 16 bytes, four chunks, one of them fresh, three extents
+    0, 0, 0, 0, 0, 0, 0, 16, 0, 0, 0, 0, 0, 0, 0, 4, 0, 0, 0, 0, 0, 0, 0, 1, 0, 0, 0, 3, 0, 0, 0,
+    5, 0, 0, 0, 6, 0, 0, 0, 7,
+    // the volume of version 1: B, in a row of start 1; one extent
+    0, 0, 0, 1, 0, 0, 0, 1, 0, 0, 0, 0, 0, 0, 0, 1, 0, 0, 0, 0, 0, 0, 0, 40, 0, 0, 0, 1, 0, 0, 0,
+    8,
+    // the volume of version 2: X in a row of start 1, C in one of start 2; two extents
+    0, 0, 0, 2, 0, 0, 0, 1, 0, 0, 0, 0, 0, 0, 0, 1, 0, 0, 0, 0, 0, 0, 0, 40, 0, 0, 0, 2, 0, 0, 0,
+    0, 0, 0, 0, 1, 0, 0, 0, 0, 0, 0, 0, 40, 0, 0, 0, 2, 0, 0, 0, 12, 0, 0, 0, 14,
+    // two open categories: of start 1, A and E in two extents; of start 3, B in one
+    0, 0, 0, 2, 0, 0, 0, 1, 0, 0, 0, 0, 0, 0, 0, 2, 0, 0, 0, 0, 0, 0, 0, 80, 0, 0, 0, 2, 0, 0, 0,
+    9, 0, 0, 0, 13, 0, 0, 0, 3, 0, 0, 0, 0, 0, 0, 0, 1, 0, 0, 0, 0, 0, 0, 0, 40, 0, 0, 0, 1, 0, 0,
+    0, 11,
+];
+
+fn entry(body: &[u8; 4], start: u32) -> RecipeEntry {
     RecipeEntry {
         mark: mark_of(body),
         length: 4,
-        start: 1,
+        start,
     }
 }
 
-/// Writes the recipe AAAA, AAAA, BBBB, AAAA and two records, of which the first has the mark of AAAA.
-fn fill(disk: &mut MemDisk, shape: &Shape, first: &[u8; 4], second: &[u8; 4]) -> bool {
-    let a = entry(b"AAAA");
-    let entries = [a, a, entry(b"BBBB"), a];
-    if disk.size() < shape.disk_bytes() || shape.extents() <= 5 || shape.max() < 4 {
+/// Writes the three recipes, and the records of both images, each with the mark of its letter; of A this body.
+fn fill(disk: &mut MemDisk, shape: &Shape, first: &[u8; 4]) -> bool {
+    let (a, e) = (entry(b"AAAA", 1), entry(b"EEEE", 1));
+    let (b, c, again) = (entry(b"BBBB", 1), entry(b"CCCC", 2), entry(b"BBBB", 3));
+    if disk.size() < shape.disk_bytes() || shape.extents() <= 14 || shape.max() < 4 {
         return false;
     }
-    write_entries(disk, shape, &[3, 1, 5], 0, &entries).is_ok()
-        && write_chunk(disk, shape, &[0, 2], 0, &a.mark, first).is_ok()
-        && write_chunk(disk, shape, &[0, 2], 40, &mark_of(second), second).is_ok()
-}
-
-/// Writes the recipes ABC and ACD, and their four records.
-fn fill_two(disk: &mut MemDisk, shape: &Shape) -> bool {
-    let (a, b, c) = (entry(b"AAAA"), entry(b"BBBB"), entry(b"CCCC"));
-    let mut d = entry(b"DDDD");
-    d.start = 2;
-    if disk.size() < shape.disk_bytes() || shape.extents() <= 7 || shape.max() < 4 {
-        return false;
-    }
-    write_entries(disk, shape, &[0, 1], 0, &[a, b, c]).is_ok()
-        && write_entries(disk, shape, &[2, 3], 0, &[a, c, d]).is_ok()
-        && write_chunk(disk, shape, &[4], 0, &b.mark, b"BBBB").is_ok()
-        && write_chunk(disk, shape, &[5, 6], 0, &a.mark, b"AAAA").is_ok()
-        && write_chunk(disk, shape, &[5, 6], 40, &c.mark, b"CCCC").is_ok()
-        && write_chunk(disk, shape, &[7], 0, &d.mark, b"DDDD").is_ok()
+    write_entries(disk, shape, &[0, 1, 2], 0, &[a, b, e, a]).is_ok()
+        && write_entries(disk, shape, &[3, 4], 0, &[a, c, e]).is_ok()
+        && write_entries(disk, shape, &[5, 6, 7], 0, &[a, again, e, again]).is_ok()
+        && write_chunk(disk, shape, &[8], 0, &b.mark, b"BBBB").is_ok()
+        && write_chunk(disk, shape, &[9, 13], 0, &a.mark, first).is_ok()
+        && write_chunk(disk, shape, &[9, 13], 40, &e.mark, b"EEEE").is_ok()
+        && write_chunk(disk, shape, &[10], 0, &c.mark, b"CCCC").is_ok()
+        && write_chunk(disk, shape, &[11], 0, &b.mark, b"BBBB").is_ok()
+        && write_chunk(disk, shape, &[12, 14], 0, &mark_of(b"XXXX"), b"XXXX").is_ok()
+        && write_chunk(disk, shape, &[12, 14], 40, &c.mark, b"CCCC").is_ok()
 }
 
 /// Plans a version, and gives it back.
@@ -97,15 +104,25 @@ fn restore(
     }
 }
 
-/// What restoring from these records answers, and the target's bytes and the calls of the disk after it.
-fn outcome(
+/// What a restore answers, what its target holds then, and which places of the disk were read, each counted from the first
+/// extent's, with how many bytes.
+#[derive(Drop)]
+struct Outcome {
+    answer: Option<Result<u64, RestoreFault>>,
+    bytes: Vec<u8>,
+    reads: Vec<(u64, u64)>,
+}
+
+/// A restore of a version of this catalogue, where A has this body and a call of the target may fail.
+fn outcome_of(
     alloc: Global,
+    catalogue: &[u8],
+    version: u32,
     first: &[u8; 4],
-    second: &[u8; 4],
     failing: Option<u64>,
-) -> Result<(Option<Result<u64, RestoreFault>>, Vec<u8>, usize), Fail> {
+) -> Result<Outcome, Fail> {
     let shape = Shape::new(64, 16, 4, 4, 0, 4)?;
-    let found = Catalog::decode(alloc, shape, &ONE)?;
+    let found = Catalog::decode(alloc, shape, catalogue)?;
     let mut disk = MemDisk::blank(alloc, shape.disk_bytes())?;
     let mut files = MemFiles::new(alloc);
     let name = Name::new(alloc, "target")?;
@@ -114,90 +131,79 @@ fn outcome(
         files.fail_target(call);
     }
     if let Some(catalog) = &found
-        && fill(&mut disk, &shape, first, second)
+        && fill(&mut disk, &shape, first)
     {
-        answer = restore(alloc, &mut disk, catalog, 1, &mut files, &name);
+        answer = restore(alloc, &mut disk, catalog, version, &mut files, &name);
+    }
+    let mut reads = Vec::new(alloc);
+    for touch in disk.trace() {
+        if let Touch::Read { at, length } = touch {
+            reads.push((at.wrapping_sub(132_870), *length))?;
+        }
     }
     let bytes = match files.bytes_of(&name) {
         Some(bytes) => bytes.to_vec(alloc)?,
         None => Vec::new(alloc),
     };
-    Ok((answer, bytes, disk.trace().len()))
+    Ok(Outcome {
+        answer,
+        bytes,
+        reads,
+    })
 }
 
 #[test]
-fn a_chunk_that_stands_three_times_is_read_once(rt: HostRuntime) -> Result<(), Fail> {
-    let (answer, bytes, calls) = outcome(rt.alloc(), b"AAAA", b"BBBB", None)?;
-    assert_eq!(rt; answer, Some(Ok(16)));
-    assert_eq!(rt; bytes.as_slice(), b"AAAAAAAABBBBAAAA".as_slice());
-    // three writes of the recipe and five of the records; three reads of the recipe, and five of two headers, of which the
-    // second goes over two extents, and two bodies
-    assert_eq!(rt; calls, 16);
+fn each_version_is_given_back_at_either_phase(rt: HostRuntime) -> Result<(), Fail> {
+    for catalogue in [WAITING.as_slice(), FOREIGN.as_slice()] {
+        let first = outcome_of(rt.alloc(), catalogue, 1, b"AAAA", None)?;
+        assert_eq!(rt; first.answer, Some(Ok(16)));
+        assert_eq!(rt; first.bytes.as_slice(), b"AAAABBBBEEEEAAAA".as_slice());
+        let second = outcome_of(rt.alloc(), catalogue, 2, b"AAAA", None)?;
+        assert_eq!(rt; second.bytes.as_slice(), b"AAAACCCCEEEE".as_slice());
+        let third = outcome_of(rt.alloc(), catalogue, 3, b"AAAA", None)?;
+        assert_eq!(rt; third.bytes.as_slice(), b"AAAABBBBEEEEBBBB".as_slice());
+    }
     Ok(())
 }
 
-/// The target of a restore of one of two versions, and the places of the disk that were read for it, with their lengths.
-fn given_of_two(alloc: Global, version: u32) -> Result<(Vec<u8>, Vec<(u64, u64)>), Fail> {
-    let shape = Shape::new(64, 16, 4, 4, 0, 4)?;
-    let found = Catalog::decode(alloc, shape, &TWO)?;
-    let mut disk = MemDisk::blank(alloc, shape.disk_bytes())?;
-    let mut files = MemFiles::new(alloc);
-    let name = Name::new(alloc, "target")?;
-    if let Some(catalog) = &found
-        && fill_two(&mut disk, &shape)
-    {
-        let _answer = restore(alloc, &mut disk, catalog, version, &mut files, &name);
-    }
-    let mut reads = Vec::new(alloc);
-    for touch in disk.trace() {
-        if let Touch::Read { at, length } = touch {
-            reads.push((*at, *length))?;
-        }
-    }
-    match files.bytes_of(&name) {
-        Some(bytes) => Ok((bytes.to_vec(alloc)?, reads)),
-        None => Ok((Vec::new(alloc), reads)),
-    }
-}
-
 #[test]
-fn a_walk_goes_over_its_own_and_later_volumes(rt: HostRuntime) -> Result<(), Fail> {
-    let alloc = rt.alloc();
-    // the first extent's place
-    let start = 132_870;
-    let (first, first_reads) = given_of_two(alloc, 1)?;
-    assert_eq!(rt; first.as_slice(), b"AAAABBBBCCCC".as_slice());
-    // its recipe, then B in the closed volume, then A and C, of which C's header goes over two extents; nothing of D
+fn a_walk_reads_headers_and_what_it_wants(rt: HostRuntime) -> Result<(), Fail> {
+    // the recipe of version 3; A and E of the first open category, whose second header goes over two extents; the header of
+    // C, which isn't wanted; and B, which came back
+    let third = outcome_of(rt.alloc(), &WAITING, 3, b"AAAA", None)?;
     assert_eq!(rt;
-        first_reads.as_slice(),
+        third.reads.as_slice(),
         [
-            (start, 64),
-            (start + 64, 56),
-            (start + 256, 36),
-            (start + 292, 4),
-            (start + 320, 36),
-            (start + 356, 4),
-            (start + 360, 24),
-            (start + 384, 12),
-            (start + 396, 4),
+            (320, 64),
+            (384, 64),
+            (448, 32),
+            (576, 36),
+            (612, 4),
+            (616, 24),
+            (832, 12),
+            (844, 4),
+            (640, 36),
+            (704, 36),
+            (740, 4),
         ]
         .as_slice()
     );
-    let (second, second_reads) = given_of_two(alloc, 2)?;
-    assert_eq!(rt; second.as_slice(), b"AAAACCCCDDDD".as_slice());
-    // its recipe, then A, C and D; nothing of the closed volume of version 1
+    // the recipe of version 1; B; the header of X, but nothing of C, whose row begins later; A and E
+    let first = outcome_of(rt.alloc(), &FOREIGN, 1, b"AAAA", None)?;
     assert_eq!(rt;
-        second_reads.as_slice(),
+        first.reads.as_slice(),
         [
-            (start + 128, 64),
-            (start + 192, 56),
-            (start + 320, 36),
-            (start + 356, 4),
-            (start + 360, 24),
-            (start + 384, 12),
-            (start + 396, 4),
-            (start + 448, 36),
-            (start + 484, 4),
+            (0, 64),
+            (64, 64),
+            (128, 32),
+            (512, 36),
+            (548, 4),
+            (768, 36),
+            (576, 36),
+            (612, 4),
+            (616, 24),
+            (832, 12),
+            (844, 4),
         ]
         .as_slice()
     );
@@ -206,23 +212,18 @@ fn a_walk_goes_over_its_own_and_later_volumes(rt: HostRuntime) -> Result<(), Fai
 
 #[test]
 fn damage_and_faults_are_named(rt: HostRuntime) -> Result<(), Fail> {
-    let alloc = rt.alloc();
     let altered = Damage::Body {
         owner: Owner::Active(1),
         at: 0,
         recorded: mark_of(b"AAAA"),
         found: mark_of(b"AABA"),
     };
-    let (body, _bytes, _calls) = outcome(alloc, b"AABA", b"BBBB", None)?;
-    assert_eq!(rt; body, Some(Err(RestoreFault::Damaged { damage: altered })));
-    let missing = Damage::Missing {
-        version: 1,
-        index: 2,
-        mark: mark_of(b"BBBB"),
-    };
-    let (other, _others, _reads) = outcome(alloc, b"AAAA", b"CCCC", None)?;
-    assert_eq!(rt; other, Some(Err(RestoreFault::Damaged { damage: missing })));
-    let (fails, _rest, _touches) = outcome(alloc, b"AAAA", b"BBBB", Some(2))?;
-    assert_eq!(rt; fails, Some(Err(RestoreFault::TargetFault)));
+    let body = outcome_of(rt.alloc(), &WAITING, 2, b"AABA", None)?;
+    assert_eq!(rt;
+        body.answer,
+        Some(Err(RestoreFault::Damaged { damage: altered }))
+    );
+    let target = outcome_of(rt.alloc(), &WAITING, 2, b"AAAA", Some(2))?;
+    assert_eq!(rt; target.answer, Some(Err(RestoreFault::TargetFault)));
     Ok(())
 }
