@@ -15,6 +15,7 @@ use Rattle.bd_model.specs.declared.place.Place.TheVariants.{Payload}
 use Rattle.bd_gate.specs.Superblock.{open_gate, byte_at, four_at, sizes_at}
 use Rattle.bd_gate.specs.Standing.{Standing, SameStanding, behind}
 use Rattle.bd_gate.specs.Halves.{Half, half_at, newest_half, newest_by, is_open, turn_at, payload_of, log_place}
+use Rattle.bd_catalog.specs.Agreement.{InExtents}
 use Rattle.bd_catalog.specs.Catalogue.{Catalogue}
 use Rattle.bd_catalog.specs.Rules.{catalogue_of}
 use Rattle.bd_catalog.specs.Opening.{Found, opened, opened_half, opened_payload}
@@ -25,12 +26,6 @@ use Rattle.bd_catalog.proofs.StandingFound.{IsFound, newest_by-small, opened_by,
 -- the places of superblock and halves
 abbrev pub InFront : Sizes → ℕ → Type 0
 InFront s place = place < extent_place s 0
-
--- a place in one of these extents
-pub record InExtents (s : Sizes) (extents : List ℕ) (place : ℕ) : Type 0 where
-  pub extent : ℕ
-  pub among : Contains extents extent
-  pub within : InRange (extent_place s extent) s.extent place
 
 -- a byte of an owner lies in its extents
 pub in_extents : (s : Sizes) (extents : List ℕ) → 1 ≤ s.extent → (at : ℕ) → at < length extents * s.extent → InExtents s extents (extent_place s (get_or extents (at / s.extent) 0) + at % s.extent)

@@ -12,7 +12,8 @@ use Rattle.bd_gate.specs.Halves.{InHalves}
 use Rattle.bd_catalog.specs.Catalogue.{Catalogue, recipe_extents, volume_extents, active_extents, all_extents}
 use Rattle.bd_catalog.specs.Opening.{Found, opened}
 use Rattle.bd_catalog.specs.Standing.{BeginWith, HasNumbers, HasVersions, HasVolumes, HasActives, HasReserve, StandsFor, Stands}
-use Rattle.bd_catalog.proofs.Agreeing.{InFront, InExtents, opens_again, begin_with_agrees, owners_apart, front_apart}
+use Rattle.bd_catalog.specs.Agreement.{InExtents}
+use Rattle.bd_catalog.proofs.Agreeing.{InFront, opens_again, begin_with_agrees, owners_apart, front_apart}
 
 -- what was found shows the state: all of `StandsFor` but the state's own rules and the opening
 pub record Shows (shape : Shape) (st : VersionState) (phase : Phase) (held : ℕ) (found : Found) (image : List ℕ) : Type 0 where

@@ -25,7 +25,7 @@ use Rattle.bd_model.proofs.LawLemmas.{refusal_is_exact}
 use Rattle.bd_catalog.specs.Catalogue.{all_extents}
 use Rattle.bd_catalog.specs.Opening.{Found, opened}
 use Rattle.bd_catalog.specs.Standing.{BeginWith, StandsFor}
-use Rattle.bd_catalog.proofs.Agreeing.{InExtents}
+use Rattle.bd_catalog.specs.Agreement.{InExtents}
 use Rattle.bd_catalog.proofs.StandingBackup.{backup_catalogue, backup_stands}
 
 -- the outcome of an answer with the state that it leaves

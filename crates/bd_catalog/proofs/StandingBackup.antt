@@ -23,7 +23,7 @@ use Rattle.bd_model.proofs.StepLemmas.{length-history, history-grown}
 use Rattle.bd_catalog.specs.Catalogue.{Catalogue, VersionEntry, OpenEntry, oldest_in, retained_in, recipe_extents, all_extents}
 use Rattle.bd_catalog.specs.Opening.{Found, opened}
 use Rattle.bd_catalog.specs.Standing.{BeginWith, HasNumbers, HasVolumes, HasActives, HasReserve, StandsFor, lines_from}
-use Rattle.bd_catalog.proofs.Agreeing.{InExtents}
+use Rattle.bd_catalog.specs.Agreement.{InExtents}
 use Rattle.bd_catalog.proofs.Standing.{Shows, stands-shows, shows_agrees, stands_by_parts}
 use Rattle.bd_catalog.proofs.StandingEmpty.{nothing_from, nothing-state, catalogue_from, nothing-numbers, nothing-lines, nothing-actives}
 use Rattle.bd_catalog.specs.Growing.{with_entries, entry_for, empty_volume, own_category}

@@ -21,7 +21,8 @@ use Rattle.bd_category.specs.Records.{record_with}
 use Rattle.bd_extio.specs.Ranges.{AreExtents, InOwner}
 use Rattle.bd_extio.proofs.Places.{length-owner_bytes}
 use Rattle.bd_catalog.specs.Standing.{BeginWith}
-use Rattle.bd_catalog.proofs.Agreeing.{InExtents, in_extents, owners_apart, begin_with_agrees, begin_with_more}
+use Rattle.bd_catalog.specs.Agreement.{InExtents}
+use Rattle.bd_catalog.proofs.Agreeing.{in_extents, owners_apart, begin_with_agrees, begin_with_more}
 use Rattle.bd_intake.specs.Places.{InOneOf}
 use Rattle.bd_intake.proofs.Firsts.{entry}
 

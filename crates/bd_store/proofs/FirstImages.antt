@@ -31,7 +31,8 @@ use Rattle.bd_catalog.specs.Catalogue.{Catalogue, VersionEntry, OpenEntry, all_e
 use Rattle.bd_catalog.specs.Growing.{after_backup, entry_for, own_category, with_entries, empty_volume}
 use Rattle.bd_catalog.specs.Opening.{Found, opened}
 use Rattle.bd_catalog.specs.Standing.{BeginWith, StandsFor, Stands}
-use Rattle.bd_catalog.proofs.Agreeing.{InFront, InExtents, begin_with_agrees, opens_again}
+use Rattle.bd_catalog.specs.Agreement.{InExtents}
+use Rattle.bd_catalog.proofs.Agreeing.{InFront, begin_with_agrees, opens_again}
 use Rattle.bd_catalog.proofs.Standing.{Shows, InStore, stands-shows, stands_for_agrees, stands_opened, halves_agree}
 use Rattle.bd_catalog.proofs.StandingEmpty.{nothing_from, catalogue_from, found-catalogue, found-nothing, fresh-first, recipe-first}
 use Rattle.bd_catalog.proofs.StandingBackup.{first_catalogue, next_catalogue, backup_catalogue}

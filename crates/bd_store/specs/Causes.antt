@@ -23,11 +23,11 @@ pub record NoneFell (before now : Counts) : Type 0 where
   pub sources : before.sources ≤ now.sources
   pub targets : before.targets ≤ now.targets
 
--- by which count a fault comes; where no object failed no count has risen
+-- by which count a fault comes, the two others staying; where no object failed each stays
 abbrev pub HasRisen : StoreFault → Counts → Counts → Type 0
-HasRisen SourceFault before now = Rose before.sources now.sources
-HasRisen TargetFault before now = Rose before.targets now.targets
-HasRisen DiskFault before now = Rose before.disk now.disk
+HasRisen SourceFault before now = Rose before.sources now.sources × (now.disk ≡ before.disk) × (now.targets ≡ before.targets)
+HasRisen TargetFault before now = Rose before.targets now.targets × (now.disk ≡ before.disk) × (now.sources ≡ before.sources)
+HasRisen DiskFault before now = Rose before.disk now.disk × (now.sources ≡ before.sources) × (now.targets ≡ before.targets)
 HasRisen (Damaged damage) before now = now ≡ before
 HasRisen OutOfMemory before now = now ≡ before
 HasRisen Unbuilt before now = now ≡ before
@@ -36,7 +36,7 @@ abbrev pub ByCount : Result Answer StoreFault → Counts → Counts → Type 0
 ByCount (Ok answer) before now = now ≡ before
 ByCount (Err fault) before now = HasRisen fault before now
 
--- No count falls. A fault comes only where its count has risen, and every other answer only where none has.
+-- No count falls. A fault comes only where its count alone has risen, and every other answer only where none has.
 pub record FailsOnlyByCount (before now : Counts) (result : Result Answer StoreFault) : Type 0 where
   pub later : NoneFell before now
   pub cause : ByCount result before now

@@ -1,3 +1,4 @@
+pub mod Attempts
 pub mod Causes
 pub mod Kept
 pub mod Naming

@@ -8,7 +8,7 @@ use Rattle.bd_model.specs.State.{VersionState, history, last_number}
 use Rattle.bd_model.specs.declared.layout.Phase.{Phase}
 use Rattle.bd_model.specs.declared.shape.Shape.{Shape}
 use Rattle.bd_model.specs.declared.answer.Answer.{Answer}
-use Rattle.bd_model.specs.declared.answer.Answer.TheVariants.{FullNumbers, FullVersions, NoVersion, NothingRetained, Restored}
+use Rattle.bd_model.specs.declared.answer.Answer.TheVariants.{BackedUp, FullExtents, FullNumbers, FullVersions, NoVersion, NothingRetained, Restored}
 use Rattle.bd_catalog.specs.Catalogue.{oldest_in, retained_in}
 use Rattle.bd_catalog.specs.Opening.{Found}
 use Rattle.bd_catalog.specs.Standing.{StandsFor}
@@ -27,12 +27,14 @@ versions_used_up found = retained_in found.catalogue == found.sizes.retain
 abbrev pub is_unbuilt : Found → Bool
 is_unbuilt found = not (numbers_used_up found || versions_used_up found) && nat_lt 0 (retained_in found.catalogue)
 
--- Where numbers or versions are used up, or the backup is still to come, exactly that is answered; else none of these is.
--- A backup has no target that could fail, and a first one reads nothing that could be damaged.
+-- Where numbers or versions are used up, or the backup is still to come, exactly that is answered; else it is named, lacks
+-- extents, or meets a fault. It has no target that could fail, and a first one reads nothing that could be damaged.
 abbrev pub AnswersByNumbers : Found → Result Answer StoreFault → Type 0
 AnswersByNumbers found (Ok FullNumbers) = numbers_used_up found ≡ true
 AnswersByNumbers found (Ok (FullVersions retained)) = (numbers_used_up found ≡ false) × (versions_used_up found ≡ true) × (retained ≡ found.sizes.retain)
-AnswersByNumbers found (Ok answer) = (numbers_used_up found || versions_used_up found ≡ false) × (is_unbuilt found ≡ false)
+AnswersByNumbers found (Ok (BackedUp version bytes chunks fresh need)) = (numbers_used_up found || versions_used_up found ≡ false) × (is_unbuilt found ≡ false)
+AnswersByNumbers found (Ok (FullExtents counted free held)) = (numbers_used_up found || versions_used_up found ≡ false) × (is_unbuilt found ≡ false)
+AnswersByNumbers found (Ok answer) = ⊥
 AnswersByNumbers found (Err Unbuilt) = is_unbuilt found ≡ true
 AnswersByNumbers found (Err TargetFault) = ⊥
 AnswersByNumbers found (Err (Damaged damage)) = ⊥
@@ -74,13 +76,11 @@ pub record WalksTo (held : ℕ) (found : Found) (v : ℕ) (old new : History) : 
   pub each : (shape : Shape) → (st : VersionState) → (phase : Phase) → Near (history shape st) → StandsFor shape st phase held (contents old) →
       ReadsOnly (restore_reads found.sizes found.catalogue (history shape st) v) old new × IsLean (history shape st) found.catalogue.phase v
 
--- A backup into a store that retains nothing reads nothing, and one that is refused for a number touches nothing. Of what
--- was read before the disk failed nothing is said.
+-- A backup into a store that retains nothing reads nothing, and one that is refused for a number touches nothing.
 abbrev pub BackupReads : History → History → Result Answer StoreFault → Type 0
 BackupReads old new (Ok FullNumbers) = TouchesNothing old new
 BackupReads old new (Ok (FullVersions retained)) = TouchesNothing old new
 BackupReads old new (Err Unbuilt) = TouchesNothing old new
-BackupReads old new (Err DiskFault) = Unit {0}
 BackupReads old new result = ReadsOnly [] old new
 
 -- no answer that goes by numbers, no fault of a target, and no damage

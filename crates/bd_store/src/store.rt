@@ -24,6 +24,7 @@ ghost use Rattle.bd_files.specs.Files.{ChangesOnly, IsFinished};
 ghost use Rattle.bd_recover.specs.Answers.{is_disk_fault as is_format_disk_fault, IsFormatAnswer};
 ghost use Rattle.bd_recover.specs.Opens.{is_disk_fault as is_open_disk_fault, Rests};
 ghost use Rattle.bd_restore.specs.Target.{held, HasChunks};
+ghost use Rattle.bd_store.specs.Attempts.{Meets, attempt, scene};
 ghost use Rattle.bd_store.specs.Causes.{counts, FailsOnlyByCount, StraysOnlyBy};
 ghost use Rattle.bd_store.specs.Naming.{NamesDamage};
 ghost use Rattle.bd_store.specs.Openings.{IsNoneOrEmpty, AnswersOpening};
@@ -39,7 +40,7 @@ use crate::listing::lines_of;
 use bd_catalog::Catalog;
 use bd_disk::Disk;
 use bd_files::Files;
-use bd_model::{Answer, Name, Shape};
+use bd_model::{Answer, Command, Name, Shape};
 use bd_recover::{FormatFault, OpenFault, Opened, format, open_image};
 use bd_space::Space;
 use std::alloc::{AllocError as OutOfMemory, Global};
@@ -120,22 +121,7 @@ impl Store {
         requires room { disk_bytes self.old.found.sizes ≤ D.bytes disk.old }
         requires agrees { D.tells → Agrees self.old.found (D.history disk.old) }
         requires sound { self.old.worn ≡ false }
-        ensures bytes { D.bytes disk.new ≡ D.bytes disk.old }
-        ensures cause { FailsOnlyByCount (counts (D.faults disk.old) (F.source_faults files.old) (F.target_faults files.old)) (counts (D.faults disk.new) (F.source_faults files.new) (F.target_faults files.new)) result }
-        ensures strays { F.tells → StraysOnlyBy (Backup name.now) (F.files files.old) (F.strays files.old) (F.strays files.new) }
-        ensures numbers { AnswersByNumbers self.old.found result }
-        ensures worn { (self.new.worn ≡ true) ↔ (result ≡ Err StoreFault.DiskFault) }
-        ensures sizes { self.new.worn ≡ false → self.new.found.sizes ≡ self.old.found.sizes }
-        ensures held { self.new.held ≡ self.old.held }
-        ensures agrees { self.new.worn ≡ false → D.tells → Agrees self.new.found (D.history disk.new) }
-        ensures versions { IfErr result (λ fault. self.new.worn ≡ false → SameVersions self.old self.new) }
-        ensures files { F.tells → F.files files.new ≡ F.files files.old }
-        ensures writes { D.tells → WritesOnly (λ place. 64 ≤ place) (D.history disk.old) (D.history disk.new) }
-        ensures places { D.tells → BackupReads (D.history disk.old) (D.history disk.new) result }
-        // It is one step of the version machine.
-        ensures step { D.tells → F.tells → IsOneStep (Backup name.now) self.old.held (D.history disk.old) (D.history disk.new) (F.files files.old) (F.files files.new) result }
-        // A stop at any moment leaves the state before it or the one after.
-        ensures stops { D.tells → F.tells → IsSafeAtStops (Backup name.now) self.old.held (D.history disk.old) (D.history disk.new) (F.files files.old) result }
+        ensures meets { Meets D.tells F.tells (attempt (Backup name.now) result (scene D.Disk F.Files self.old disk.old files.old) (scene D.Disk F.Files self.new disk.new files.new)) }
     {
         let shape = self.catalog.shape();
         let retained = self.catalog.retained();
@@ -203,28 +189,7 @@ impl Store {
         requires room { disk_bytes self.old.found.sizes ≤ D.bytes disk.old }
         requires agrees { D.tells → Agrees self.old.found (D.history disk.old) }
         requires sound { self.old.worn ≡ false }
-        ensures bytes { D.bytes disk.new ≡ D.bytes disk.old }
-        ensures cause { FailsOnlyByCount (counts (D.faults disk.old) (F.source_faults files.old) (F.target_faults files.old)) (counts (D.faults disk.new) (F.source_faults files.new) (F.target_faults files.new)) result }
-        ensures strays { F.tells → F.strays files.new ≡ F.strays files.old }
-        ensures numbers { AnswersByVersion self.old.found version result }
-        ensures untouched { IsByVersion result → (disk.new ≡ disk.old) × (files.new ≡ files.old) }
-        ensures worn { (self.new.worn ≡ true) ↔ (result ≡ Err StoreFault.DiskFault) }
-        ensures same { (self.new.found ≡ self.old.found) × (self.new.held ≡ self.old.held) }
-        ensures agrees { self.new.worn ≡ false → D.tells → Agrees self.new.found (D.history disk.new) }
-        ensures others { F.tells → ChangesOnly name.now (F.files files.old) (F.files files.new) }
-        ensures writes { D.tells → WritesNothing (D.history disk.old) (D.history disk.new) }
-        // A damage is one of this restore, its bytes were read, and they break its rule.
-        ensures damage { D.tells → NamesDamage self.old.found version (D.history disk.old) (D.history disk.new) result }
-        // Whatever image it is: the target has what the recipe's entries find there.
-        ensures file { IfRestored result (D.tells → F.tells → F.files files.new ≡ map.insert (F.files files.old) name.now (content self.old.found (contents (D.history disk.old)) version)) }
-        // Each chunk in it has the mark that the recipe says.
-        ensures checked { IfRestored result (D.tells → F.tells → HasChunks (recipe_of self.old.found.sizes self.old.found.catalogue (contents (D.history disk.old)) version) (held (F.files files.new) name.now)) }
-        ensures finished { IfRestored result (F.tells → IsFinished name.now (F.unfinished files.new)) }
-        ensures places { IfRestored result (D.tells → WalksTo self.old.held self.old.found version (D.history disk.old) (D.history disk.new)) }
-        // It is one step of the version machine.
-        ensures step { D.tells → F.tells → IsOneStep (Restore version name.now) self.old.held (D.history disk.old) (D.history disk.new) (F.files files.old) (F.files files.new) result }
-        // A stop at any moment leaves the state as it is.
-        ensures stops { D.tells → F.tells → IsSafeAtStops (Restore version name.now) self.old.held (D.history disk.old) (D.history disk.new) (F.files files.old) result }
+        ensures meets { Meets D.tells F.tells (attempt (Restore version name.now) result (scene D.Disk F.Files self.old disk.old files.old) (scene D.Disk F.Files self.new disk.new files.new)) }
     {
         let _shape = self.catalog.shape();
         let retained = self.catalog.retained();
@@ -256,6 +221,29 @@ impl Store {
     {
         let lines = lines_of(self.alloc, &self.catalog)?;
         Ok(Answer::Listed { lines })
+    }
+
+    /// Carries a command out. An expiry, an arranging and a scrub are still to come: they answer `Unbuilt` and touch nothing.
+    pub fn carry_out<D: Disk, F: Files>(
+        &mut self,
+        disk: &mut D,
+        files: &mut F,
+        command: &Command,
+    ) -> Result<Answer, StoreFault>
+        requires room { disk_bytes self.old.found.sizes ≤ D.bytes disk.old }
+        requires agrees { D.tells → Agrees self.old.found (D.history disk.old) }
+        requires sound { self.old.worn ≡ false }
+        ensures meets { Meets D.tells F.tells (attempt command.now result (scene D.Disk F.Files self.old disk.old files.old) (scene D.Disk F.Files self.new disk.new files.new)) }
+    {
+        match command {
+            Command::Backup { name } => self.backup(disk, files, name),
+            Command::Restore { version, name } => self.restore(disk, files, *version, name),
+            Command::List => match self.list() {
+                Ok(answer) => Ok(answer),
+                Err(OutOfMemory) => Err(StoreFault::OutOfMemory),
+            },
+            Command::Expire | Command::Reorganise | Command::Scrub => Err(StoreFault::Unbuilt),
+        }
     }
 
     /// Whether a call met a fault of the disk. The disk is then opened anew.

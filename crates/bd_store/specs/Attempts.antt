@@ -1,0 +1,189 @@
+-- A command on a store, what came of it, and all that is promised of that.
+use Rattle.std.specs.Prelude.{◌≡◌, ◌≢◌, ◌↔◌, ◌≤◌, ℕ, true, false, [], List, Result, Ok, Err}
+use Rattle.std.specs.FinMap as map
+use Rattle.bd_disk.specs.History.{History, contents}
+use Rattle.bd_disk.specs.Made.{TouchesNothing, WritesNothing, WritesOnly}
+use Rattle.bd_disk.specs.Trace.{ReadsOnly}
+use Rattle.bd_disk.specs.declared.disk.Disk.{Ghosts as DiskGhosts}
+use Rattle.bd_files.specs.Files.{IsFinished}
+use Rattle.bd_files.specs.declared.files.Files.{Ghosts as FilesGhosts}
+use Rattle.bd_model.specs.FileMap.{FileMap}
+use Rattle.bd_model.specs.Sizes.{disk_bytes}
+use Rattle.bd_model.specs.declared.answer.Answer.{Answer}
+use Rattle.bd_model.specs.declared.answer.Answer.TheVariants.{BackedUp, Expired, Restored, Listed, FullNumbers, FullVersions, NoVersion, NothingRetained}
+use Rattle.bd_model.specs.declared.command.Command.{Command}
+use Rattle.bd_model.specs.declared.command.Command.TheVariants.{Backup, Restore, List as Listing}
+use Rattle.bd_model.specs.declared.damage.Damage.{Damage}
+use Rattle.bd_model.specs.Step.{without_room}
+use Rattle.bd_gate.specs.Halves.{InHalf}
+use Rattle.bd_catalog.specs.Agreement.{Agrees, InExtents}
+use Rattle.bd_catalog.specs.Catalogue.{all_extents, oldest_in}
+use Rattle.bd_catalog.specs.Standing.{lines_from}
+use Rattle.bd_catalog.specs.Opening.{Found}
+use Rattle.bd_catalog.specs.Sound.{content, recipe_of}
+use Rattle.bd_recipe.specs.Reading.{recipe_found}
+use Rattle.bd_restore.specs.Target.{held, HasChunks}
+use Rattle.bd_store.specs.Causes.{Counts, counts, FailsOnlyByCount, StraysOnlyBy}
+use Rattle.bd_store.specs.Naming.{NamesDamage}
+use Rattle.bd_store.specs.Shown.{Shown, SameVersions}
+use Rattle.bd_store.specs.Steps.{IsOneStep, KeepsFiles}
+use Rattle.bd_store.specs.Stops.{IsSafeAtStops}
+use Rattle.bd_store.specs.Touches.{AnswersByNumbers, AnswersByVersion, BackupReads, IsByVersion, WalksTo}
+use Rattle.bd_store.specs.declared.fault.StoreFault.{StoreFault}
+use Rattle.bd_store.specs.declared.fault.StoreFault.TheVariants.{DiskFault, Damaged, OutOfMemory, Unbuilt}
+
+-- ---- what is seen of a command
+
+-- a store with what lies round it: its disk and the files, as far as they tell, and their counts
+pub record Scene : Type 0 where
+  pub store : Shown
+  pub disk_bytes : ℕ
+  pub disk : History
+  pub files : FileMap
+  pub unfinished : List (List ℕ)
+  pub counts : Counts
+  pub strays : ℕ
+
+abbrev pub scene : {D F : Type 0} → DiskGhosts D → FilesGhosts F → Shown → D → F → Scene
+scene d f store disk files = record {
+  store = store;
+  disk_bytes = d.bytes disk;
+  disk = d.history disk;
+  files = f.files files;
+  unfinished = f.unfinished files;
+  counts = counts (d.faults disk) (f.source_faults files) (f.target_faults files);
+  strays = f.strays files;
+}
+
+-- a command, what was answered, and the scene before and after it
+pub record Attempt : Type 0 where
+  pub command : Command
+  pub result : Result Answer StoreFault
+  pub before : Scene
+  pub after : Scene
+
+abbrev pub attempt : Command → Result Answer StoreFault → Scene → Scene → Attempt
+attempt command result before after = record { command = command; result = result; before = before; after = after }
+
+-- ---- what is promised of it, over whatever disk and files
+
+-- the retained versions, ascending
+abbrev pub AnswersList : Found → Result Answer StoreFault → Type 0
+AnswersList found (Ok answer) = without_room answer ≡ Listed (record { items = lines_from (oldest_in found.catalogue) found.catalogue.versions; spare = 0 })
+AnswersList found (Err fault) = fault ≡ OutOfMemory
+
+-- Which answers and faults a command may meet, and where. The other commands are still to come.
+abbrev pub IsAnswerOf : Found → Command → Result Answer StoreFault → Type 0
+IsAnswerOf found (Backup name) result = AnswersByNumbers found result
+IsAnswerOf found (Restore v name) result = AnswersByVersion found v result
+IsAnswerOf found Listing result = AnswersList found result
+IsAnswerOf found command result = result ≡ Err Unbuilt
+
+-- the versions stay at every answer but that of a backup, of an expiry, and of a disk that failed
+abbrev pub KeepsVersions : Shown → Shown → Result Answer StoreFault → Type 0
+KeepsVersions old new (Ok (BackedUp version bytes chunks fresh need)) = Unit {0}
+KeepsVersions old new (Ok (Expired version extents)) = Unit {0}
+KeepsVersions old new (Err DiskFault) = Unit {0}
+KeepsVersions old new result = SameVersions old new
+
+-- the store in memory goes on, unless the disk failed: it is worn then, and its disk is opened anew
+pub record KeepsStore (a : Attempt) : Type 0 where
+  pub worn : (a.after.store.worn ≡ true) ↔ (a.result ≡ Err DiskFault)
+  pub sizes : a.after.store.worn ≡ false → a.after.store.found.sizes ≡ a.before.store.found.sizes
+  pub held : a.after.store.held ≡ a.before.store.held
+  pub versions : KeepsVersions a.before.store a.after.store a.result
+
+-- ---- where the disk tells
+
+-- A place that a backup may write: before the end of the store, and neither in the superblock, nor in the newest half, nor in
+-- an extent that an owner has.
+pub record IsUnnamed (found : Found) (place : ℕ) : Type 0 where
+  pub begins : 64 ≤ place
+  pub ends : place < disk_bytes found.sizes
+  pub half : ¬ InHalf found.sizes found.half.number place
+  pub owners : ¬ InExtents found.sizes (all_extents found.catalogue) place
+
+-- only a backup writes
+abbrev pub WritesByCommand : Found → Command → History → History → Type 0
+WritesByCommand found (Backup name) old new = WritesOnly (IsUnnamed found) old new
+WritesByCommand found command old new = WritesNothing old new
+
+-- A restore that was answered reads its walk. One that is refused touches nothing.
+abbrev pub RestoreReads : Attempt → ℕ → Result Answer StoreFault → Type 0
+RestoreReads a v (Ok (Restored given bytes)) = WalksTo a.before.store.held a.before.store.found v a.before.disk a.after.disk
+RestoreReads a v (Ok answer) = TouchesNothing a.before.disk a.after.disk
+RestoreReads a v (Err Unbuilt) = TouchesNothing a.before.disk a.after.disk
+RestoreReads a v (Err fault) = Unit {0}
+
+-- which places are read, at every answer
+abbrev pub ReadsByCommand : Attempt → Command → Type 0
+ReadsByCommand a (Backup name) = BackupReads a.before.disk a.after.disk a.result
+ReadsByCommand a (Restore v name) = RestoreReads a v a.result
+ReadsByCommand a command = TouchesNothing a.before.disk a.after.disk
+
+-- A damage is one that the command looks for, its bytes were read, and they break its rule.
+abbrev pub DamageByCommand : Attempt → Command → Type 0
+DamageByCommand a (Restore v name) = NamesDamage a.before.store.found v a.before.disk a.after.disk a.result
+DamageByCommand a command = Unit {0}
+
+-- a recipe that doesn't hold ends in its damage, but for a fault of the disk and want of memory before it
+abbrev pub EndsInDamage : Damage → Result Answer StoreFault → Type 0
+EndsInDamage damage (Err (Damaged found)) = found ≡ damage
+EndsInDamage damage (Err DiskFault) = Unit {0}
+EndsInDamage damage (Err OutOfMemory) = Unit {0}
+EndsInDamage damage result = IsByVersion result
+
+abbrev pub RecipeByCommand : Attempt → Command → Type 0
+RecipeByCommand a (Restore v name) = (damage : Damage) → recipe_found a.before.store.found.sizes a.before.store.found.catalogue (contents a.before.disk) v ≡ Err damage → EndsInDamage damage a.result
+RecipeByCommand a command = Unit {0}
+
+-- over every image
+pub record MeetsOnDisk (a : Attempt) : Type 0 where
+  pub agrees : a.after.store.worn ≡ false → Agrees a.after.store.found a.after.disk
+  pub writes : WritesByCommand a.before.store.found a.command a.before.disk a.after.disk
+  pub reads : ReadsByCommand a a.command
+  pub damage : DamageByCommand a a.command
+  pub recipe : RecipeByCommand a a.command
+
+-- ---- where the files tell
+
+-- the target of a restore that was answered is finished
+abbrev pub FinishesByCommand : Command → Result Answer StoreFault → List (List ℕ) → Type 0
+FinishesByCommand (Restore v name) (Ok (Restored given bytes)) unfinished = IsFinished name unfinished
+FinishesByCommand command result unfinished = Unit {0}
+
+pub record MeetsOnFiles (a : Attempt) : Type 0 where
+  pub beside : KeepsFiles a.command a.before.files a.after.files
+  pub strays : StraysOnlyBy a.command a.before.files a.before.strays a.after.strays
+  pub finished : FinishesByCommand a.command a.result a.after.unfinished
+
+-- ---- where both tell
+
+-- whatever image it is: the target has what the recipe's entries find there, and each chunk in it has the mark of its entry
+pub record GivesBack (found : Found) (v : ℕ) (name image : List ℕ) (old new : FileMap) : Type 0 where
+  pub file : new ≡ map.insert old name (content found image v)
+  pub checked : HasChunks (recipe_of found.sizes found.catalogue image v) (held new name)
+
+abbrev pub GivesByCommand : Attempt → Command → Result Answer StoreFault → Type 0
+GivesByCommand a (Restore v name) (Ok (Restored given bytes)) = GivesBack a.before.store.found v name (contents a.before.disk) a.before.files a.after.files
+GivesByCommand a command result = Unit {0}
+
+pub record MeetsOnBoth (a : Attempt) : Type 0 where
+  pub gives : GivesByCommand a a.command a.result
+  -- it is one step of the version machine
+  pub step : IsOneStep a.command a.before.store.held a.before.disk a.after.disk a.before.files a.after.files a.result
+  -- a stop at any moment leaves the state before it or the one after
+  pub stops : IsSafeAtStops a.command a.before.store.held a.before.disk a.after.disk a.before.files a.result
+
+-- ---- all of it
+
+-- All that is promised of a command on a store. `disk` and `files` are that these two tell what they hold.
+pub record Meets (disk files : Type 0) (a : Attempt) : Type 0 where
+  pub bytes : a.after.disk_bytes ≡ a.before.disk_bytes
+  -- a fault comes by the count of its object, and leaves the two other counts
+  pub cause : FailsOnlyByCount a.before.counts a.after.counts a.result
+  pub answer : IsAnswerOf a.before.store.found a.command a.result
+  pub store : KeepsStore a
+  pub on_disk : disk → MeetsOnDisk a
+  pub on_files : files → MeetsOnFiles a
+  pub on_both : disk → files → MeetsOnBoth a
