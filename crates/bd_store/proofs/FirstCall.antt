@@ -34,7 +34,7 @@ use Rattle.bd_intake.specs.Causes.{MissesSource}
 use Rattle.bd_intake.specs.Places.{InFree}
 use Rattle.bd_store.specs.declared.fault.StoreFault.{StoreFault}
 use Rattle.bd_store.specs.declared.fault.StoreFault.TheVariants.{SourceFault, TargetFault, DiskFault, Damaged, OutOfMemory, Unbuilt}
-use Rattle.bd_store.specs.Naming.{refusal_of, UnlessDiskFailed}
+use Rattle.bd_store.specs.Naming.{refusal_of}
 use Rattle.bd_store.specs.Steps.{task, Answered, MakesStep, IsOneStep}
 use Rattle.bd_store.specs.Stops.{IsSafeAtStops}
 use Rattle.bd_store.proofs.FirstImages.{InBack, back_opens}
@@ -135,11 +135,3 @@ agrees_staged found h0 h1 space agrees writes =
           (still_sure (InHalves found.sizes) (contents h0) (λ place half behind. omega (arith, half.1, behind)) back agrees.sure);
     }
 
-pub unless_failed : (result : Result Answer StoreFault) (P : Type 0) → P → UnlessDiskFailed result P
-unless_failed (Ok answer) P p = p
-unless_failed (Err SourceFault) P p = p
-unless_failed (Err TargetFault) P p = p
-unless_failed (Err DiskFault) P p = tt
-unless_failed (Err (Damaged damage)) P p = p
-unless_failed (Err OutOfMemory) P p = p
-unless_failed (Err Unbuilt) P p = p

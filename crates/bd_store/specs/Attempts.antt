@@ -1,9 +1,8 @@
 -- A command on a store, what came of it, and all that is promised of that.
-use Rattle.std.specs.Prelude.{◌≡◌, ◌≢◌, ◌↔◌, ◌≤◌, ℕ, true, false, [], List, Result, Ok, Err}
+use Rattle.std.specs.Prelude.{◌≡◌, ◌↔◌, ◌≤◌, ◌<◌, ℕ, true, false, List, Result, Ok, Err}
 use Rattle.std.specs.FinMap as map
 use Rattle.bd_disk.specs.History.{History, contents}
 use Rattle.bd_disk.specs.Made.{TouchesNothing, WritesNothing, WritesOnly}
-use Rattle.bd_disk.specs.Trace.{ReadsOnly}
 use Rattle.bd_disk.specs.declared.disk.Disk.{Ghosts as DiskGhosts}
 use Rattle.bd_files.specs.Files.{IsFinished}
 use Rattle.bd_files.specs.declared.files.Files.{Ghosts as FilesGhosts}

@@ -1,6 +1,6 @@
 -- What the faults of the crates below are answered with, what is said of a named damage, and what holds but where the disk
 -- failed.
-use Rattle.std.specs.Prelude.{ℕ, Result, Ok, Err}
+use Rattle.std.specs.Prelude.{◌≡◌, ℕ, Result, Ok, Err}
 use Rattle.bd_disk.specs.History.{History, contents}
 use Rattle.bd_catalog.specs.Damages.{IsOfVersion, IsSeen}
 use Rattle.bd_catalog.specs.Opening.{Found}
@@ -13,7 +13,8 @@ use Rattle.bd_restore.specs.declared.fault.RestoreFault.{RestoreFault}
 use Rattle.bd_restore.specs.declared.fault.RestoreFault.TheVariants.{TargetFault as RestoreTarget, DiskFault as RestoreDisk, Damaged as RestoreDamaged, OutOfMemory as RestoreMemory}
 use Rattle.bd_model.specs.declared.damage.Damage.{Damage}
 use Rattle.bd_model.specs.declared.answer.Answer.{Answer}
-use Rattle.bd_model.specs.declared.answer.Answer.TheVariants.{FullExtents}
+use Rattle.bd_model.specs.declared.answer.Answer.TheVariants.{BackedUp, FullExtents}
+use Rattle.bd_intake.specs.declared.staged.Staged.{Staged}
 use Rattle.bd_intake.specs.declared.fault.IntakeFault.{IntakeFault}
 use Rattle.bd_intake.specs.declared.fault.IntakeFault.TheVariants.{Full, SourceFault, DiskFault, OutOfMemory}
 use Rattle.bd_store.specs.declared.fault.StoreFault.{StoreFault}
@@ -24,6 +25,11 @@ refusal_of (Full counted free held) = Ok (FullExtents counted free held)
 refusal_of SourceFault = Err SourceFailed
 refusal_of DiskFault = Err DiskFailed
 refusal_of OutOfMemory = Err MemoryFailed
+
+-- what the commit of what is staged answers
+abbrev pub AnswersNaming : ℕ → Staged → Result Answer StoreFault → Type 0
+AnswersNaming number staged (Ok answer) = answer ≡ BackedUp number staged.version.length staged.version.chunks staged.version.fresh staged.need
+AnswersNaming number staged (Err fault) = fault ≡ DiskFailed
 
 -- why a recipe couldn't be read, and why a planned version wasn't given back
 abbrev pub fault_of_reading : ReadFault → StoreFault
@@ -48,8 +54,3 @@ pub record IsDamageOf (found : Found) (v : ℕ) (damage : Damage) (old new : His
 abbrev pub NamesDamage : Found → ℕ → History → History → Result Answer StoreFault → Type 0
 NamesDamage found v old new (Err (DamageFound damage)) = IsDamageOf found v damage old new
 NamesDamage found v old new result = Unit {0}
-
--- this holds unless the disk failed
-abbrev pub UnlessDiskFailed : Result Answer StoreFault → Type 0 → Type 0
-UnlessDiskFailed (Err DiskFailed) P = Unit {0}
-UnlessDiskFailed result P = P

@@ -2,9 +2,8 @@
 #![tactic(auto)]
 
 mod fault;
-mod first;
-mod give_back;
 mod listing;
+mod naming;
 mod store;
 
 pub use bd_recover::{FormatFault, OpenFault};

@@ -33,15 +33,17 @@ ghost use Rattle.bd_store.specs.Steps.{IsOneStep};
 ghost use Rattle.bd_store.specs.Stops.{IsSafeAtStops};
 ghost use Rattle.bd_store.specs.Touches.{AnswersByNumbers, AnswersByVersion, AnswersFirst, BackupReads, IfRestored, IsByVersion, WalksTo};
 
-use crate::fault::{StoreFault, is_disk_fault};
-use crate::first::take_first;
-use crate::give_back::give_back;
+use crate::fault::{StoreFault, fault_of_reading, fault_of_restore, is_disk_fault, refusal_of};
 use crate::listing::lines_of;
+use crate::naming::name_version;
 use bd_catalog::Catalog;
 use bd_disk::Disk;
 use bd_files::Files;
+use bd_gear::Gear;
+use bd_intake::intake;
 use bd_model::{Answer, Command, Name, Shape};
 use bd_recover::{FormatFault, OpenFault, Opened, format, open_image};
+use bd_restore::{plan_for, run_plan};
 use bd_space::Space;
 use std::alloc::{AllocError as OutOfMemory, Global};
 use std::marker::Model;
@@ -149,33 +151,32 @@ impl Store {
         requires room { disk_bytes self.old.found.sizes ≤ D.bytes disk.old }
         requires agrees { D.tells → Agrees self.old.found (D.history disk.old) }
         requires sound { self.old.worn ≡ false }
-        ensures bytes { D.bytes disk.new ≡ D.bytes disk.old }
-        ensures cause { FailsOnlyByCount (counts (D.faults disk.old) (F.source_faults files.old) (F.target_faults files.old)) (counts (D.faults disk.new) (F.source_faults files.new) (F.target_faults files.new)) result }
-        ensures strays { F.tells → StraysOnlyBy (Backup name.now) (F.files files.old) (F.strays files.old) (F.strays files.new) }
-        ensures first { AnswersFirst result }
-        ensures worn { (self.new.worn ≡ true) ↔ (result ≡ Err StoreFault.DiskFault) }
-        ensures sizes { self.new.worn ≡ false → self.new.found.sizes ≡ self.old.found.sizes }
-        ensures held { self.new.held ≡ self.old.held }
-        ensures agrees { self.new.worn ≡ false → D.tells → Agrees self.new.found (D.history disk.new) }
-        ensures versions { IfErr result (λ fault. self.new.worn ≡ false → SameVersions self.old self.new) }
-        ensures files { F.tells → F.files files.new ≡ F.files files.old }
-        ensures writes { D.tells → WritesOnly (λ place. 64 ≤ place) (D.history disk.old) (D.history disk.new) }
-        ensures places { D.tells → BackupReads (D.history disk.old) (D.history disk.new) result }
-        // It is one step of the version machine.
-        ensures step { D.tells → F.tells → IsOneStep (Backup name.now) self.old.held (D.history disk.old) (D.history disk.new) (F.files files.old) (F.files files.new) result }
-        // A stop at any moment leaves the state before it or the one after.
-        ensures stops { D.tells → F.tells → IsSafeAtStops (Backup name.now) self.old.held (D.history disk.old) (D.history disk.new) (F.files files.old) result }
+        ensures meets { Meets D.tells F.tells (attempt (Backup name.now) result (scene D.Disk F.Files self.old disk.old files.old) (scene D.Disk F.Files self.new disk.new files.new)) }
     {
-        let result = take_first(
+        if self.catalog.reserve().is_err() {
+            return Err(StoreFault::OutOfMemory);
+        }
+        let gear = Gear::new();
+        match intake(
             self.alloc,
             disk,
-            &mut self.catalog,
+            &self.catalog,
             &mut self.space,
+            &gear,
             files,
             name,
-        );
-        self.worn = is_disk_fault(&result);
-        result
+        ) {
+            Ok(staged) => {
+                let named = name_version(disk, &mut self.catalog, &mut self.space, staged);
+                self.worn = is_disk_fault(&named);
+                named
+            }
+            Err(fault) => {
+                let refused = refusal_of(fault);
+                self.worn = is_disk_fault(&refused);
+                refused
+            }
+        }
     }
 
     /// Gives a retained version back: the named target has its stream afterwards. It changes nothing on the disk.
@@ -210,9 +211,40 @@ impl Store {
         if retained > 1 {
             return Err(StoreFault::Unbuilt);
         }
-        let given = give_back(self.alloc, disk, &self.catalog, files, version, name);
-        self.worn = is_disk_fault(&given);
-        given
+        self.give_back(disk, files, version, name)
+    }
+
+    // Gives the one version that the store retains back.
+    fn give_back<D: Disk, F: Files>(
+        &mut self,
+        disk: &mut D,
+        files: &mut F,
+        version: u32,
+        name: &Name,
+    ) -> Result<Answer, StoreFault>
+        requires only { retained_in self.old.found.catalogue ≡ 1 }
+        requires newest { version ≡ self.old.found.catalogue.newest }
+        requires room { disk_bytes self.old.found.sizes ≤ D.bytes disk.old }
+        requires agrees { D.tells → Agrees self.old.found (D.history disk.old) }
+        requires sound { self.old.worn ≡ false }
+        ensures meets { Meets D.tells F.tells (attempt (Restore version name.now) result (scene D.Disk F.Files self.old disk.old files.old) (scene D.Disk F.Files self.new disk.new files.new)) }
+    {
+        let plan = match plan_for(self.alloc, disk, &self.catalog, version) {
+            Ok(plan) => plan,
+            Err(fault) => {
+                let unread = Err(fault_of_reading(fault));
+                self.worn = is_disk_fault(&unread);
+                return unread;
+            }
+        };
+        match run_plan(plan, disk, &self.catalog, files, name) {
+            Ok(bytes) => Ok(Answer::Restored { version, bytes }),
+            Err(fault) => {
+                let stopped = Err(fault_of_restore(fault));
+                self.worn = is_disk_fault(&stopped);
+                stopped
+            }
+        }
     }
 
     /// The retained versions, ascending.
