@@ -27,7 +27,7 @@ ghost use Rattle.bd_restore.specs.Target.{held, HasChunks};
 ghost use Rattle.bd_store.specs.Attempts.{Meets, attempt, scene};
 ghost use Rattle.bd_store.specs.Causes.{counts, FailsOnlyByCount, StraysOnlyBy};
 ghost use Rattle.bd_store.specs.Naming.{NamesDamage};
-ghost use Rattle.bd_store.specs.Openings.{IsNoneOrEmpty, AnswersOpening};
+ghost use Rattle.bd_store.specs.Openings.{AnswersOpening, IsMade, MakingStops};
 ghost use Rattle.bd_store.specs.Shown.{SameVersions};
 ghost use Rattle.bd_store.specs.Steps.{IsOneStep};
 ghost use Rattle.bd_store.specs.Stops.{IsSafeAtStops};
@@ -76,15 +76,10 @@ impl Store {
         ensures disk { Works D.Disk (InRange 0 64) (BeforeExtents (sizes_of shape)) disk.old disk.new }
         ensures cause { FailsByCount is_format_disk_fault (D.faults disk.old) (D.faults disk.new) result }
         ensures answer { IsFormatAnswer D.Disk (sizes_of shape) disk.old disk.new result }
-        ensures room { OnOk result (disk_bytes (sizes_of shape) ≤ D.bytes disk.new) }
         ensures memory { result ≡ Err FormatFault.OutOfMemory → D.tells → TouchesNothing (D.history disk.old) (D.history disk.new) }
-        // The contents stand for the empty store, and a stop leaves nothing else.
-        ensures made { OnOk result (D.tells → StandsFor shape empty Settled 0 (contents (D.history disk.new))) }
-        ensures rests { IfOk result (λ store. D.tells → Rests store.found (D.history disk.new)) }
-        ensures shape { IfOk result (λ store. store.found.sizes ≡ sizes_of shape) }
-        ensures fresh { IfOk result (λ store. (store.worn ≡ false) × (store.held ≡ 0)) }
+        ensures made { IfOk result (λ store. IsMade D.Disk shape store disk.new) }
         // A stop at any moment leaves no store or the empty one.
-        ensures stops { D.tells → is_marked (contents (D.history disk.old)) ≡ false → IsSettled (D.history disk.old) → LeavesSince (IsNoneOrEmpty shape) (D.history disk.old) (D.history disk.new) }
+        ensures stops { D.tells → MakingStops shape (D.history disk.old) (D.history disk.new) }
     {
         let Opened { catalog, space } = format(alloc, disk, shape)?;
         Ok(Store {
