@@ -1,5 +1,5 @@
 -- Which version a restore is asked for: what its step answers by the numbers, over any state for which the contents stand.
-use Rattle.std.proofs.Common.{◌≡◌, ◌⊎◌, inl, inr, ⊎_elim, ℕ, ◌<◌, ◌≤◌, false, cond, ◌&&◌, List, sym, ◌∙◌, ap, arith, nat_le, le-leb, eq-eqb, Option, Some}
+use Rattle.std.proofs.Common.{◌≡◌, ◌⊎◌, inl, inr, ⊎_elim, ℕ, ◌<◌, ◌≤◌, false, true, cond, ◌&&◌, List, sym, ◌∙◌, ap, arith, nat_le, le-leb, eq-eqb, Option, Some}
 use Rattle.std.proofs.lemmas.Bool.{and_from, and_left, and_right, lt-leb, ne_eqb}
 use Rattle.bd_disk.specs.History.{History as Moment}
 use Rattle.bd_model.specs.FileMap.{FileMap}
@@ -50,11 +50,15 @@ pub same_oldest : (h : History) (c : Catalogue) → HasNumbers h c → 0 < retai
 same_oldest h c numbers some = omega (arith, numbers.newest, numbers.retained)
 
 -- a number before the oldest one isn't retained, nor is one behind the newest
-none_beside : (found : Found) (v : ℕ) → (v < oldest_in found.catalogue) ⊎ (found.catalogue.newest < v) → is_retained found v ≡ false
+pub none_beside : (found : Found) (v : ℕ) → (v < oldest_in found.catalogue) ⊎ (found.catalogue.newest < v) → is_retained found v ≡ false
 none_beside found v beside =
     ⊎_elim
     (λ below. and_left (nat_le (oldest_in found.catalogue) v) (nat_le v found.catalogue.newest) (lt-leb (oldest_in found.catalogue) v below))
     (λ above. and_right (nat_le (oldest_in found.catalogue) v) (nat_le v found.catalogue.newest) (lt-leb v found.catalogue.newest above)) beside
+
+-- every number between them is
+pub retained_is : (found : Found) (v : ℕ) → oldest_in found.catalogue ≤ v → v ≤ found.catalogue.newest → is_retained found v ≡ true
+retained_is found v low high = and_from (nat_le (oldest_in found.catalogue) v) (nat_le v found.catalogue.newest) (le-leb (oldest_in found.catalogue) v low) (le-leb v found.catalogue.newest high)
 
 module _ (held : ℕ) (m : Moment) (files : FileMap) (v : ℕ) (name : List ℕ) (found : Found) (agrees : Agrees found m) where
   -- a store that retains nothing

@@ -134,4 +134,3 @@ agrees_staged found h0 h1 space agrees writes =
       sure = sure_same (contents h1) (agree_sym (InHalves found.sizes) (contents h0) (contents h1) (agree_fewer _ (InHalves found.sizes) (contents h0) (contents h1) (λ place half behind. omega (arith, half.1, behind)) same))
           (still_sure (InHalves found.sizes) (contents h0) (λ place half behind. omega (arith, half.1, behind)) back agrees.sure);
     }
-

@@ -5,7 +5,9 @@ pub mod FirstSteps
 pub mod LineLemmas
 pub mod Listed
 pub mod Making
+pub mod Meeting
 pub mod Quiet
 pub mod Refusing
 pub mod Asking
 pub mod Giving
+pub mod Unnamed

@@ -25,7 +25,7 @@ abbrev pub MakingStops : Shape → History → History → Type 0
 MakingStops shape old new = is_marked (contents old) ≡ false → IsSettled old → LeavesSince (IsNoneOrEmpty shape) old new
 
 -- A store that was made on this disk: the empty one of the shape, which has room there. Nothing is held, and no call failed.
-pub record IsMade {D : Type 0} (g : Ghosts D) (shape : Shape) (store : Shown) (disk : D) : Type 0 where
+pub record IsNewStore {D : Type 0} (g : Ghosts D) (shape : Shape) (store : Shown) (disk : D) : Type 0 where
   pub room : disk_bytes (sizes_of shape) ≤ g.bytes disk
   pub sizes : store.found.sizes ≡ sizes_of shape
   pub held : store.held ≡ 0

@@ -27,7 +27,7 @@ ghost use Rattle.bd_restore.specs.Target.{held, HasChunks};
 ghost use Rattle.bd_store.specs.Attempts.{Meets, attempt, scene};
 ghost use Rattle.bd_store.specs.Causes.{counts, FailsOnlyByCount, StraysOnlyBy};
 ghost use Rattle.bd_store.specs.Naming.{NamesDamage};
-ghost use Rattle.bd_store.specs.Openings.{AnswersOpening, IsMade, MakingStops};
+ghost use Rattle.bd_store.specs.Openings.{AnswersOpening, IsNewStore, MakingStops};
 ghost use Rattle.bd_store.specs.Shown.{SameVersions};
 ghost use Rattle.bd_store.specs.Steps.{IsOneStep};
 ghost use Rattle.bd_store.specs.Stops.{IsSafeAtStops};
@@ -77,7 +77,7 @@ impl Store {
         ensures cause { FailsByCount is_format_disk_fault (D.faults disk.old) (D.faults disk.new) result }
         ensures answer { IsFormatAnswer D.Disk (sizes_of shape) disk.old disk.new result }
         ensures memory { result ≡ Err FormatFault.OutOfMemory → D.tells → TouchesNothing (D.history disk.old) (D.history disk.new) }
-        ensures made { IfOk result (λ store. IsMade D.Disk shape store disk.new) }
+        ensures made { IfOk result (λ store. IsNewStore D.Disk shape store disk.new) }
         // A stop at any moment leaves no store or the empty one.
         ensures stops { D.tells → MakingStops shape (D.history disk.old) (D.history disk.new) }
     {

@@ -1,0 +1,117 @@
+-- What a command that touched nothing meets, and what versions that stay leave.
+use Rattle.std.proofs.Common.{◌≡◌, ◌+◌, ◌≤◌, ℕ, false, true, List, inl, refl, sym, ◌∙◌, subst, arith, Result, Ok, Err}
+use Rattle.bd_disk.specs.History.{History}
+use Rattle.bd_disk.proofs.Frames.{made_none}
+use Rattle.bd_model.specs.FileMap.{FileMap}
+use Rattle.bd_model.specs.declared.answer.Answer.{Answer}
+use Rattle.bd_model.specs.declared.answer.Answer.TheVariants.{BackedUp, Restored, Expired, Arranged, Scrubbed, Listed, FullNumbers, FullVersions, FullExtents, NoVersion, NothingRetained, Formatted, Blanked, Soaked}
+use Rattle.bd_model.specs.declared.command.Command.{Command}
+use Rattle.bd_model.specs.declared.command.Command.TheVariants.{Backup, Restore, Expire, Reorganise, Scrub, List as Listing}
+use Rattle.bd_catalog.specs.Agreement.{Agrees}
+use Rattle.bd_catalog.specs.Opening.{Found}
+use Rattle.bd_store.specs.Attempts.{Scene, Attempt, attempt, DamageByCommand, FinishesByCommand, GivesByCommand, IsAnswerOf, KeepsVersions, Meets, ReadsByCommand, RecipeByCommand, WritesByCommand}
+use Rattle.bd_store.specs.Causes.{ByCount}
+use Rattle.bd_store.specs.Shown.{Shown, SameVersions}
+use Rattle.bd_store.specs.Steps.{IsOneStep, KeepsFiles}
+use Rattle.bd_store.specs.Stops.{IsSafeAtStops}
+use Rattle.bd_store.specs.declared.fault.StoreFault.{StoreFault}
+use Rattle.bd_store.specs.declared.fault.StoreFault.TheVariants.{SourceFault, TargetFault, DiskFault, Damaged, OutOfMemory, Unbuilt}
+
+-- versions that stay do so at every answer
+pub same_kept : (old new : Shown) (result : Result Answer StoreFault) → SameVersions old new → KeepsVersions old new result
+same_kept old new (Ok (BackedUp version bytes chunks fresh need)) same = tt
+same_kept old new (Ok (Expired version extents)) same = tt
+same_kept old new (Ok (Restored version bytes)) same = same
+same_kept old new (Ok (Arranged owned free)) same = same
+same_kept old new (Ok (Scrubbed report)) same = same
+same_kept old new (Ok (Listed lines)) same = same
+same_kept old new (Ok FullNumbers) same = same
+same_kept old new (Ok (FullVersions retained)) same = same
+same_kept old new (Ok (FullExtents counted free held)) same = same
+same_kept old new (Ok (NoVersion asked oldest newest)) same = same
+same_kept old new (Ok (NothingRetained asked)) same = same
+same_kept old new (Ok Formatted) same = same
+same_kept old new (Ok (Blanked length)) same = same
+same_kept old new (Ok (Soaked a b c d e f g)) same = same
+same_kept old new (Err DiskFault) same = tt
+same_kept old new (Err SourceFault) same = same
+same_kept old new (Err TargetFault) same = same
+same_kept old new (Err (Damaged damage)) same = same
+same_kept old new (Err OutOfMemory) same = same
+same_kept old new (Err Unbuilt) same = same
+
+writes_none : (found : Found) (command : Command) (h : History) → WritesByCommand found command h h
+writes_none found (Backup name) h = made_none _ h
+writes_none found (Restore version name) h = made_none _ h
+writes_none found Expire h = made_none _ h
+writes_none found Reorganise h = made_none _ h
+writes_none found Scrub h = made_none _ h
+writes_none found Listing h = made_none _ h
+
+files_stay : (command : Command) (files : FileMap) → KeepsFiles command files files
+files_stay (Backup name) files = refl
+files_stay (Restore version name) files = record { others = λ other differ. refl }
+files_stay Expire files = refl
+files_stay Reorganise files = refl
+files_stay Scrub files = refl
+files_stay Listing files = refl
+
+-- what is still to come, and what memory wasn't there for, is no step
+pub unbuilt_step : (command : Command) (held : ℕ) (h : History) (files : FileMap) → IsOneStep command held h h files files (Err Unbuilt)
+unbuilt_step command held h files = record { each = λ shape st phase near stands. record { stands = record { phase = phase; so = stands }; beside = refl } }
+
+pub memory_step : (command : Command) (held : ℕ) (h : History) (files : FileMap) → IsOneStep command held h h files files (Err OutOfMemory)
+memory_step command held h files = record { each = λ shape st phase near stands. record { stands = record { phase = phase; so = stands }; beside = files_stay command files } }
+
+-- the disk didn't fail
+abbrev pub HasDisk : Result Answer StoreFault → Type 0
+HasDisk (Ok answer) = Unit {0}
+HasDisk (Err DiskFault) = ⊥
+HasDisk (Err fault) = Unit {0}
+
+-- a store in memory, by its parts
+pub shown_is : (found : Found) (held : ℕ) (s : Shown) → found ≡ s.found → held ≡ s.held → s.worn ≡ false → record { found = found; held = held; worn = false } ≡ s
+shown_is found held s same_found same_held sound = λ k. record { found = same_found k; held = same_held k; worn = sym sound k }
+
+module _ (command : Command) (result : Result Answer StoreFault) (s : Scene) where
+  abbrev still : Attempt
+  still = attempt command result s s
+
+  -- what an answer says of its command alone
+  pub record IsAnswered : Type 0 where
+    pub cause : ByCount result s.counts s.counts
+    pub has_disk : HasDisk result
+    pub answer : IsAnswerOf s.store.found command result
+    pub reads : ReadsByCommand still command
+    pub damage : DamageByCommand still command
+    pub recipe : RecipeByCommand still command
+    pub finished : FinishesByCommand command result s.unfinished
+    pub gives : GivesByCommand still command result
+
+  pub meets_untouched : {disk files : Type 0} → s.store.worn ≡ false → (disk → Agrees s.store.found s.disk) → IsAnswered →
+      (disk → files → IsOneStep command s.store.held s.disk s.disk s.files s.files result) →
+      (disk → files → IsSafeAtStops command s.store.held s.disk s.disk s.files result) → Meets disk files still
+  meets_untouched {disk} {files} sound agrees is step stops = record {
+    bytes = refl;
+    cause = record { later = record { disk = omega arith; sources = omega arith; targets = omega arith }; cause = is.cause };
+    answer = is.answer;
+    store = record {
+      worn = (λ worn. let no : true ≡ false = sym worn ∙ sound in cc, λ failed. absurd (subst HasDisk failed is.has_disk));
+      sizes = λ _. refl;
+      held = refl;
+      versions = same_kept s.store s.store result (record { sizes = refl; base = refl; newest = refl; versions = refl; held = refl });
+    };
+    on_disk = λ told. record {
+      agrees = λ _. agrees told;
+      writes = writes_none s.store.found command s.disk;
+      reads = is.reads;
+      damage = is.damage;
+      recipe = is.recipe;
+    };
+    on_files = λ told. record {
+      beside = files_stay command s.files;
+      strays = record { later = omega arith; missing = inl refl };
+      finished = is.finished;
+    };
+    on_both = λ told files_tell. record { gives = is.gives; step = step told files_tell; stops = stops told files_tell };
+  }
