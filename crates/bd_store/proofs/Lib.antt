@@ -8,6 +8,8 @@ pub mod Making
 pub mod Meeting
 pub mod Quiet
 pub mod Refusing
+pub mod Restoring
 pub mod Asking
+pub mod BackingUp
 pub mod Giving
 pub mod Unnamed

@@ -143,6 +143,7 @@ impl Store {
     ) -> Result<Answer, StoreFault>
         requires number { self.old.found.catalogue.newest < last_number }
         requires nothing { retained_in self.old.found.catalogue ≡ 0 }
+        requires limit { 1 ≤ self.old.found.sizes.retain }
         requires room { disk_bytes self.old.found.sizes ≤ D.bytes disk.old }
         requires agrees { D.tells → Agrees self.old.found (D.history disk.old) }
         requires sound { self.old.worn ≡ false }
