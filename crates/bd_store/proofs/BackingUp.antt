@@ -34,10 +34,9 @@ use Rattle.bd_intake.specs.Causes.{FailsByCount, MissesSource}
 use Rattle.bd_intake.specs.Filling.{CountsMissing}
 use Rattle.bd_intake.specs.Firsts.{cut_in, first_by_mark}
 use Rattle.bd_intake.specs.Places.{InFree}
-use Rattle.bd_store.specs.Attempts.{Scene, Attempt, attempt, scene, IsUnnamed, KeepsVersions, Meets}
+use Rattle.bd_store.specs.Attempts.{Scene, attempt, scene, IsUnnamed, KeepsVersions, Meets}
 use Rattle.bd_store.specs.Causes.{counts, FailsOnlyByCount, StraysOnlyBy}
 use Rattle.bd_store.specs.Naming.{AnswersNaming, refusal_of}
-use Rattle.bd_store.specs.Shown.{Shown}
 use Rattle.bd_store.specs.Touches.{AnswersByNumbers, BackupReads, is_unbuilt, numbers_used_up, versions_used_up}
 use Rattle.bd_store.specs.declared.fault.StoreFault.{StoreFault}
 use Rattle.bd_store.specs.declared.fault.StoreFault.TheVariants.{DiskFault}

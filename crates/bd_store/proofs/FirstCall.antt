@@ -32,8 +32,7 @@ use Rattle.bd_intake.specs.Answers.{AnswersIntake, HoldsVersion}
 use Rattle.bd_intake.specs.Firsts.{cut_in, first_by_mark}
 use Rattle.bd_intake.specs.Causes.{MissesSource}
 use Rattle.bd_intake.specs.Places.{InFree}
-use Rattle.bd_store.specs.declared.fault.StoreFault.{StoreFault}
-use Rattle.bd_store.specs.declared.fault.StoreFault.TheVariants.{SourceFault, TargetFault, DiskFault, Damaged, OutOfMemory, Unbuilt}
+use Rattle.bd_store.specs.declared.fault.StoreFault.TheVariants.{DiskFault}
 use Rattle.bd_store.specs.Naming.{refusal_of}
 use Rattle.bd_store.specs.Steps.{task, Answered, MakesStep, IsOneStep}
 use Rattle.bd_store.specs.Stops.{IsSafeAtStops}

@@ -1,5 +1,5 @@
 -- What a command that touched nothing meets, and what versions that stay leave.
-use Rattle.std.proofs.Common.{◌≡◌, ◌+◌, ◌≤◌, ℕ, false, true, List, inl, refl, sym, ◌∙◌, subst, arith, Result, Ok, Err}
+use Rattle.std.proofs.Common.{◌≡◌, ℕ, false, true, inl, refl, sym, ◌∙◌, subst, arith, Result, Ok, Err}
 use Rattle.bd_disk.specs.History.{History}
 use Rattle.bd_disk.proofs.Frames.{made_none}
 use Rattle.bd_model.specs.FileMap.{FileMap}

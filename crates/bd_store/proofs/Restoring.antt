@@ -1,9 +1,9 @@
 -- A restore meets its promise, at each of its ends: the recipe couldn't be read, the version was given back, or the walk
 -- stopped.
-use Rattle.std.proofs.Common.{◌≡◌, ◌∙◌, ◌↔◌, ◌≤◌, ℕ, Bool, true, false, List, [], inl, refl, sym, ap, subst, arith, Ok, Err, Result}
+use Rattle.std.proofs.Common.{◌≡◌, ◌∙◌, ◌↔◌, ℕ, Bool, true, false, List, [], inl, refl, sym, ap, subst, arith, Ok, Err, Result}
 use Rattle.std.specs.FinMap as map
 use Rattle.bd_disk.specs.Calls.{FailsByCount, Rose}
-use Rattle.bd_disk.specs.History.{History, contents}
+use Rattle.bd_disk.specs.History.{contents}
 use Rattle.bd_disk.specs.Made.{WritesNothing}
 use Rattle.bd_disk.specs.Trace.{ReadsOnly}
 use Rattle.bd_disk.specs.declared.disk.Disk.{Ghosts as DiskGhosts}

@@ -9,7 +9,7 @@ use Rattle.bd_files.specs.declared.files.Files.{Ghosts as FilesGhosts}
 use Rattle.bd_model.specs.FileMap.{FileMap}
 use Rattle.bd_model.specs.Sizes.{disk_bytes}
 use Rattle.bd_model.specs.declared.answer.Answer.{Answer}
-use Rattle.bd_model.specs.declared.answer.Answer.TheVariants.{BackedUp, Expired, Restored, Listed, FullNumbers, FullVersions, NoVersion, NothingRetained}
+use Rattle.bd_model.specs.declared.answer.Answer.TheVariants.{BackedUp, Expired, Restored, Listed}
 use Rattle.bd_model.specs.declared.command.Command.{Command}
 use Rattle.bd_model.specs.declared.command.Command.TheVariants.{Backup, Restore, List as Listing}
 use Rattle.bd_model.specs.declared.damage.Damage.{Damage}

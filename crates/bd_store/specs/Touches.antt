@@ -15,7 +15,7 @@ use Rattle.bd_catalog.specs.Standing.{StandsFor}
 use Rattle.bd_catalog.specs.Walks.{restore_reads, IsLean}
 use Rattle.bd_recipe.specs.Reading.{length_in}
 use Rattle.bd_store.specs.declared.fault.StoreFault.{StoreFault}
-use Rattle.bd_store.specs.declared.fault.StoreFault.TheVariants.{DiskFault, SourceFault, Damaged, Unbuilt, TargetFault}
+use Rattle.bd_store.specs.declared.fault.StoreFault.TheVariants.{SourceFault, Damaged, Unbuilt, TargetFault}
 
 abbrev pub numbers_used_up : Found → Bool
 numbers_used_up found = found.catalogue.newest == last_number

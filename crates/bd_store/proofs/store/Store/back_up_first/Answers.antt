@@ -1,8 +1,8 @@
-use Rattle.std.proofs.Common.{◌≡◌, ◌∙◌, ◌<◌, ◌≤◌, ◌↔◌, Bool, true, false, refl, sym, ap, subst, Result, Ok, Err}
+use Rattle.std.proofs.Common.{◌≡◌, ◌∙◌, ◌<◌, ◌≤◌, ◌↔◌, Bool, true, false, refl, sym, ap, subst, Result, Err}
 use Rattle.bd_model.specs.State.{last_number}
 use Rattle.bd_model.specs.declared.answer.Answer.{Answer}
 use Rattle.bd_model.specs.declared.command.Command.TheVariants.{Backup}
-use Rattle.bd_space.specs.Allotment.{extent_count, held_count, TakenExactly}
+use Rattle.bd_space.specs.Allotment.{held_count, TakenExactly}
 use Rattle.bd_catalog.specs.Agreement.{Agrees}
 use Rattle.bd_catalog.specs.Catalogue.{all_extents, retained_in}
 use Rattle.bd_catalog.specs.Opening.{Found}

@@ -1,4 +1,4 @@
-use Rattle.std.proofs.Common.{◌≡◌, ◌∙◌, ◌<◌, false, true, refl, sym, ap, arith}
+use Rattle.std.proofs.Common.{◌≡◌, ◌∙◌, ◌<◌, refl, sym, ap, arith}
 use Rattle.bd_model.specs.State.{last_number}
 use Rattle.bd_catalog.specs.Catalogue.{retained_in}
 use Rattle.bd_store.specs.Shown.{Shown}

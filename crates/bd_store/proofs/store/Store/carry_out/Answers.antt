@@ -1,6 +1,6 @@
-use Rattle.std.proofs.Common.{◌≡◌, ⊎_elim, refl, sym, subst, Ok, Err}
+use Rattle.std.proofs.Common.{⊎_elim, refl, sym, subst, Ok, Err}
 use Rattle.bd_model.specs.declared.command.Command.{Command}
-use Rattle.bd_model.specs.declared.command.Command.TheVariants.{Expire, List as Listing, Reorganise, Scrub}
+use Rattle.bd_model.specs.declared.command.Command.TheVariants.{Expire, Reorganise, Scrub}
 use Rattle.bd_store.specs.Attempts.{attempt, scene, Meets}
 use Rattle.bd_store.specs.declared.fault.StoreFault.TheVariants.{OutOfMemory, Unbuilt}
 use Rattle.bd_store.proofs.Listed.{listed_step, listed_stops}
