@@ -135,6 +135,7 @@ module _ {D F : Type 0} (d : DiskGhosts D) (f : FilesGhosts F) (found : Found) (
         agrees = λ _. agrees_staged found (d.history disk0) (d.history disk1) space (begun.agrees told) (took.writes told);
         writes = unnamed_first told (Err fault) took;
         reads = refused_reads fault _ _ (took.places told);
+        looks = tt;
         damage = tt;
         recipe = tt;
       };
@@ -193,6 +194,7 @@ module _ {D F : Type 0} (d : DiskGhosts D) (f : FilesGhosts F) (found : Found) (
               agrees = λ _. subst (λ (f : Found). Agrees f (d.history disk2)) (sym is.made) (is.done told).agrees;
               writes = within disk2 found2 space2 (Ok answer) told is;
               reads = subst (λ a. BackupReads (d.history disk0) (d.history disk2) (Ok a)) says (read disk2 found2 space2 (Ok answer) told is);
+              looks = tt;
               damage = tt;
               recipe = tt;
             };
@@ -223,6 +225,7 @@ module _ {D F : Type 0} (d : DiskGhosts D) (f : FilesGhosts F) (found : Found) (
               agrees = λ sound. let no : true ≡ false = sym gone ∙ sound in absurd (cc);
               writes = within disk2 found2 space2 (Err DiskFault) told is;
               reads = read disk2 found2 space2 (Err DiskFault) told is;
+              looks = tt;
               damage = tt;
               recipe = tt;
             };

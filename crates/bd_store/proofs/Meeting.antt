@@ -9,7 +9,7 @@ use Rattle.bd_model.specs.declared.command.Command.{Command}
 use Rattle.bd_model.specs.declared.command.Command.TheVariants.{Backup, Restore, Expire, Reorganise, Scrub, List as Listing}
 use Rattle.bd_catalog.specs.Agreement.{Agrees}
 use Rattle.bd_catalog.specs.Opening.{Found}
-use Rattle.bd_store.specs.Attempts.{Scene, Attempt, attempt, DamageByCommand, FinishesByCommand, GivesByCommand, IsAnswerOf, KeepsVersions, Meets, ReadsByCommand, RecipeByCommand, WritesByCommand}
+use Rattle.bd_store.specs.Attempts.{Scene, Attempt, attempt, DamageByCommand, FinishesByCommand, GivesByCommand, IsAnswerOf, KeepsVersions, LooksByCommand, Meets, ReadsByCommand, RecipeByCommand, WritesByCommand}
 use Rattle.bd_store.specs.Causes.{ByCount}
 use Rattle.bd_store.specs.Shown.{Shown, SameVersions}
 use Rattle.bd_store.specs.Steps.{IsOneStep, KeepsFiles}
@@ -47,6 +47,14 @@ writes_none found Expire h = made_none _ h
 writes_none found Reorganise h = made_none _ h
 writes_none found Scrub h = made_none _ h
 writes_none found Listing h = made_none _ h
+
+looks_none : (command other : Command) (result : Result Answer StoreFault) (s : Scene) → LooksByCommand (attempt other result s s) command
+looks_none (Backup name) other result s = tt
+looks_none (Restore version name) other result s = made_none _ s.disk
+looks_none Expire other result s = tt
+looks_none Reorganise other result s = tt
+looks_none Scrub other result s = tt
+looks_none Listing other result s = tt
 
 files_stay : (command : Command) (files : FileMap) → KeepsFiles command files files
 files_stay (Backup name) files = refl
@@ -105,6 +113,7 @@ module _ (command : Command) (result : Result Answer StoreFault) (s : Scene) whe
       agrees = λ _. agrees told;
       writes = writes_none s.store.found command s.disk;
       reads = is.reads;
+      looks = looks_none command command result s;
       damage = is.damage;
       recipe = is.recipe;
     };

@@ -1,13 +1,13 @@
 -- A restore meets its promise, at each of its ends: the recipe couldn't be read, the version was given back, or the walk
 -- stopped.
-use Rattle.std.proofs.Common.{◌≡◌, ◌∙◌, ◌↔◌, ℕ, Bool, true, false, List, [], inl, refl, sym, ap, subst, arith, Ok, Err, Result}
-use Rattle.std.specs.FinMap as map
+use Rattle.std.proofs.Common.{◌≡◌, ◌∙◌, ◌↔◌, ◌≤◌, ℕ, Bool, true, false, List, [], inl, inr, refl, sym, ap, subst, arith, Ok, Err, Result}
 use Rattle.bd_disk.specs.Calls.{FailsByCount, Rose}
-use Rattle.bd_disk.specs.History.{contents}
-use Rattle.bd_disk.specs.Made.{WritesNothing}
+use Rattle.bd_disk.specs.History.{History, contents}
+use Rattle.bd_disk.specs.Runs.{Reads}
 use Rattle.bd_disk.specs.Trace.{ReadsOnly}
 use Rattle.bd_disk.specs.declared.disk.Disk.{Ghosts as DiskGhosts}
-use Rattle.bd_disk.proofs.Frames.{made_both}
+use Rattle.bd_disk.proofs.Frames.{unchanged}
+use Rattle.bd_disk.proofs.RunLemmas.{both_reads, looked, nothing_written, wider_reads}
 use Rattle.bd_files.specs.Files.{ChangesOnly, IsFinished}
 use Rattle.bd_files.specs.declared.files.Files.{Ghosts as FilesGhosts}
 use Rattle.bd_model.specs.declared.answer.Answer.{Answer}
@@ -15,35 +15,40 @@ use Rattle.bd_model.specs.declared.answer.Answer.TheVariants.{Restored}
 use Rattle.bd_model.specs.declared.command.Command.TheVariants.{Restore}
 use Rattle.bd_model.specs.declared.damage.Damage.{Damage}
 use Rattle.bd_catalog.specs.Agreement.{Agrees}
-use Rattle.bd_catalog.specs.Catalogue.{retained_in}
-use Rattle.bd_catalog.specs.Damages.{IsOfVersion, IsSeen}
+use Rattle.bd_catalog.specs.Catalogue.{oldest_in}
+use Rattle.bd_catalog.specs.Damages.{IsSeen}
 use Rattle.bd_catalog.specs.Opening.{Found}
-use Rattle.bd_catalog.specs.Rows.{spots_in, walk}
-use Rattle.bd_catalog.specs.Sound.{recipe_of, records_for}
-use Rattle.bd_recipe.specs.Reading.{IfDamaged, is_disk_fault, length_in, recipe_found, recipe_places, total}
+use Rattle.bd_catalog.specs.Rows.{walk}
+use Rattle.bd_recipe.specs.Reading.{IfDamaged, InRecipe, is_disk_fault, recipe_found, recipe_places, total}
 use Rattle.bd_recipe.specs.declared.fault.ReadFault.{ReadFault}
 use Rattle.bd_recipe.specs.declared.fault.ReadFault.TheVariants.{DiskFault as ReadDisk, Damaged as ReadDamaged, OutOfMemory as ReadMemory}
 use Rattle.bd_recipe.proofs.Holding.{holds-found}
-use Rattle.bd_restore.specs.Faults.{FailsByDisk, FailsByTarget, IfDamaged as IfMet}
-use Rattle.bd_restore.specs.Met.{IsNeeded, IsSeenAfter, IsWhole}
-use Rattle.bd_restore.specs.Plan.{AnswersPlan, Planned}
-use Rattle.bd_restore.specs.Target.{held, HasChunks}
-use Rattle.bd_restore.specs.Walk.{joined, walk_reads}
+use Rattle.bd_restore.specs.Faults.{FailsByCounts, IfDamaged as IfMet}
+use Rattle.bd_restore.specs.Plan.{AnswersPlan, IsPlanOf, Planned}
+use Rattle.bd_restore.specs.Restored.{GivesBack as GaveTarget, IsMetBy, ReadsWalk}
+use Rattle.bd_restore.specs.Target.{held, ChangesTarget, HasChunks, KeepsOthers}
+use Rattle.bd_restore.specs.Walk.{HasGoodHeaders, InRows}
 use Rattle.bd_restore.specs.declared.fault.RestoreFault.{RestoreFault}
 use Rattle.bd_restore.specs.declared.fault.RestoreFault.TheVariants.{TargetFault as RestoreTarget, DiskFault as RestoreDisk, Damaged as RestoreDamaged, OutOfMemory as RestoreMemory}
 use Rattle.bd_store.specs.Attempts.{Scene, Attempt, attempt, scene, EndsInDamage, KeepsStore, Meets, RestoreReads}
 use Rattle.bd_store.specs.Causes.{counts, FailsOnlyByCount}
 use Rattle.bd_store.specs.Naming.{fault_of_reading, fault_of_restore}
 use Rattle.bd_store.specs.Shown.{Shown}
-use Rattle.bd_store.specs.Touches.{AnswersByVersion}
+use Rattle.bd_store.specs.Touches.{is_retained, AnswersByVersion, InRestore}
 use Rattle.bd_store.specs.declared.fault.StoreFault.{StoreFault}
 use Rattle.bd_store.specs.declared.fault.StoreFault.TheVariants.{DiskFault}
+use Rattle.bd_store.proofs.Asking.{retained_is}
 use Rattle.bd_store.proofs.Giving.{agrees_quiet, reading_names, reading_one_step, restored_content, restored_one_step, restored_safe, restored_walks, walk_names, walk_one_step}
 use Rattle.bd_store.proofs.Meeting.{same_kept}
 use Rattle.bd_store.proofs.Quiet.{safe_quiet}
 
+-- what is told of the files whose target was changed
+changed_target : {F : Type 0} {f : FilesGhosts F} {name : List ℕ} {a b : F} → ChangesTarget f name a b → f.tells → (f.strays b ≡ f.strays a) × ChangesOnly name (f.files a) (f.files b)
+unfolding KeepsOthers
+changed_target changed told = changed.others told
+
 module _ {D F : Type 0} (d : DiskGhosts D) (f : FilesGhosts F) (found : Found) (stays : ℕ) (v : ℕ) (name : List ℕ) (disk0 : D) (files0 : F)
-    (agrees : d.tells → Agrees found (d.history disk0)) (only : retained_in found.catalogue ≡ 1) (is_newest : v ≡ found.catalogue.newest) where
+    (agrees : d.tells → Agrees found (d.history disk0)) (from : oldest_in found.catalogue ≤ v) (to : v ≤ found.catalogue.newest) where
   abbrev store : Bool → Shown
   store worn = record { found = found; held = stays; worn = worn }
 
@@ -52,6 +57,9 @@ module _ {D F : Type 0} (d : DiskGhosts D) (f : FilesGhosts F) (found : Found) (
 
   abbrev ended : Result Answer StoreFault → Bool → D → F → Attempt
   ended result worn disk files = attempt (Restore v name) result before (scene d f (store worn) disk files)
+
+  retained : is_retained found v ≡ true
+  retained = retained_is found v from to
 
   -- the store in memory goes on as it was
   store_kept : (result : Result Answer StoreFault) (worn : Bool) (disk : D) (files : F) → ((worn ≡ true) ↔ (result ≡ Err DiskFault)) → KeepsStore (ended result worn disk files)
@@ -62,12 +70,14 @@ module _ {D F : Type 0} (d : DiskGhosts D) (f : FilesGhosts F) (found : Found) (
     versions = same_kept (store false) (store worn) result (record { sizes = refl; base = refl; newest = refl; versions = refl; held = refl });
   }
 
+  in_recipe : (place : ℕ) → InRecipe found.sizes found.catalogue v place → InRestore found v place
+  in_recipe place inside = record { so = inl inside }
+
   -- ---- the recipe couldn't be read
 
   pub record CouldNotRead (disk1 : D) (fault : ReadFault) : Type 0 where
-    pub bytes : d.bytes disk1 ≡ d.bytes disk0
+    pub disk : Reads d (InRecipe found.sizes found.catalogue v) disk0 disk1
     pub cause : FailsByCount {T = Planned} is_disk_fault (d.faults disk0) (d.faults disk1) (Err fault)
-    pub writes : d.tells → WritesNothing (d.history disk0) (d.history disk1)
     pub entries : d.tells → AnswersPlan (recipe_found found.sizes found.catalogue (contents (d.history disk0)) v) (Err fault)
     pub seen : IfDamaged {T = Planned} (Err fault) (λ damage. d.tells → IsSeen found.sizes found.catalogue (contents (d.history disk0)) [] damage (d.history disk0) (d.history disk1))
 
@@ -78,9 +88,9 @@ module _ {D F : Type 0} (d : DiskGhosts D) (f : FilesGhosts F) (found : Found) (
     unread_cause ReadMemory is n m = record { later = record { disk = is.cause.later; sources = omega arith; targets = omega arith }; cause = ap (λ k. counts k n m) is.cause.cause }
 
     unread_answer : (fault : ReadFault) → AnswersByVersion found v (Err (fault_of_reading fault))
-    unread_answer ReadDisk = (only, is_newest)
-    unread_answer (ReadDamaged damage) = (only, is_newest)
-    unread_answer ReadMemory = (only, is_newest)
+    unread_answer ReadDisk = retained
+    unread_answer (ReadDamaged damage) = retained
+    unread_answer ReadMemory = retained
 
     unread_reads : (fault : ReadFault) (a : Attempt) → RestoreReads a v (Err (fault_of_reading fault))
     unread_reads ReadDisk a = tt
@@ -95,116 +105,114 @@ module _ {D F : Type 0} (d : DiskGhosts D) (f : FilesGhosts F) (found : Found) (
     pub meets_unread : (fault : ReadFault) (worn : Bool) → CouldNotRead disk1 fault → ((worn ≡ true) ↔ (◌≡◌ {A = Result Answer StoreFault} (Err (fault_of_reading fault)) (Err DiskFault))) →
         Meets d.tells f.tells (ended (Err (fault_of_reading fault)) worn disk1 files0)
     meets_unread fault worn is fails = record {
-      bytes = is.bytes;
+      bytes = is.disk.bytes;
       cause = unread_cause fault is (f.source_faults files0) (f.target_faults files0);
       answer = unread_answer fault;
       store = store_kept (Err (fault_of_reading fault)) worn disk1 files0 fails;
       on_disk = λ told. record {
-        agrees = λ _. agrees_quiet found (is.writes told) (agrees told);
-        writes = is.writes told;
+        agrees = λ _. agrees_quiet found (nothing_written is.disk told) (agrees told);
+        writes = nothing_written is.disk told;
         reads = unread_reads fault (ended (Err (fault_of_reading fault)) worn disk1 files0);
+        looks = looked (wider_reads (InRestore found v) in_recipe is.disk) told;
         damage = reading_names found v (d.history disk0) (d.history disk1) told fault (is.entries told) is.seen;
         recipe = unread_ends fault is told;
       };
       on_files = λ told. record { beside = record { others = λ other differ. refl }; strays = record { later = omega arith; missing = inl refl }; finished = tt };
       on_both = λ told files_tell. record {
         gives = tt;
-        step = reading_one_step found v (d.history disk0) (agrees told) only is_newest name stays _ fault (is.writes told) (is.entries told);
-        stops = safe_quiet (Restore v name) stays _ (fault_of_reading fault) (is.writes told);
+        step = reading_one_step found v (d.history disk0) (agrees told) from to name stays _ fault (nothing_written is.disk told) (is.entries told);
+        stops = safe_quiet (Restore v name) stays _ (fault_of_reading fault) (nothing_written is.disk told);
       };
     }
 
   -- ---- the plan was made, and run
 
   pub record ReadPlan (plan : Planned) (disk1 : D) : Type 0 where
-    pub bytes : d.bytes disk1 ≡ d.bytes disk0
+    pub disk : Reads d (InRecipe found.sizes found.catalogue v) disk0 disk1
     pub faults : d.faults disk1 ≡ d.faults disk0
-    pub version : plan.version ≡ v
-    pub writes : d.tells → WritesNothing (d.history disk0) (d.history disk1)
+    pub made : IsPlanOf found.sizes found.catalogue v plan
     pub entries : d.tells → recipe_found found.sizes found.catalogue (contents (d.history disk0)) v ≡ Ok plan.entries
     pub places : d.tells → ReadsOnly (recipe_places found.sizes found.catalogue v) (d.history disk0) (d.history disk1)
 
   module _ (plan : Planned) (disk1 : D) (read : ReadPlan plan disk1) (disk2 : D) (files2 : F) where
     -- what holds of the run however it ended
     pub record Ran (result : Result ℕ RestoreFault) : Type 0 where
-      pub bytes : d.bytes disk2 ≡ d.bytes disk1
-      pub cause : FailsByDisk (d.faults disk1) (d.faults disk2) result
-      pub target : FailsByTarget (f.target_faults files0) (f.target_faults files2) result
-      pub sources : f.source_faults files2 ≡ f.source_faults files0
-      pub strays : f.tells → f.strays files2 ≡ f.strays files0
-      pub others : f.tells → ChangesOnly name (f.files files0) (f.files files2)
-      pub writes : d.tells → WritesNothing (d.history disk1) (d.history disk2)
+      pub disk : Reads d (InRows found.sizes (walk found.catalogue plan.version)) disk1 disk2
+      pub files : ChangesTarget f name files0 files2
+      pub cause : FailsByCounts (d.faults disk1) (d.faults disk2) (f.target_faults files0) (f.target_faults files2) result
 
-    quiet : d.tells → (result : Result ℕ RestoreFault) → Ran result → WritesNothing (d.history disk0) (d.history disk2)
-    quiet told result ran = made_both (read.writes told) (ran.writes told)
+    in_walk : (place : ℕ) → InRows found.sizes (walk found.catalogue plan.version) place → InRestore found v place
+    in_walk place inside = record { so = inr (subst (λ n. InRows found.sizes (walk found.catalogue n) place) read.made.version inside) }
+
+    reads : (result : Result ℕ RestoreFault) → Ran result → Reads d (InRestore found v) disk0 disk2
+    reads result ran = both_reads (wider_reads (InRestore found v) in_recipe read.disk) (wider_reads (InRestore found v) in_walk ran.disk)
+
+    -- what is found in the image behind the reading is found in the first one
+    still : (P : List ℕ → ℕ → Type 0) → d.tells → P (contents (d.history disk1)) plan.version → P (contents (d.history disk0)) v
+    still P told there = subst (λ image. P image v) (unchanged (nothing_written read.disk told)) (subst (P (contents (d.history disk1))) read.made.version there)
 
     -- it gave the version back
     pub record GaveBack (given : ℕ) : Type 0 where
       pub length : given ≡ total plan.entries
-      pub file : d.tells → f.tells → f.files files2 ≡ map.insert (f.files files0) name (joined plan.entries (records_for found.sizes found.catalogue (contents (d.history disk1)) plan.version))
-      pub checked : d.tells → f.tells → HasChunks plan.entries (held (f.files files2) name)
+      pub file : d.tells → f.tells → GaveTarget found plan (contents (d.history disk1)) name (f.files files0) (f.files files2)
       pub finished : f.tells → IsFinished name (f.unfinished files2)
-      pub places : d.tells → ReadsOnly (walk_reads found.sizes plan.entries [] (spots_in found.sizes (contents (d.history disk1)) (walk found.catalogue plan.version))) (d.history disk1) (d.history disk2)
+      pub walked : d.tells → ReadsWalk found plan (d.history disk1) (d.history disk2)
 
-    pub meets_restored : (given : ℕ) → Ran (Ok given) → GaveBack given → given ≡ length_in found.catalogue v → Meets d.tells f.tells (ended (Ok (Restored v given)) false disk2 files2)
-    meets_restored given ran gave long = record {
-      bytes = ran.bytes ∙ read.bytes;
+    pub meets_restored : (given : ℕ) → Ran (Ok given) → GaveBack given → Meets d.tells f.tells (ended (Ok (Restored v given)) false disk2 files2)
+    meets_restored given ran gave = record {
+      bytes = (reads _ ran).bytes;
       cause = record {
-        later = record { disk = omega (arith, ran.cause.later, read.faults); sources = omega (arith, ran.sources); targets = ran.target.later };
-        cause = λ k. counts ((ran.cause.cause ∙ read.faults) k) (ran.sources k) (ran.target.cause k);
+        later = record { disk = omega (arith, ran.cause.disk.later, read.faults); sources = omega (arith, ran.files.sources); targets = ran.cause.target.later };
+        cause = λ k. counts ((ran.cause.disk.cause ∙ read.faults) k) (ran.files.sources k) (ran.cause.target.cause k);
       };
-      answer = (only, is_newest, refl, long);
+      answer = (omega (arith, from, to), retained, refl, gave.length ∙ read.made.recipe.sum);
       store = store_kept (Ok (Restored v given)) false disk2 files2 (λ e. let no : false ≡ true = e in absurd (cc), λ e. let no : ◌≡◌ {A = Result Answer StoreFault} (Ok (Restored v given)) (Err DiskFault) = e in absurd (cc));
       on_disk = λ told. record {
-        agrees = λ _. agrees_quiet found (quiet told (Ok given) ran) (agrees told);
-        writes = quiet told (Ok given) ran;
-        reads = restored_walks found v (d.history disk0) (agrees told) only is_newest plan.entries (read.entries told) plan.version read.version (d.history disk1) (read.writes told) (d.history disk2) (ran.writes told) (read.places told) (gave.places told) stays;
+        agrees = λ _. agrees_quiet found (nothing_written (reads (Ok given) ran) told) (agrees told);
+        writes = nothing_written (reads (Ok given) ran) told;
+        reads = restored_walks found v (d.history disk0) (agrees told) from to plan (read.entries told) read.made.version (d.history disk1) (nothing_written read.disk told) (d.history disk2) (nothing_written ran.disk told) (read.places told) (gave.walked told).places stays;
+        looks = looked (reads (Ok given) ran) told;
         damage = tt;
         recipe = λ damage broken. let no : Err damage ≡ Ok plan.entries = sym broken ∙ read.entries told in absurd (cc);
       };
-      on_files = λ told. record { beside = ran.others told; strays = record { later = omega (arith, ran.strays told); missing = inl (ran.strays told) }; finished = gave.finished told };
+      on_files = λ told. record { beside = (changed_target ran.files told).1; strays = record { later = omega (arith, (changed_target ran.files told).0); missing = inl (changed_target ran.files told).0 }; finished = gave.finished told };
       on_both = λ told files_tell. record {
         gives = record {
-          file = restored_content found v (d.history disk0) (agrees told) only is_newest plan.entries (read.entries told) plan.version read.version (d.history disk1) (read.writes told) (d.history disk2) (ran.writes told) name _ _ (gave.file told files_tell);
-          checked = subst (λ entries. HasChunks entries (held (f.files files2) name)) (holds-found found.sizes found.catalogue v (contents (d.history disk0)) plan.entries (read.entries told)).same (gave.checked told files_tell);
+          file = restored_content found v (d.history disk0) (agrees told) from to plan (read.entries told) read.made.version (d.history disk1) (nothing_written read.disk told) (d.history disk2) (nothing_written ran.disk told) name _ _ (gave.file told files_tell).file;
+          checked = subst (λ entries. HasChunks entries (held (f.files files2) name)) (holds-found found.sizes found.catalogue v (contents (d.history disk0)) plan.entries (read.entries told)).same (gave.file told files_tell).checked;
+          headers = still (λ image n. HasGoodHeaders found.sizes image (walk found.catalogue n)) told (gave.walked told).headers;
         };
-        step = restored_one_step found v (d.history disk0) (agrees told) only is_newest plan.entries (read.entries told) plan.version read.version (d.history disk1) (read.writes told) (d.history disk2) (ran.writes told) name stays _ _ given gave.length (gave.file told files_tell);
-        stops = restored_safe found v (d.history disk0) (agrees told) only is_newest name stays _ given (quiet told (Ok given) ran);
+        step = restored_one_step found v (d.history disk0) (agrees told) from to plan (read.entries told) read.made.version (d.history disk1) (nothing_written read.disk told) (d.history disk2) (nothing_written ran.disk told) name stays _ _ given gave.length (gave.file told files_tell).file;
+        stops = restored_safe found v (d.history disk0) (agrees told) from to name stays _ given (nothing_written (reads (Ok given) ran) told);
       };
     }
 
     -- it stopped at a fault
-    pub record Stopped (fault : RestoreFault) : Type 0 where
-      pub part : IfMet {T = ℕ} (Err fault) (λ damage. d.tells → IsOfVersion plan.version damage)
-      pub needed : IfMet {T = ℕ} (Err fault) (λ damage. d.tells → IsNeeded plan.entries damage)
-      pub seen : IfMet {T = ℕ} (Err fault) (λ damage. d.tells → plan.entries ≡ recipe_of found.sizes found.catalogue (contents (d.history disk1)) plan.version →
-          IsSeenAfter found.sizes found.catalogue (contents (d.history disk1)) plan.version damage (d.history disk1) (d.history disk2))
-      pub whole : IfMet {T = ℕ} (Err fault) (λ damage. d.tells → IsWhole found.sizes found.catalogue (contents (d.history disk1)) plan.version plan.entries → ⊥)
 
     stopped_cause : (fault : RestoreFault) → Ran (Err fault) →
         FailsOnlyByCount (counts (d.faults disk0) (f.source_faults files0) (f.target_faults files0)) (counts (d.faults disk2) (f.source_faults files2) (f.target_faults files2)) (Err (fault_of_restore fault))
     stopped_cause RestoreTarget ran = record {
-      later = record { disk = omega (arith, ran.cause.later, read.faults); sources = omega (arith, ran.sources); targets = ran.target.later };
-      cause = (ran.target.cause, ran.cause.cause ∙ read.faults, ran.sources);
+      later = record { disk = omega (arith, ran.cause.disk.later, read.faults); sources = omega (arith, ran.files.sources); targets = ran.cause.target.later };
+      cause = (ran.cause.target.cause, ran.cause.disk.cause ∙ read.faults, ran.files.sources);
     }
     stopped_cause RestoreDisk ran = record {
-      later = record { disk = omega (arith, ran.cause.later, read.faults); sources = omega (arith, ran.sources); targets = ran.target.later };
-      cause = (subst (λ n. Rose n (d.faults disk2)) read.faults ran.cause.cause, ran.sources, ran.target.cause);
+      later = record { disk = omega (arith, ran.cause.disk.later, read.faults); sources = omega (arith, ran.files.sources); targets = ran.cause.target.later };
+      cause = (subst (λ n. Rose n (d.faults disk2)) read.faults ran.cause.disk.cause, ran.files.sources, ran.cause.target.cause);
     }
     stopped_cause (RestoreDamaged damage) ran = record {
-      later = record { disk = omega (arith, ran.cause.later, read.faults); sources = omega (arith, ran.sources); targets = ran.target.later };
-      cause = λ k. counts ((ran.cause.cause ∙ read.faults) k) (ran.sources k) (ran.target.cause k);
+      later = record { disk = omega (arith, ran.cause.disk.later, read.faults); sources = omega (arith, ran.files.sources); targets = ran.cause.target.later };
+      cause = λ k. counts ((ran.cause.disk.cause ∙ read.faults) k) (ran.files.sources k) (ran.cause.target.cause k);
     }
     stopped_cause RestoreMemory ran = record {
-      later = record { disk = omega (arith, ran.cause.later, read.faults); sources = omega (arith, ran.sources); targets = ran.target.later };
-      cause = λ k. counts ((ran.cause.cause ∙ read.faults) k) (ran.sources k) (ran.target.cause k);
+      later = record { disk = omega (arith, ran.cause.disk.later, read.faults); sources = omega (arith, ran.files.sources); targets = ran.cause.target.later };
+      cause = λ k. counts ((ran.cause.disk.cause ∙ read.faults) k) (ran.files.sources k) (ran.cause.target.cause k);
     }
 
     stopped_answer : (fault : RestoreFault) → AnswersByVersion found v (Err (fault_of_restore fault))
-    stopped_answer RestoreTarget = (only, is_newest)
-    stopped_answer RestoreDisk = (only, is_newest)
-    stopped_answer (RestoreDamaged damage) = (only, is_newest)
-    stopped_answer RestoreMemory = (only, is_newest)
+    stopped_answer RestoreTarget = retained
+    stopped_answer RestoreDisk = retained
+    stopped_answer (RestoreDamaged damage) = retained
+    stopped_answer RestoreMemory = retained
 
     stopped_reads : (fault : RestoreFault) (a : Attempt) → RestoreReads a v (Err (fault_of_restore fault))
     stopped_reads RestoreTarget a = tt
@@ -212,24 +220,25 @@ module _ {D F : Type 0} (d : DiskGhosts D) (f : FilesGhosts F) (found : Found) (
     stopped_reads (RestoreDamaged damage) a = tt
     stopped_reads RestoreMemory a = tt
 
-    pub meets_stopped : (fault : RestoreFault) (worn : Bool) → Ran (Err fault) → Stopped fault → ((worn ≡ true) ↔ (◌≡◌ {A = Result Answer StoreFault} (Err (fault_of_restore fault)) (Err DiskFault))) →
+    pub meets_stopped : (fault : RestoreFault) (worn : Bool) → Ran (Err fault) → IfMet {T = ℕ} (Err fault) (λ damage. d.tells → IsMetBy found plan damage (d.history disk1) (d.history disk2)) → ((worn ≡ true) ↔ (◌≡◌ {A = Result Answer StoreFault} (Err (fault_of_restore fault)) (Err DiskFault))) →
         Meets d.tells f.tells (ended (Err (fault_of_restore fault)) worn disk2 files2)
-    meets_stopped fault worn ran is fails = record {
-      bytes = ran.bytes ∙ read.bytes;
+    meets_stopped fault worn ran met fails = record {
+      bytes = (reads _ ran).bytes;
       cause = stopped_cause fault ran;
       answer = stopped_answer fault;
       store = store_kept (Err (fault_of_restore fault)) worn disk2 files2 fails;
       on_disk = λ told. record {
-        agrees = λ _. agrees_quiet found (quiet told (Err fault) ran) (agrees told);
-        writes = quiet told (Err fault) ran;
+        agrees = λ _. agrees_quiet found (nothing_written (reads (Err fault) ran) told) (agrees told);
+        writes = nothing_written (reads (Err fault) ran) told;
         reads = stopped_reads fault (ended (Err (fault_of_restore fault)) worn disk2 files2);
-        damage = walk_names found v (d.history disk0) (d.history disk1) told plan.entries (read.entries told) plan.version read.version (read.writes told) (read.places told) (d.history disk2) fault is.part is.needed is.seen;
+        looks = looked (reads (Err fault) ran) told;
+        damage = walk_names found v (d.history disk0) (d.history disk1) told plan (read.entries told) read.made.version (nothing_written read.disk told) (read.places told) (d.history disk2) fault met;
         recipe = λ damage broken. let no : Err damage ≡ Ok plan.entries = sym broken ∙ read.entries told in absurd (cc);
       };
-      on_files = λ told. record { beside = ran.others told; strays = record { later = omega (arith, ran.strays told); missing = inl (ran.strays told) }; finished = tt };
+      on_files = λ told. record { beside = (changed_target ran.files told).1; strays = record { later = omega (arith, (changed_target ran.files told).0); missing = inl (changed_target ran.files told).0 }; finished = tt };
       on_both = λ told files_tell. record {
         gives = tt;
-        step = walk_one_step found v (d.history disk0) (agrees told) only is_newest plan.entries (read.entries told) plan.version read.version (d.history disk1) (read.writes told) (d.history disk2) (ran.writes told) name stays _ _ fault (ran.others files_tell) told is.whole;
-        stops = safe_quiet (Restore v name) stays _ (fault_of_restore fault) (quiet told (Err fault) ran);
+        step = walk_one_step found v (d.history disk0) (agrees told) from to plan (read.entries told) read.made.version (d.history disk1) (nothing_written read.disk told) (d.history disk2) (nothing_written ran.disk told) name stays _ _ fault (changed_target ran.files files_tell).1 told met;
+        stops = safe_quiet (Restore v name) stays _ (fault_of_restore fault) (nothing_written (reads (Err fault) ran) told);
       };
     }

@@ -2,6 +2,7 @@
 use Rattle.std.specs.Prelude.{◌≡◌, ◌↔◌, ◌≤◌, ◌<◌, ℕ, true, false, List, Result, Ok, Err}
 use Rattle.std.specs.FinMap as map
 use Rattle.bd_disk.specs.History.{History, contents}
+use Rattle.bd_disk.specs.Looks.{LooksOnlyAt}
 use Rattle.bd_disk.specs.Made.{TouchesNothing, WritesNothing, WritesOnly}
 use Rattle.bd_disk.specs.declared.disk.Disk.{Ghosts as DiskGhosts}
 use Rattle.bd_files.specs.Files.{IsFinished}
@@ -19,15 +20,17 @@ use Rattle.bd_catalog.specs.Agreement.{Agrees, InExtents}
 use Rattle.bd_catalog.specs.Catalogue.{all_extents, oldest_in}
 use Rattle.bd_catalog.specs.Standing.{lines_from}
 use Rattle.bd_catalog.specs.Opening.{Found}
+use Rattle.bd_catalog.specs.Rows.{walk}
 use Rattle.bd_catalog.specs.Sound.{content, recipe_of}
 use Rattle.bd_recipe.specs.Reading.{recipe_found}
 use Rattle.bd_restore.specs.Target.{held, HasChunks}
+use Rattle.bd_restore.specs.Walk.{HasGoodHeaders}
 use Rattle.bd_store.specs.Causes.{Counts, counts, FailsOnlyByCount, StraysOnlyBy}
 use Rattle.bd_store.specs.Naming.{NamesDamage}
 use Rattle.bd_store.specs.Shown.{Shown, SameVersions}
 use Rattle.bd_store.specs.Steps.{IsOneStep, KeepsFiles}
 use Rattle.bd_store.specs.Stops.{IsSafeAtStops}
-use Rattle.bd_store.specs.Touches.{AnswersByNumbers, AnswersByVersion, BackupReads, IsByVersion, WalksTo}
+use Rattle.bd_store.specs.Touches.{AnswersByNumbers, AnswersByVersion, BackupReads, InRestore, IsByVersion, WalksTo}
 use Rattle.bd_store.specs.declared.fault.StoreFault.{StoreFault}
 use Rattle.bd_store.specs.declared.fault.StoreFault.TheVariants.{DiskFault, Damaged, OutOfMemory, Unbuilt}
 
@@ -111,7 +114,6 @@ WritesByCommand found command old new = WritesNothing old new
 abbrev pub RestoreReads : Attempt → ℕ → Result Answer StoreFault → Type 0
 RestoreReads a v (Ok (Restored given bytes)) = WalksTo a.before.store.held a.before.store.found v a.before.disk a.after.disk
 RestoreReads a v (Ok answer) = TouchesNothing a.before.disk a.after.disk
-RestoreReads a v (Err Unbuilt) = TouchesNothing a.before.disk a.after.disk
 RestoreReads a v (Err fault) = Unit {0}
 
 -- which places are read, at every answer
@@ -119,6 +121,11 @@ abbrev pub ReadsByCommand : Attempt → Command → Type 0
 ReadsByCommand a (Backup name) = BackupReads a.before.disk a.after.disk a.result
 ReadsByCommand a (Restore v name) = RestoreReads a v a.result
 ReadsByCommand a command = TouchesNothing a.before.disk a.after.disk
+
+-- a restore reads its recipe and the rows on its walk, whatever image it is and however it ends
+abbrev pub LooksByCommand : Attempt → Command → Type 0
+LooksByCommand a (Restore v name) = LooksOnlyAt (InRestore a.before.store.found v) a.before.disk a.after.disk
+LooksByCommand a command = Unit {0}
 
 -- A damage is one that the command looks for, its bytes were read, and they break its rule.
 abbrev pub DamageByCommand : Attempt → Command → Type 0
@@ -141,6 +148,7 @@ pub record MeetsOnDisk (a : Attempt) : Type 0 where
   pub agrees : a.after.store.worn ≡ false → Agrees a.after.store.found a.after.disk
   pub writes : WritesByCommand a.before.store.found a.command a.before.disk a.after.disk
   pub reads : ReadsByCommand a a.command
+  pub looks : LooksByCommand a a.command
   pub damage : DamageByCommand a a.command
   pub recipe : RecipeByCommand a a.command
 
@@ -158,10 +166,12 @@ pub record MeetsOnFiles (a : Attempt) : Type 0 where
 
 -- ---- where both tell
 
--- whatever image it is: the target has what the recipe's entries find there, and each chunk in it has the mark of its entry
+-- whatever image it is: the target has what the recipe's entries find there, each chunk in it has the mark of its entry, and
+-- the header of each record on the walk holds
 pub record GivesBack (found : Found) (v : ℕ) (name image : List ℕ) (old new : FileMap) : Type 0 where
   pub file : new ≡ map.insert old name (content found image v)
   pub checked : HasChunks (recipe_of found.sizes found.catalogue image v) (held new name)
+  pub headers : HasGoodHeaders found.sizes image (walk found.catalogue v)
 
 abbrev pub GivesByCommand : Attempt → Command → Result Answer StoreFault → Type 0
 GivesByCommand a (Restore v name) (Ok (Restored given bytes)) = GivesBack a.before.store.found v name (contents a.before.disk) a.before.files a.after.files

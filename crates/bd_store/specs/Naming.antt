@@ -1,6 +1,6 @@
 -- What the faults of the crates below are answered with, what is said of a named damage, and what holds but where the disk
 -- failed.
-use Rattle.std.specs.Prelude.{◌≡◌, ℕ, Result, Ok, Err}
+use Rattle.std.specs.Prelude.{◌≡◌, ℕ, List, Result, Ok, Err}
 use Rattle.bd_disk.specs.History.{History, contents}
 use Rattle.bd_catalog.specs.Damages.{IsOfVersion, IsSeen}
 use Rattle.bd_catalog.specs.Opening.{Found}
@@ -8,7 +8,8 @@ use Rattle.bd_catalog.specs.Rows.{walk}
 use Rattle.bd_catalog.specs.Sound.{recipe_of}
 use Rattle.bd_recipe.specs.declared.fault.ReadFault.{ReadFault}
 use Rattle.bd_recipe.specs.declared.fault.ReadFault.TheVariants.{DiskFault as ReadDisk, Damaged as ReadDamaged, OutOfMemory as ReadMemory}
-use Rattle.bd_restore.specs.Met.{IsNeeded}
+use Rattle.bd_restore.specs.Met.{ComesTo, IsNeeded}
+use Rattle.bd_restore.specs.Walk.{Sought}
 use Rattle.bd_restore.specs.declared.fault.RestoreFault.{RestoreFault}
 use Rattle.bd_restore.specs.declared.fault.RestoreFault.TheVariants.{TargetFault as RestoreTarget, DiskFault as RestoreDisk, Damaged as RestoreDamaged, OutOfMemory as RestoreMemory}
 use Rattle.bd_model.specs.declared.damage.Damage.{Damage}
@@ -43,12 +44,17 @@ fault_of_restore RestoreDisk = DiskFailed
 fault_of_restore (RestoreDamaged damage) = DamageFound damage
 fault_of_restore RestoreMemory = MemoryFailed
 
+-- what a restore of version v looks for
+abbrev pub sought : Found → List ℕ → ℕ → Sought
+sought found image v = record { sizes = found.sizes; version = v; entries = recipe_of found.sizes found.catalogue image v }
+
 -- the damage is one of a restore of version v: of its recipe, or in a row of its walk; the bytes that it names were read
--- between these moments, and break its rule
+-- between these moments, and break its rule; and the restore came to them, behind records whose headers hold
 pub record IsDamageOf (found : Found) (v : ℕ) (damage : Damage) (old new : History) : Type 0 where
   pub part : IsOfVersion v damage
   pub needed : IsNeeded (recipe_of found.sizes found.catalogue (contents old) v) damage
   pub seen : IsSeen found.sizes found.catalogue (contents old) (walk found.catalogue v) damage old new
+  pub comes : ComesTo (sought found (contents old) v) (contents old) (walk found.catalogue v) damage seen.places
 
 -- and so is a damage that is answered
 abbrev pub NamesDamage : Found → ℕ → History → History → Result Answer StoreFault → Type 0

@@ -1,5 +1,5 @@
 -- Which places of the disk a command reads, and which answers touch nothing.
-use Rattle.std.specs.Prelude.{◌≡◌, ℕ, ◌<◌, ◌||◌, ◌==◌, ◌&&◌, Bool, true, false, not, nat_le, nat_lt, [], Some, Result, Ok, Err}
+use Rattle.std.specs.Prelude.{◌≡◌, ◌⊎◌, ℕ, ◌<◌, ◌||◌, ◌==◌, ◌&&◌, Bool, true, false, not, nat_le, nat_lt, [], Some, Result, Ok, Err}
 use Rattle.bd_disk.specs.History.{History, contents}
 use Rattle.bd_disk.specs.Made.{TouchesNothing}
 use Rattle.bd_disk.specs.Trace.{ReadsOnly}
@@ -11,9 +11,11 @@ use Rattle.bd_model.specs.declared.answer.Answer.{Answer}
 use Rattle.bd_model.specs.declared.answer.Answer.TheVariants.{BackedUp, FullExtents, FullNumbers, FullVersions, NoVersion, NothingRetained, Restored}
 use Rattle.bd_catalog.specs.Catalogue.{oldest_in, retained_in}
 use Rattle.bd_catalog.specs.Opening.{Found}
+use Rattle.bd_catalog.specs.Rows.{walk}
 use Rattle.bd_catalog.specs.Standing.{StandsFor}
 use Rattle.bd_catalog.specs.Walks.{restore_reads, IsLean}
-use Rattle.bd_recipe.specs.Reading.{length_in}
+use Rattle.bd_recipe.specs.Reading.{length_in, InRecipe}
+use Rattle.bd_restore.specs.Walk.{InRows}
 use Rattle.bd_store.specs.declared.fault.StoreFault.{StoreFault}
 use Rattle.bd_store.specs.declared.fault.StoreFault.TheVariants.{SourceFault, Damaged, Unbuilt, TargetFault}
 
@@ -44,37 +46,31 @@ AnswersByNumbers found (Err fault) = (numbers_used_up found || versions_used_up 
 abbrev pub is_retained : Found → ℕ → Bool
 is_retained found v = nat_le (oldest_in found.catalogue) v && nat_le v found.catalogue.newest
 
--- a restore beside another retained version is still to come
-abbrev pub restore_is_unbuilt : Found → ℕ → Bool
-restore_is_unbuilt found v = is_retained found v && nat_lt 1 (retained_in found.catalogue)
-
--- Where nothing is retained, or not this version, or the restore is still to come, exactly that is answered; else none of
--- these is. A restore has no source that could fail.
+-- Where nothing is retained, or not this version, exactly that is answered; else none of these is. A restore has no source
+-- that could fail.
 abbrev pub AnswersByVersion : Found → ℕ → Result Answer StoreFault → Type 0
 AnswersByVersion found v (Ok (NothingRetained asked)) = (retained_in found.catalogue ≡ 0) × (asked ≡ Some v)
 AnswersByVersion found v (Ok (NoVersion asked oldest newest)) = (0 < retained_in found.catalogue) × (is_retained found v ≡ false) × (asked ≡ v) × (oldest ≡ oldest_in found.catalogue) × (newest ≡ found.catalogue.newest)
-AnswersByVersion found v (Ok (Restored given bytes)) = (retained_in found.catalogue ≡ 1) × (v ≡ found.catalogue.newest) × (given ≡ v) × (bytes ≡ length_in found.catalogue v)
+AnswersByVersion found v (Ok (Restored given bytes)) = (0 < retained_in found.catalogue) × (is_retained found v ≡ true) × (given ≡ v) × (bytes ≡ length_in found.catalogue v)
 AnswersByVersion found v (Ok answer) = ⊥
-AnswersByVersion found v (Err Unbuilt) = restore_is_unbuilt found v ≡ true
+AnswersByVersion found v (Err Unbuilt) = ⊥
 AnswersByVersion found v (Err SourceFault) = ⊥
-AnswersByVersion found v (Err fault) = (retained_in found.catalogue ≡ 1) × (v ≡ found.catalogue.newest)
+AnswersByVersion found v (Err fault) = is_retained found v ≡ true
 
 -- the answers that go by the numbers alone
 abbrev pub IsByVersion : Result Answer StoreFault → Type 0
 IsByVersion (Ok (NothingRetained asked)) = Unit {0}
 IsByVersion (Ok (NoVersion asked oldest newest)) = Unit {0}
-IsByVersion (Err Unbuilt) = Unit {0}
 IsByVersion result = ⊥
-
--- of a restore that was answered
-abbrev pub IfRestored : Result Answer StoreFault → Type 0 → Type 0
-IfRestored (Ok (Restored given bytes)) P = P
-IfRestored result P = Unit {0}
 
 -- Whatever state the contents stood for: the walk of version v through the layout of that moment was read, and it is lean.
 pub record WalksTo (held : ℕ) (found : Found) (v : ℕ) (old new : History) : Type 0 where
   pub each : (shape : Shape) → (st : VersionState) → (phase : Phase) → Near (history shape st) → StandsFor shape st phase held (contents old) →
       ReadsOnly (restore_reads found.sizes found.catalogue (history shape st) v) old new × IsLean (history shape st) found.catalogue.phase v
+
+-- a place of the recipe of version v, or of a row on its walk
+pub record InRestore (found : Found) (v place : ℕ) : Type 0 where
+  pub so : InRecipe found.sizes found.catalogue v place ⊎ InRows found.sizes (walk found.catalogue v) place
 
 -- A backup into a store that retains nothing reads nothing, and one that is refused for a number touches nothing.
 abbrev pub BackupReads : History → History → Result Answer StoreFault → Type 0
@@ -82,12 +78,3 @@ BackupReads old new (Ok FullNumbers) = TouchesNothing old new
 BackupReads old new (Ok (FullVersions retained)) = TouchesNothing old new
 BackupReads old new (Err Unbuilt) = TouchesNothing old new
 BackupReads old new result = ReadsOnly [] old new
-
--- no answer that goes by numbers, no fault of a target, and no damage
-abbrev pub AnswersFirst : Result Answer StoreFault → Type 0
-AnswersFirst (Ok FullNumbers) = ⊥
-AnswersFirst (Ok (FullVersions retained)) = ⊥
-AnswersFirst (Err Unbuilt) = ⊥
-AnswersFirst (Err TargetFault) = ⊥
-AnswersFirst (Err (Damaged damage)) = ⊥
-AnswersFirst result = Unit {0}

@@ -31,7 +31,6 @@ ghost use Rattle.bd_store.specs.Openings.{AnswersOpening, IsNewStore, MakingStop
 ghost use Rattle.bd_store.specs.Shown.{SameVersions};
 ghost use Rattle.bd_store.specs.Steps.{IsOneStep};
 ghost use Rattle.bd_store.specs.Stops.{IsSafeAtStops};
-ghost use Rattle.bd_store.specs.Touches.{AnswersByNumbers, AnswersByVersion, AnswersFirst, BackupReads, IfRestored, IsByVersion, WalksTo};
 
 use crate::fault::{StoreFault, fault_of_reading, fault_of_restore, is_disk_fault, refusal_of};
 use crate::listing::lines_of;
@@ -204,13 +203,10 @@ impl Store {
                 newest,
             });
         }
-        if retained > 1 {
-            return Err(StoreFault::Unbuilt);
-        }
         self.give_back(disk, files, version, name)
     }
 
-    // Gives the one version that the store retains back.
+    // Gives this retained version back.
     fn give_back<D: Disk, F: Files>(
         &mut self,
         disk: &mut D,
@@ -218,8 +214,8 @@ impl Store {
         version: u32,
         name: &Name,
     ) -> Result<Answer, StoreFault>
-        requires only { retained_in self.old.found.catalogue ≡ 1 }
-        requires newest { version ≡ self.old.found.catalogue.newest }
+        requires oldest { oldest_in self.old.found.catalogue ≤ version }
+        requires newest { version ≤ self.old.found.catalogue.newest }
         requires room { disk_bytes self.old.found.sizes ≤ D.bytes disk.old }
         requires agrees { D.tells → Agrees self.old.found (D.history disk.old) }
         requires sound { self.old.worn ≡ false }

@@ -40,25 +40,3 @@ returns-then-version-oldest g c =
           (λ told files_tell. refused_step _ _ _ _ _ (number_refuses _ _ _ _ _ c.args.self.now.found (c.requires.agrees told) _ _ some low high c.then-version-oldest.either) refl (λ st phase. refl))
           (λ told files_tell. refused_stops _ _ _ _ _ (number_refuses _ _ _ _ _ c.args.self.now.found (c.requires.agrees told) _ _ some low high c.then-version-oldest.either));
     }
-
-pub returns-then-retained-gt1 : goal.returns-then-retained-gt1
-returns-then-retained-gt1 g c =
-    let high : c.newest-newest.result ≡ c.args.self.now.found.catalogue.newest = c.newest-newest.ensures ∙ ap (λ (s : Shown). s.found.catalogue.newest) c.self.view_is in
-    let count : c.retained-retained.result ≡ retained_in c.args.self.now.found.catalogue = c.retained-retained.ensures ∙ ap (λ (s : Shown). retained_in s.found.catalogue) c.self.view_is in
-    let some : 1 < retained_in c.args.self.now.found.catalogue = omega (arith, count, c.if-retained-gt1.true) in
-    let low : c.newest-newest.result - (c.retained-retained.result - 1) ≡ oldest_in c.args.self.now.found.catalogue = omega (arith, high, count, some) in
-    record {
-      meets = meets_untouched _ _ _ c.requires.sound c.requires.agrees
-          (record {
-            cause = refl;
-            has_disk = tt;
-            answer = and_from (is_retained c.args.self.now.found c.args.version) (nat_lt 1 (retained_in c.args.self.now.found.catalogue)) (retained_is c.args.self.now.found c.args.version (omega (arith, low, c.if-version-oldest.false)) (omega (arith, high, c.if-newest-version.false))) (lt-ltb 1 (retained_in c.args.self.now.found.catalogue) some);
-            reads = refl;
-            damage = tt;
-            recipe = λ damage is. tt;
-            finished = tt;
-            gives = tt;
-          })
-          (λ told files_tell. unbuilt_step _ _ _ _)
-          (λ told files_tell. safe_untouched _ _ _ _ _);
-    }
