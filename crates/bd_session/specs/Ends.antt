@@ -1,0 +1,84 @@
+-- Which end comes of what.
+use Rattle.std.specs.Prelude.{◌≡◌, ℕ, ◌≤◌, List, true, Option, Some, Result, Ok, Err}
+use Rattle.bd_disk.specs.Calls.{Rose}
+use Rattle.bd_files.specs.Sinks.{HandsPart}
+use Rattle.bd_model.specs.Texts.{answer_text}
+use Rattle.bd_model.specs.declared.answer.Answer.{Answer}
+use Rattle.bd_model.specs.declared.command.Command.{Command}
+use Rattle.bd_model.specs.declared.command.Command.TheVariants.{Backup, Restore}
+use Rattle.bd_script.specs.Long.{is_long}
+use Rattle.bd_catalog.specs.Opening.{Found}
+use Rattle.bd_store.specs.Attempts.{IsAnswerOf}
+use Rattle.bd_store.specs.Causes.{HasRisen, NoneFell}
+use Rattle.bd_store.specs.declared.fault.StoreFault.{StoreFault}
+use Rattle.bd_store.specs.declared.fault.StoreFault.TheVariants.{SourceFault as StoreSource, TargetFault as StoreTarget, DiskFault as StoreDisk, Damaged as StoreDamaged, OutOfMemory as StoreMemory, Unbuilt as StoreUnbuilt}
+use Rattle.bd_session.specs.Course.{Around}
+use Rattle.bd_session.specs.declared.report.SessionEnd.{SessionEnd}
+use Rattle.bd_session.specs.declared.report.SessionEnd.TheVariants.{Done, SourceFault, TargetFault, DiskFault, Damaged, OutputFault, OutOfMemory, Unbuilt}
+
+-- the end that a fault of the store brings
+abbrev pub end_of : StoreFault → SessionEnd
+end_of StoreSource = SourceFault
+end_of StoreTarget = TargetFault
+end_of StoreDisk = DiskFault
+end_of (StoreDamaged damage) = Damaged damage
+end_of StoreMemory = OutOfMemory
+end_of StoreUnbuilt = Unbuilt
+
+-- the sink wasn't asked for anything
+pub record LeavesSink (before now : Around) : Type 0 where
+  pub faults : now.sink_faults ≡ before.sink_faults
+  pub handed : now.handed ≡ before.handed
+
+-- the sink failed, and took a part of the text at most
+pub record FailsSink (sink : Type 0) (text : List ℕ) (before now : Around) : Type 0 where
+  pub faults : Rose before.sink_faults now.sink_faults
+  pub handed : sink → HandsPart text before.handed now.handed
+
+-- Which end a command brings: its fault; or, where it was answered, that the text couldn't be put. For want of memory that
+-- is only the text of many lines.
+abbrev pub EndsBy : Type 0 → Result Answer StoreFault → SessionEnd → Around → Around → Type 0
+EndsBy sink (Err fault) ending before now = (ending ≡ end_of fault) × LeavesSink before now
+EndsBy sink (Ok answer) OutputFault before now = FailsSink sink (answer_text answer) before now
+EndsBy sink (Ok answer) OutOfMemory before now = (is_long answer ≡ true) × LeavesSink before now
+EndsBy sink (Ok answer) ending before now = ⊥
+
+-- ---- by which count
+
+pub record LeavesCounts (before now : Around) : Type 0 where
+  pub store : now.scene.counts ≡ before.scene.counts
+  pub sink : now.sink_faults ≡ before.sink_faults
+
+-- a fault of the store comes by the count of its object, and the sink didn't fail
+pub record StoreFailed (fault : StoreFault) (before now : Around) : Type 0 where
+  pub store : HasRisen fault before.scene.counts now.scene.counts
+  pub sink : now.sink_faults ≡ before.sink_faults
+
+-- the sink failed, and nothing else
+pub record SinkFailed (before now : Around) : Type 0 where
+  pub store : now.scene.counts ≡ before.scene.counts
+  pub sink : Rose before.sink_faults now.sink_faults
+
+abbrev pub EndsByCount : SessionEnd → Around → Around → Type 0
+EndsByCount SourceFault before now = StoreFailed StoreSource before now
+EndsByCount TargetFault before now = StoreFailed StoreTarget before now
+EndsByCount DiskFault before now = StoreFailed StoreDisk before now
+EndsByCount OutputFault before now = SinkFailed before now
+EndsByCount ending before now = LeavesCounts before now
+
+-- No count falls. Each fault comes by the count of its object; every other end, that for want of memory too, leaves all.
+pub record EndsOnlyByCount (ending : SessionEnd) (before now : Around) : Type 0 where
+  pub later : NoneFell before.scene.counts now.scene.counts
+  pub sink : before.sink_faults ≤ now.sink_faults
+  pub cause : EndsByCount ending before now
+
+-- ---- by which command
+
+-- A source that fails belongs to a backup, a target that fails and damage to a restore. A command that is still to come is
+-- one by what the store found.
+abbrev pub IsMetBy : Option Command → SessionEnd → Type 0
+IsMetBy next SourceFault = (name : List ℕ) × (next ≡ Some (Backup name))
+IsMetBy next TargetFault = (v : ℕ) × (name : List ℕ) × (next ≡ Some (Restore v name))
+IsMetBy next (Damaged damage) = (v : ℕ) × (name : List ℕ) × (next ≡ Some (Restore v name))
+IsMetBy next Unbuilt = (found : Found) × (command : Command) × (next ≡ Some command) × IsAnswerOf found command (Err StoreUnbuilt)
+IsMetBy next ending = Unit {0}

@@ -1,0 +1,10 @@
+pub mod Course
+pub mod Drops
+pub mod Ends
+pub mod Headline
+pub mod Keeping
+pub mod Promised
+pub mod Reads
+pub mod Session
+pub mod Telling
+pub mod Turns

@@ -1,0 +1,39 @@
+-- All that is promised of a list of commands.
+use Rattle.std.specs.Prelude.{◌≡◌, ◌+◌}
+use Rattle.bd_disk.specs.History.{clock}
+use Rattle.bd_model.specs.declared.layout.Phase.{Phase}
+use Rattle.bd_model.specs.declared.shape.Shape.{Shape}
+use Rattle.bd_model.specs.State.{VersionState}
+use Rattle.bd_session.specs.Course.{Around, Course, answered, next_command}
+use Rattle.bd_session.specs.Ends.{EndsOnlyByCount, IsMetBy}
+use Rattle.bd_session.specs.Headline.{EndsWell, MeetsTheHeadline}
+use Rattle.bd_session.specs.Keeping.{ClocksRise, KeepsOthers, KeepsStore, StraysOnlyFor, WritesByCommands}
+use Rattle.bd_session.specs.Promised.{IsPromised, start}
+use Rattle.bd_session.specs.Telling.{HandsAnswers}
+use Rattle.bd_session.specs.Turns.{Goes}
+
+-- Over an honest disk, while marks tell apart what the commands meet that were tried, whatever state and phase the contents
+-- stood for.
+pub record MeetsHonestly (c : Course) (before now : Around) : Type 0 where
+  pub headline : (shape : Shape) → (st : VersionState) → (phase : Phase) → IsPromised (start shape st phase before.scene) c.commands (answered c + 1) →
+      MeetsTheHeadline (start shape st phase before.scene) (clock before.scene.disk) c now.scene.disk now.scene.files
+  pub ends : (shape : Shape) → (st : VersionState) → (phase : Phase) → IsPromised (start shape st phase before.scene) c.commands (answered c + 1) → EndsWell c before now
+
+-- All that is promised. `disk`, `files` and `sink` are that these tell what they hold.
+pub record MeetsSession (disk files sink : Type 0) (c : Course) (before now : Around) : Type 0 where
+  pub bytes : now.scene.disk_bytes ≡ before.scene.disk_bytes
+  -- each end by the count of its object, and by a command that can meet it
+  pub cause : EndsOnlyByCount c.ending before now
+  pub met : IsMetBy (next_command c) c.ending
+  -- the store can be asked for more, unless the disk failed
+  pub store : KeepsStore disk c.ending before.scene now.scene
+  pub clocks : ClocksRise disk c before.scene now.scene
+  -- the sink was given the answers' texts at the clocks, and nothing else
+  pub written : sink → HandsAnswers disk c before.handed now.handed
+  pub others : files → KeepsOthers c before.scene.files now.scene.files
+  pub strays : files → StraysOnlyFor c before.scene now.scene
+  pub writes : disk → WritesByCommands c before.scene.disk now.scene.disk
+  -- over whatever image: each command, from where the one before it left, is all that a command on a store is promised to be
+  pub goes : Goes disk files sink c before now
+  -- no extent is held for readers, and disk and files tell
+  pub honestly : disk → files → before.scene.store.held ≡ 0 → MeetsHonestly c before now
