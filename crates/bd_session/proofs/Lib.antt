@@ -1,0 +1,10 @@
+pub mod Apart
+pub mod Asking
+pub mod Ending
+pub mod Going
+pub mod Handing
+pub mod Honestly
+pub mod Kept
+pub mod Meeting
+pub mod Stepping
+pub mod Turning

@@ -14,7 +14,7 @@ use Rattle.bd_store.specs.declared.fault.StoreFault.{StoreFault}
 use Rattle.bd_store.specs.declared.fault.StoreFault.TheVariants.{SourceFault as StoreSource, TargetFault as StoreTarget, DiskFault as StoreDisk, Damaged as StoreDamaged, OutOfMemory as StoreMemory, Unbuilt as StoreUnbuilt}
 use Rattle.bd_session.specs.Course.{Around}
 use Rattle.bd_session.specs.declared.report.SessionEnd.{SessionEnd}
-use Rattle.bd_session.specs.declared.report.SessionEnd.TheVariants.{Done, SourceFault, TargetFault, DiskFault, Damaged, OutputFault, OutOfMemory, Unbuilt}
+use Rattle.bd_session.specs.declared.report.SessionEnd.TheVariants.{SourceFault, TargetFault, DiskFault, Damaged, OutputFault, OutOfMemory, Unbuilt}
 
 -- the end that a fault of the store brings
 abbrev pub end_of : StoreFault → SessionEnd
@@ -32,6 +32,7 @@ pub record LeavesSink (before now : Around) : Type 0 where
 
 -- the sink failed, and took a part of the text at most
 pub record FailsSink (sink : Type 0) (text : List ℕ) (before now : Around) : Type 0 where
+  pub later : before.sink_faults ≤ now.sink_faults
   pub faults : Rose before.sink_faults now.sink_faults
   pub handed : sink → HandsPart text before.handed now.handed
 

@@ -11,7 +11,6 @@ use Rattle.bd_model.specs.declared.layout.Phase.{Phase}
 use Rattle.bd_model.specs.Folds.{Point, answers_of, unheld}
 use Rattle.bd_model.specs.Step.{without_room}
 use Rattle.bd_catalog.specs.Standing.{StandsFor, Stands}
-use Rattle.bd_store.specs.Causes.{Counts}
 use Rattle.bd_session.specs.Course.{Around, Course, answered, next_command}
 use Rattle.bd_session.specs.Promised.{Start, reached, phase_reached}
 use Rattle.bd_session.specs.Reads.{ReadsInCourse}

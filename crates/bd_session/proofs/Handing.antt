@@ -1,0 +1,95 @@
+-- What the sink was given.
+use Rattle.std.proofs.Common.{◌≡◌, ◌⊎◌, ◌∙◌, ℕ, ◌+◌, List, [], ◌∷◌, ◌++◌, length, take, inl, inr, refl, sym, ap, arith, append-nil, append_assoc, Ok, Err, Result}
+use Rattle.std.proofs.lemmas.List.{length_push}
+use Rattle.bd_files.specs.Sinks.{Handed, HandsPart, part, whole}
+use Rattle.bd_model.specs.Texts.{answer_text}
+use Rattle.bd_model.specs.declared.answer.Answer.{Answer}
+use Rattle.bd_model.specs.declared.command.Command.{Command}
+use Rattle.bd_store.specs.declared.fault.StoreFault.{StoreFault}
+use Rattle.bd_session.specs.Course.{Around, Course}
+use Rattle.bd_session.specs.Ends.{EndsBy}
+use Rattle.bd_session.specs.Telling.{HandsAnswers, told}
+use Rattle.bd_session.specs.Turns.{AllAnswered, Goes, LastTurn, NoneBegun, Turns, no_turn, next_turn}
+use Rattle.bd_session.specs.declared.report.SessionEnd.{SessionEnd}
+use Rattle.bd_session.specs.declared.report.SessionEnd.TheVariants.{Done, SourceFault, TargetFault, DiskFault, Damaged, OutputFault, OutOfMemory, Unbuilt}
+
+-- one text more
+told-push : (moments : List ℕ) (answers : List Answer) (moment : ℕ) (answer : Answer) → length moments ≡ length answers → told (moments ++ moment ∷ []) (answers ++ answer ∷ []) ≡ told moments answers ++ whole moment (answer_text answer) ∷ []
+told-push [] [] moment answer e = refl
+told-push [] (a ∷ answers) moment answer e = absurd (omega (arith, e))
+told-push (m ∷ moments) [] moment answer e = absurd (omega (arith, e))
+told-push (m ∷ moments) (a ∷ answers) moment answer e = ap (λ l. whole m (answer_text a) ∷ l) (told-push moments answers moment answer (omega (arith, e)))
+
+-- the texts of the answers so far
+record HandedSoFar (disk : Type 0) (answers : List Answer) (clocks : List ℕ) (before now : List Handed) : Type 0 where
+  moments : List ℕ
+  are : disk → moments ≡ clocks
+  paired : length moments ≡ length answers
+  so : now ≡ before ++ told moments answers
+
+module _ {disk files sink : Type 0} {commands : List Command} {first : Around} (tells : sink) where
+  so_far : {answers : List Answer} {clocks : List ℕ} {now : Around} → Turns disk files sink commands first answers clocks now → HandedSoFar disk answers clocks first.handed now.handed
+  so_far no_turn = record { moments = []; are = λ _. refl; paired = refl; so = sym (append-nil first.handed) }
+  so_far (next_turn {answers} {clocks} command answer moment turns there turn) =
+      let earlier = so_far turns in
+      let on = turn.handed tells in
+      record {
+        moments = earlier.moments ++ on.noted ∷ [];
+        are = λ d. (λ i. earlier.are d i ++ on.is d i ∷ []);
+        paired = omega (arith, length_push earlier.moments on.noted, length_push answers answer, earlier.paired);
+        so = on.so ∙ ap (λ l. l ++ whole on.noted (answer_text answer) ∷ []) earlier.so ∙ append_assoc first.handed (told earlier.moments answers) (whole on.noted (answer_text answer) ∷ [])
+            ∙ ap (λ l. first.handed ++ l) (sym (told-push earlier.moments answers on.noted answer earlier.paired));
+      }
+
+-- nothing behind the texts
+whole_only : {disk : Type 0} {c : Course} {before last now : List Handed} → HandedSoFar disk c.answers c.clocks before last → now ≡ last → HandsAnswers disk c before now
+whole_only {disk} {c} {before} {last} {now} far same = record {
+  moments = far.moments;
+  are = far.are;
+  paired = far.paired;
+  rest = [];
+  so = same ∙ far.so ∙ ap (λ l. before ++ l) (sym (append-nil (told far.moments c.answers)));
+  nothing = λ _. refl;
+  part = ([], record { so = inl refl });
+}
+
+-- what the last put left behind the texts: nothing, or a part
+rest_of : {text : List ℕ} {old new : List Handed} → HandsPart text old new → (rest : List Handed) × (new ≡ old ++ rest) × HandsPart text [] rest
+rest_of {text} {old} {new} hands = by_so hands.so where
+  by_so : (new ≡ old) ⊎ ((count : ℕ) × (new ≡ old ++ part (take count text) ∷ [])) → (rest : List Handed) × (new ≡ old ++ rest) × HandsPart text [] rest
+  by_so (inl same) = ([], same ∙ sym (append-nil old), record { so = inl refl })
+  by_so (inr (count, more)) = (part (take count text) ∷ [], more, record { so = inr (count, refl) })
+
+pub hands_answers : {disk files sink : Type 0} {c : Course} {first now : Around} → Goes disk files sink c first now → sink → HandsAnswers disk c first.handed now.handed
+hands_answers {disk} {files} {sink} {c} {first} {now} goes tells = by_end goes.ends where
+  far : HandedSoFar disk c.answers c.clocks first.handed goes.last.handed
+  far = so_far tells goes.turns
+
+  unmoved : now ≡ goes.last → HandsAnswers disk c first.handed now.handed
+  unmoved e = whole_only far (ap (λ (x : Around). x.handed) e)
+
+  by_result : (result : Result Answer StoreFault) (ending : SessionEnd) → c.ending ≡ ending → EndsBy sink result ending goes.last now → HandsAnswers disk c first.handed now.handed
+  by_result (Err fault) ending is ends = whole_only far ends.1.handed
+  by_result (Ok answer) OutOfMemory is ends = whole_only far ends.1.handed
+  by_result (Ok answer) OutputFault is ends =
+      let left = rest_of (ends.handed tells) in
+      record {
+        moments = far.moments;
+        are = far.are;
+        paired = far.paired;
+        rest = left.0;
+        so = left.1 ∙ ap (λ l. l ++ left.0) far.so ∙ append_assoc first.handed (told far.moments c.answers) left.0;
+        nothing = λ other. absurd (other is);
+        part = (answer_text answer, left.2);
+      }
+  by_result (Ok answer) Done is ends = absurd ends
+  by_result (Ok answer) SourceFault is ends = absurd ends
+  by_result (Ok answer) TargetFault is ends = absurd ends
+  by_result (Ok answer) DiskFault is ends = absurd ends
+  by_result (Ok answer) (Damaged damage) is ends = absurd ends
+  by_result (Ok answer) Unbuilt is ends = absurd ends
+
+  by_end : AllAnswered c goes.last now ⊎ NoneBegun c goes.last now ⊎ LastTurn disk files sink c goes.last now → HandsAnswers disk c first.handed now.handed
+  by_end (inl all) = unmoved all.same
+  by_end (inr (inl begun)) = unmoved begun.same
+  by_end (inr (inr turn)) = by_result turn.result c.ending refl turn.ends

@@ -1,0 +1,250 @@
+-- The headline follows from the turns of a list.
+use Rattle.std.proofs.Common.{◌≡◌, ◌≢◌, ◌⊎◌, ◌∙◌, ℕ, ◌+◌, ◌<◌, ◌≤◌, arith, List, [], ◌∷◌, ◌++◌, length, inl, inr, refl, sym, ap, subst, Ok, Err, Result, Some}
+use Rattle.std.specs.FinMap as map
+use Rattle.std.proofs.lemmas.List.{length_push}
+use Rattle.std.proofs.lemmas.Option.{slice_get_within}
+use Rattle.bd_disk.specs.History.{History, clock, contents}
+use Rattle.bd_disk.specs.Made.{LeavesNow, LeavesSince, WritesOnly}
+use Rattle.bd_disk.proofs.Frames.{leaves_same, made_none}
+use Rattle.bd_model.specs.FileMap.{FileMap}
+use Rattle.bd_model.specs.State.{VersionState}
+use Rattle.bd_model.specs.Step.{Outcome, phase_after}
+use Rattle.bd_model.specs.declared.answer.Answer.{Answer}
+use Rattle.bd_model.specs.declared.command.Command.{Command}
+use Rattle.bd_model.specs.declared.command.Command.TheVariants.{Restore}
+use Rattle.bd_model.specs.declared.damage.Damage.{Damage}
+use Rattle.bd_model.specs.declared.layout.Phase.{Phase}
+use Rattle.bd_model.specs.declared.layout.Phase.TheVariants.{Settled}
+use Rattle.bd_model.specs.declared.shape.Shape.{Shape}
+use Rattle.bd_catalog.specs.Standing.{Stands, StandsFor}
+use Rattle.bd_store.specs.Attempts.{Meets, MeetsOnBoth, Scene, attempt}
+use Rattle.bd_store.specs.Causes.{Counts}
+use Rattle.bd_store.specs.Steps.{Task, task, Answered, IsNear, IsOneStep, KeepsFiles, MakesStep}
+use Rattle.bd_store.specs.Stops.{IsSafeAtStops, StopsOnEitherSide}
+use Rattle.bd_store.specs.declared.fault.StoreFault.{StoreFault}
+use Rattle.bd_store.specs.declared.fault.StoreFault.TheVariants.{SourceFault as StoreSource, TargetFault as StoreTarget, DiskFault as StoreDisk, Damaged as StoreDamaged, OutOfMemory as StoreMemory, Unbuilt as StoreUnbuilt}
+use Rattle.bd_session.specs.Course.{Around, Course, answered}
+use Rattle.bd_session.specs.Ends.{EndsBy, EndsByCount, end_of}
+use Rattle.bd_session.specs.Headline.{IsHalfWritten, LeavesTarget, MeetsTheHeadline, NoFault, carried_out, last_state}
+use Rattle.bd_session.specs.Promised.{IsHonest, IsPromised, MarksTellApart, Start, start}
+use Rattle.bd_session.specs.Session.{MeetsHonestly}
+use Rattle.bd_session.specs.Turns.{AllAnswered, Goes, LastTurn, NoneBegun, Turns, no_turn, next_turn}
+use Rattle.bd_session.specs.declared.report.SessionEnd.{SessionEnd}
+use Rattle.bd_session.specs.declared.report.SessionEnd.TheVariants.{Done, SourceFault, TargetFault, DiskFault, Damaged, OutputFault, OutOfMemory, Unbuilt}
+use Rattle.bd_session.proofs.Asking.{long_quiet, phase_after-room, reads_for}
+use Rattle.bd_session.proofs.Ending.{ends_done, ends_failed, ends_kept, ends_unsaid}
+use Rattle.bd_session.proofs.Going.{HasGone, goes_on, none_gone}
+use Rattle.bd_session.proofs.Kept.{target_or_kept, writes_beyond}
+use Rattle.bd_session.proofs.Turning.{IsOpen, along, by_count, still_open}
+
+-- ---- one command from where the others led
+
+module _ (s : Start) (commands : List Command) (answers : List Answer) (clocks : List ℕ) (before after : Scene) (g : HasGone s commands answers clocks before.disk before.files)
+    (held : before.store.held ≡ 0) (command : Command) (near : IsNear (task s.shape 0 g.point.state g.point.files command)) (result : Result Answer StoreFault) (both : MeetsOnBoth (attempt command result before after)) where
+  made : MakesStep (task s.shape 0 g.point.state g.point.files command) g.phase (contents after.disk) after.files result
+  made =
+      let free : IsOneStep command 0 before.disk after.disk before.files after.files result = subst (λ h. IsOneStep command h before.disk after.disk before.files after.files result) held both.step in
+      let here : IsOneStep command 0 before.disk after.disk g.point.files after.files result = subst (λ (m : FileMap). IsOneStep command 0 before.disk after.disk m after.files result) g.beside free in
+      here.each s.shape g.point.state g.phase near g.stands
+
+  stopped : StopsOnEitherSide (task s.shape 0 g.point.state g.point.files command) before.disk after.disk result
+  stopped =
+      let free : IsSafeAtStops command 0 before.disk after.disk before.files result = subst (λ h. IsSafeAtStops command h before.disk after.disk before.files result) held both.stops in
+      let here : IsSafeAtStops command 0 before.disk after.disk g.point.files result = subst (λ (m : FileMap). IsSafeAtStops command 0 before.disk after.disk m result) g.beside free in
+      here.each s.shape g.point.state near g.sure
+
+-- the phase of the outcome is that of the answer
+stands_on : (t : Task) (phase : Phase) (answer : Answer) (image : List ℕ) (files : FileMap) (done : Answered t phase answer image files) → StandsFor t.shape done.outcome.state (phase_after done.outcome.state phase done.outcome.answer) t.held image
+stands_on t phase answer image files done =
+    subst (λ p. StandsFor t.shape done.outcome.state p t.held image) (sym (phase_after-room done.outcome.state phase answer) ∙ ap (phase_after done.outcome.state phase) done.says) done.stands
+
+-- each image stands for that outcome
+sure_on : (t : Task) (phase : Phase) (answer : Answer) (files : FileMap) (old new : History) (done : Answered t phase answer (contents new) files) → StopsOnEitherSide t old new (Ok answer) → LeavesNow (Stands t.shape t.held done.outcome.state) new
+sure_on t phase answer files old new done stops = subst (λ (o : Outcome). LeavesNow (Stands t.shape t.held o.state) new) (one (sym stops.done.leads ∙ done.leads)) stops.done.sure where
+  one : {o p : Outcome} → Some o ≡ Some p → o ≡ p
+  one e = cc e
+
+-- ---- the turns
+
+module _ {disk files sink : Type 0} {commands : List Command} {first : Around} (told : disk) (files_told : files) (shape : Shape) (st : VersionState) (phase : Phase) (opened : IsOpen disk first) (held : first.scene.store.held ≡ 0)
+    (honest : IsHonest (start shape st phase first.scene)) (n : ℕ) (apart : MarksTellApart (start shape st phase first.scene) commands n) where
+  held_on : {answers : List Answer} {clocks : List ℕ} {now : Around} → Turns disk files sink commands first answers clocks now → now.scene.store.held ≡ 0
+  held_on turns = along (λ a b. b.store.held ≡ a.store.held) (λ a. refl) (λ a b c e f. f ∙ e) (λ command result a b meets. meets.store.held) turns ∙ held
+
+  pub has_gone : {answers : List Answer} {clocks : List ℕ} {now : Around} → Turns disk files sink commands first answers clocks now → length answers ≤ n → HasGone (start shape st phase first.scene) commands answers clocks now.scene.disk now.scene.files
+  has_gone no_turn low = none_gone (start shape st phase first.scene) commands honest
+  has_gone (next_turn {answers} {clocks} {before} {after} command answer moment turns there turn) low =
+      let s = start shape st phase first.scene in
+      let pushed : length (answers ++ answer ∷ []) ≡ length answers + 1 = length_push answers answer in
+      let g : HasGone s commands answers clocks before.scene.disk before.scene.files = has_gone turns (omega (arith, low, pushed)) in
+      let near : IsNear (task shape 0 g.point.state g.point.files command) = apart.each (length answers) (omega (arith, low, pushed)) command there g.point g.leads in
+      let t = task shape 0 g.point.state g.point.files command in
+      let both = turn.meets.on_both told files_told in
+      let on_disk = turn.meets.on_disk told in
+      let done : Answered t g.phase answer (contents after.scene.disk) after.scene.files = made s commands answers clocks before.scene after.scene g (held_on turns) command near (Ok answer) both in
+      let stops : StopsOnEitherSide t before.scene.disk after.scene.disk (Ok answer) = stopped s commands answers clocks before.scene after.scene g (held_on turns) command near (Ok answer) both in
+      let writes : WritesOnly (λ place. 64 ≤ place) before.scene.disk after.scene.disk = writes_beyond before.scene.store.found command on_disk.writes in
+      subst (λ m. HasGone s commands (answers ++ answer ∷ []) (clocks ++ m ∷ []) after.scene.disk after.scene.files) (sym (turn.clock told))
+      (goes_on s commands answers clocks before.scene.disk after.scene.disk before.scene.files after.scene.files g command there done.outcome done.leads answer done.says writes
+      (stands_on t g.phase answer (contents after.scene.disk) after.scene.files done) (sure_on t g.phase answer after.scene.files before.scene.disk after.scene.disk done stops) stops.within done.beside
+      (reads_for shape g.point.state g.phase g.point.files before.scene after.scene (held_on turns) ((still_open turns opened).agrees told) writes g.stands command answer near turn.meets.answer on_disk.reads))
+
+-- ---- the ends
+
+-- an end that leaves where the last answer led
+record Leaves (ending : SessionEnd) : Type 0 where
+  not_done : ending ≢ Done
+  not_out : ending ≢ OutputFault
+  carried : (k : ℕ) → carried_out ending k ≡ k
+  last : (k : ℕ) → last_state ending k ≡ k
+
+leaves_source : Leaves SourceFault
+leaves_source = record { not_done = λ e. cc e; not_out = λ e. cc e; carried = λ k. refl; last = λ k. refl }
+
+leaves_target : Leaves TargetFault
+leaves_target = record { not_done = λ e. cc e; not_out = λ e. cc e; carried = λ k. refl; last = λ k. refl }
+
+leaves_memory : Leaves OutOfMemory
+leaves_memory = record { not_done = λ e. cc e; not_out = λ e. cc e; carried = λ k. refl; last = λ k. refl }
+
+leaves_unbuilt : Leaves Unbuilt
+leaves_unbuilt = record { not_done = λ e. cc e; not_out = λ e. cc e; carried = λ k. refl; last = λ k. refl }
+
+module _ {disk files sink : Type 0} {c : Course} {first now : Around} (told : disk) (files_told : files) (opened : IsOpen disk first) (held : first.scene.store.held ≡ 0) (goes : Goes disk files sink c first now)
+    (shape : Shape) (st : VersionState) (phase : Phase) (promised : IsPromised (start shape st phase first.scene) c.commands (answered c + 1)) where
+  abbrev s : Start
+  s = start shape st phase first.scene
+
+  g : HasGone s c.commands c.answers c.clocks goes.last.scene.disk goes.last.scene.files
+  g = has_gone told files_told shape st phase opened held promised.disk (answered c + 1) promised.chunks goes.turns (omega arith)
+
+  -- nothing was done behind the last answer
+  unmoved : Leaves c.ending → (c.ending ≢ OutOfMemory → answered c < length c.commands) → now.scene.disk ≡ goes.last.scene.disk → now.scene.files ≡ goes.last.scene.files → MeetsTheHeadline s (clock s.disk) c now.scene.disk now.scene.files
+  unfolding g
+  unmoved leaves cut same same_files =
+      subst (λ (h : History). MeetsTheHeadline s (clock s.disk) c h now.scene.files) (sym same)
+      (ends_kept s c goes.last.scene.disk goes.last.scene.disk goes.last.scene.files g (made_none _ _) now.scene.files leaves.not_done leaves.not_out (leaves.carried (answered c)) (leaves.last (answered c)) cut
+      (record { phase = g.phase; so = g.stands }) (leaves_same refl g.sure) (λ name. inr (ap (λ (m : FileMap). map.get m name) (same_files ∙ g.beside))))
+
+  -- the last command
+  module _ (turn : LastTurn disk files sink c goes.last now) where
+    near : IsNear (task shape 0 g.point.state g.point.files turn.command)
+    unfolding g
+    near = promised.chunks.each (answered c) (omega arith) turn.command turn.next g.point g.leads
+
+    abbrev t : Task
+    t = task shape 0 g.point.state g.point.files turn.command
+
+    held_last : goes.last.scene.store.held ≡ 0
+    held_last = held_on told files_told shape st phase opened held promised.disk (answered c + 1) promised.chunks goes.turns
+
+    writes : WritesOnly (λ place. 64 ≤ place) goes.last.scene.disk now.scene.disk
+    writes = writes_beyond goes.last.scene.store.found turn.command (turn.meets.on_disk told).writes
+
+    more : answered c < length c.commands
+    more = slice_get_within c.commands (answered c) turn.command turn.next
+
+    -- each file but a half written target is as before
+    half_or_kept : LeavesTarget c.ending → KeepsFiles turn.command g.point.files now.scene.files → (name : List ℕ) → IsHalfWritten c name ⊎ (map.get now.scene.files name ≡ map.get g.point.files name)
+    half_or_kept leaves keeps name = by_name (target_or_kept turn.command g.point.files now.scene.files name keeps) where
+      by_name : ((v : ℕ) × (turn.command ≡ Restore v name)) ⊎ (map.get now.scene.files name ≡ map.get g.point.files name) → IsHalfWritten c name ⊎ (map.get now.scene.files name ≡ map.get g.point.files name)
+      by_name (inl (v, e)) = inl (record { version = v; command = turn.next ∙ ap Some e; fault = leaves })
+      by_name (inr same) = inr same
+
+    -- an end that leaves the state
+    left : Leaves c.ending → Stands shape 0 g.point.state (contents now.scene.disk) → LeavesSince (Stands shape 0 g.point.state) goes.last.scene.disk now.scene.disk → ((name : List ℕ) → IsHalfWritten c name ⊎ (map.get now.scene.files name ≡ map.get g.point.files name)) →
+        MeetsTheHeadline s (clock s.disk) c now.scene.disk now.scene.files
+    left leaves stands within beside =
+        ends_kept s c goes.last.scene.disk now.scene.disk goes.last.scene.files g writes now.scene.files leaves.not_done leaves.not_out (leaves.carried (answered c)) (leaves.last (answered c)) (λ _. more) stands within beside
+
+    all_kept : now.scene.files ≡ g.point.files → (name : List ℕ) → IsHalfWritten c name ⊎ (map.get now.scene.files name ≡ map.get g.point.files name)
+    all_kept same name = inr (ap (λ (m : FileMap). map.get m name) same)
+
+    by_fault : (fault : StoreFault) → c.ending ≡ end_of fault → MakesStep t g.phase (contents now.scene.disk) now.scene.files (Err fault) → StopsOnEitherSide t goes.last.scene.disk now.scene.disk (Err fault) → MeetsTheHeadline s (clock s.disk) c now.scene.disk now.scene.files
+    by_fault StoreSource is kept stops = left (subst Leaves (sym is) leaves_source) (record { phase = Settled; so = kept.stands }) stops.done (all_kept kept.beside)
+    by_fault StoreTarget is kept stops = left (subst Leaves (sym is) leaves_target) kept.stands stops.done (half_or_kept (subst LeavesTarget (sym is) tt) kept.beside)
+    by_fault StoreMemory is kept stops = left (subst Leaves (sym is) leaves_memory) kept.stands stops.done (half_or_kept (subst LeavesTarget (sym is) tt) kept.beside)
+    by_fault StoreUnbuilt is kept stops = left (subst Leaves (sym is) leaves_unbuilt) kept.stands stops.done (all_kept kept.beside)
+    by_fault StoreDisk is kept stops = ends_failed s c goes.last.scene.disk now.scene.disk goes.last.scene.files g writes turn.command turn.next now.scene.files is kept.stands stops.within (half_or_kept (subst LeavesTarget (sym is) tt) kept.beside)
+    by_fault (StoreDamaged damage) is kept stops = absurd kept
+
+    by_result : (result : Result Answer StoreFault) (ending : SessionEnd) → c.ending ≡ ending → Meets disk files (attempt turn.command result goes.last.scene now.scene) → EndsBy sink result ending goes.last now → MeetsTheHeadline s (clock s.disk) c now.scene.disk now.scene.files
+    by_result (Err fault) ending is meets ends =
+        by_fault fault (is ∙ ends.0)
+        (made s c.commands c.answers c.clocks goes.last.scene now.scene g held_last turn.command near (Err fault) (meets.on_both told files_told))
+        (stopped s c.commands c.answers c.clocks goes.last.scene now.scene g held_last turn.command near (Err fault) (meets.on_both told files_told))
+    by_result (Ok answer) OutputFault is meets ends =
+        let done : Answered t g.phase answer (contents now.scene.disk) now.scene.files = made s c.commands c.answers c.clocks goes.last.scene now.scene g held_last turn.command near (Ok answer) (meets.on_both told files_told) in
+        let stops : StopsOnEitherSide t goes.last.scene.disk now.scene.disk (Ok answer) = stopped s c.commands c.answers c.clocks goes.last.scene now.scene g held_last turn.command near (Ok answer) (meets.on_both told files_told) in
+        ends_unsaid s c goes.last.scene.disk now.scene.disk goes.last.scene.files g writes turn.command turn.next now.scene.files done.outcome done.leads is
+        (stands_on t g.phase answer (contents now.scene.disk) now.scene.files done) stops.within done.beside
+    by_result (Ok answer) OutOfMemory is meets ends =
+        let quiet = long_quiet turn.command answer goes.last.scene now.scene ends.0 meets.answer (meets.on_disk told).reads (meets.on_files files_told).beside in
+        unmoved (subst Leaves (sym is) leaves_memory) (λ other. absurd (other is)) quiet.0 quiet.1
+    by_result (Ok answer) Done is meets ends = absurd ends
+    by_result (Ok answer) SourceFault is meets ends = absurd ends
+    by_result (Ok answer) TargetFault is meets ends = absurd ends
+    by_result (Ok answer) DiskFault is meets ends = absurd ends
+    by_result (Ok answer) (Damaged damage) is meets ends = absurd ends
+    by_result (Ok answer) Unbuilt is meets ends = absurd ends
+
+    -- no damage was met
+    no_damage : (result : Result Answer StoreFault) (ending : SessionEnd) → Meets disk files (attempt turn.command result goes.last.scene now.scene) → EndsBy sink result ending goes.last now → (damage : Damage) → ending ≢ Damaged damage
+    no_damage (Err (StoreDamaged damage)) ending meets ends other is = absurd (made s c.commands c.answers c.clocks goes.last.scene now.scene g held_last turn.command near (Err (StoreDamaged damage)) (meets.on_both told files_told))
+    no_damage (Err StoreSource) ending meets ends other is = clash (sym ends.0 ∙ is) where
+      clash : SourceFault ≡ Damaged other → ⊥
+      clash e = cc e
+    no_damage (Err StoreTarget) ending meets ends other is = clash (sym ends.0 ∙ is) where
+      clash : TargetFault ≡ Damaged other → ⊥
+      clash e = cc e
+    no_damage (Err StoreDisk) ending meets ends other is = clash (sym ends.0 ∙ is) where
+      clash : DiskFault ≡ Damaged other → ⊥
+      clash e = cc e
+    no_damage (Err StoreMemory) ending meets ends other is = clash (sym ends.0 ∙ is) where
+      clash : OutOfMemory ≡ Damaged other → ⊥
+      clash e = cc e
+    no_damage (Err StoreUnbuilt) ending meets ends other is = clash (sym ends.0 ∙ is) where
+      clash : Unbuilt ≡ Damaged other → ⊥
+      clash e = cc e
+    no_damage (Ok answer) (Damaged damage) meets ends other is = absurd ends
+    no_damage (Ok answer) OutputFault meets ends other is = cc is
+    no_damage (Ok answer) OutOfMemory meets ends other is = cc is
+    no_damage (Ok answer) Done meets ends other is = cc is
+    no_damage (Ok answer) SourceFault meets ends other is = cc is
+    no_damage (Ok answer) TargetFault meets ends other is = cc is
+    no_damage (Ok answer) DiskFault meets ends other is = cc is
+    no_damage (Ok answer) Unbuilt meets ends other is = cc is
+
+  pub headline_met : AllAnswered c goes.last now ⊎ NoneBegun c goes.last now ⊎ LastTurn disk files sink c goes.last now → MeetsTheHeadline s (clock s.disk) c now.scene.disk now.scene.files
+  unfolding g
+  headline_met (inl all) = subst (λ (x : Around). MeetsTheHeadline s (clock s.disk) c x.scene.disk x.scene.files) (sym all.same) (ends_done g all.done all.all)
+  headline_met (inr (inl begun)) = unmoved (subst Leaves (sym begun.memory) leaves_memory) (λ other. absurd (other begun.memory)) (ap (λ (x : Around). x.scene.disk) begun.same) (ap (λ (x : Around). x.scene.files) begun.same)
+  headline_met (inr (inr turn)) = by_result turn turn.result c.ending refl turn.meets turn.ends
+
+  pub damage_met : AllAnswered c goes.last now ⊎ NoneBegun c goes.last now ⊎ LastTurn disk files sink c goes.last now → (damage : Damage) → c.ending ≢ Damaged damage
+  damage_met (inl all) damage is = clash (sym all.done ∙ is) where
+    clash : Done ≡ Damaged damage → ⊥
+    clash e = cc e
+  damage_met (inr (inl begun)) damage is = clash (sym begun.memory ∙ is) where
+    clash : OutOfMemory ≡ Damaged damage → ⊥
+    clash e = cc e
+  damage_met (inr (inr turn)) damage is = no_damage turn turn.result c.ending turn.meets turn.ends damage is
+
+-- without a fault it ends well
+complete : (ending : SessionEnd) (before now : Around) → EndsByCount ending before now → ((damage : Damage) → ending ≢ Damaged damage) → NoFault before now → (ending ≡ Done) ⊎ ((ending ≡ OutOfMemory) ⊎ (ending ≡ Unbuilt))
+complete Done before now cause whole none = inl refl
+complete OutOfMemory before now cause whole none = inr (inl refl)
+complete Unbuilt before now cause whole none = inr (inr refl)
+complete (Damaged damage) before now cause whole none = absurd (whole damage refl)
+complete SourceFault before now cause whole none = absurd (omega (arith, cause.store.0, ap (λ (x : Counts). x.sources) none.same, none.sources))
+complete TargetFault before now cause whole none = absurd (omega (arith, cause.store.0, ap (λ (x : Counts). x.targets) none.same, none.targets))
+complete DiskFault before now cause whole none = absurd (omega (arith, cause.store.0, ap (λ (x : Counts). x.disk) none.same, none.disk))
+complete OutputFault before now cause whole none = absurd (omega (arith, cause.sink, none.sink.0, none.sink.1))
+
+pub meets_honestly : {disk files sink : Type 0} {c : Course} {first now : Around} → IsOpen disk first → Goes disk files sink c first now → disk → files → first.scene.store.held ≡ 0 → MeetsHonestly c first now
+meets_honestly {disk} {files} {sink} {c} {first} {now} opened goes told files_told held = record {
+  headline = λ shape st phase promised. headline_met told files_told opened held goes shape st phase promised goes.ends;
+  ends = λ shape st phase promised.
+      let whole = damage_met told files_told opened held goes shape st phase promised goes.ends in
+      record { whole = whole; complete = complete c.ending first now (by_count goes).cause whole };
+}

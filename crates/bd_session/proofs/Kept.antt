@@ -1,0 +1,198 @@
+-- What the commands of a list keep of files and disk, and of the clocks.
+use Rattle.std.proofs.Common.{◌≡◌, ◌⊎◌, ◌∙◌, ℕ, ◌+◌, ◌-◌, ◌<◌, ◌≤◌, true, false, List, [], ◌∷◌, ◌++◌, length, get_or, inl, inr, refl, sym, ap, subst, arith, ⊎_elim, Ok, Result, Some, slice_get}
+use Rattle.std.specs.FinMap as map
+use Rattle.std.specs.Str.{bytes_eq}
+use Rattle.std.proofs.lemmas.Bool.{cases_lt}
+use Rattle.std.proofs.lemmas.Bool.Decides.{not_from_Decides}
+use Rattle.std.proofs.lemmas.List.{length_push, get_or_append_left, get_or-append_right}
+use Rattle.std.proofs.lemmas.Slice.Eq.{bytes_eq-Decides}
+use Rattle.bd_disk.specs.History.{History, clock}
+use Rattle.bd_disk.specs.Made.{WritesNothing, WritesOnly}
+use Rattle.bd_disk.proofs.Frames.{later, made_both, made_none, nothing_within, writes_wider}
+use Rattle.bd_model.specs.FileMap.{FileMap}
+use Rattle.bd_model.specs.declared.answer.Answer.{Answer}
+use Rattle.bd_model.specs.declared.command.Command.{Command}
+use Rattle.bd_model.specs.declared.command.Command.TheVariants.{Backup, Restore, Expire, Reorganise, Scrub, List as Listing}
+use Rattle.bd_catalog.specs.Opening.{Found}
+use Rattle.bd_store.specs.Attempts.{Meets, Scene, WritesByCommand, attempt}
+use Rattle.bd_store.specs.Steps.{KeepsFiles}
+use Rattle.bd_store.specs.declared.fault.StoreFault.{StoreFault}
+use Rattle.bd_session.specs.Course.{Around, Course, answered}
+use Rattle.bd_session.specs.Keeping.{ClocksRise, IsQuiet, IsTargetBelow, KeepsOthers, StraysOnlyFor, WritesByCommands}
+use Rattle.bd_session.specs.Turns.{AllAnswered, Goes, LastTurn, NoneBegun, Turns, no_turn, next_turn}
+use Rattle.bd_session.proofs.Turning.{paired, to_the_end}
+
+-- ---- by the command
+
+-- no command writes in the superblock
+pub writes_beyond : (found : Found) (command : Command) {old new : History} → WritesByCommand found command old new → WritesOnly (λ place. 64 ≤ place) old new
+writes_beyond found (Backup name) writes = writes_wider _ (λ place unnamed. unnamed.begins) writes
+writes_beyond found (Restore v name) writes = nothing_within _ writes
+writes_beyond found Expire writes = nothing_within _ writes
+writes_beyond found Reorganise writes = nothing_within _ writes
+writes_beyond found Scrub writes = nothing_within _ writes
+writes_beyond found Listing writes = nothing_within _ writes
+
+-- restores and lists write nothing
+quiet_writes : (found : Found) (command : Command) {old new : History} → IsQuiet command → WritesByCommand found command old new → WritesNothing old new
+quiet_writes found (Backup name) quiet writes = absurd quiet
+quiet_writes found (Restore v name) quiet writes = writes
+quiet_writes found Expire quiet writes = absurd quiet
+quiet_writes found Reorganise quiet writes = absurd quiet
+quiet_writes found Scrub quiet writes = absurd quiet
+quiet_writes found Listing quiet writes = writes
+
+-- each name has what it had, but for the target of a restore
+pub target_or_kept : (command : Command) (old new : FileMap) (name : List ℕ) → KeepsFiles command old new → ((v : ℕ) × (command ≡ Restore v name)) ⊎ (map.get new name ≡ map.get old name)
+target_or_kept (Restore v target) old new name keeps =
+    elim (bytes_eq name target) as (λ b. bytes_eq name target ≡ b → ((u : ℕ) × (Restore v target ≡ Restore u name)) ⊎ (map.get new name ≡ map.get old name)) [
+      | true ↦ λ e. inl (v, ap (λ (n : List ℕ). Restore v n) (sym ((bytes_eq-Decides name target).0 e)))
+      | false ↦ λ e. inr (keeps.others name (not_from_Decides _ (bytes_eq-Decides name target) e))
+    ] refl
+target_or_kept (Backup n) old new name same = inr (ap (λ (m : FileMap). map.get m name) same)
+target_or_kept Expire old new name same = inr (ap (λ (m : FileMap). map.get m name) same)
+target_or_kept Reorganise old new name same = inr (ap (λ (m : FileMap). map.get m name) same)
+target_or_kept Scrub old new name same = inr (ap (λ (m : FileMap). map.get m name) same)
+target_or_kept Listing old new name same = inr (ap (λ (m : FileMap). map.get m name) same)
+
+-- ---- a step of each command, with its number
+
+-- one command led from a to b: an answered one, or the one behind the last answer
+record IsStep (disk files : Type 0) (commands : List Command) (k : ℕ) (a b : Scene) : Type 0 where
+  command : Command
+  there : slice_get commands k ≡ Some command
+  result : Result Answer StoreFault
+  meets : Meets disk files (attempt command result a b)
+
+module _ {disk files sink : Type 0} {c : Course} {first now : Around} (goes : Goes disk files sink c first now) where
+  -- what holds before the first command and is kept by each of those that were tried holds at the end
+  by_steps : (P : ℕ → Scene → Type 0) → ((k : ℕ) (a b : Scene) → k ≤ answered c → IsStep disk files c.commands k a b → P k a → P (k + 1) b) → ((k : ℕ) (a : Scene) → P k a → P (k + 1) a) → P 0 first.scene → P (answered c + 1) now.scene
+  by_steps P one wider begun = by_end goes.ends where
+    turned : {answers : List Answer} {clocks : List ℕ} {last : Around} → Turns disk files sink c.commands first answers clocks last → length answers ≤ answered c → P (length answers) last.scene
+    turned no_turn low = begun
+    turned (next_turn {answers} {clocks} {before} {after} command answer moment turns there turn) low =
+        subst (λ n. P n after.scene) (sym (length_push answers answer))
+        (one (length answers) before.scene after.scene (omega (arith, low, length_push answers answer)) (record { command = command; there = there; result = Ok answer; meets = turn.meets }) (turned turns (omega (arith, low, length_push answers answer))))
+
+    at_last : P (answered c) goes.last.scene
+    at_last = turned goes.turns (omega arith)
+
+    by_end : AllAnswered c goes.last now ⊎ NoneBegun c goes.last now ⊎ LastTurn disk files sink c goes.last now → P (answered c + 1) now.scene
+    by_end (inl all) = subst (λ (x : Around). P (answered c + 1) x.scene) (sym all.same) (wider _ _ at_last)
+    by_end (inr (inl begun)) = subst (λ (x : Around). P (answered c + 1) x.scene) (sym begun.same) (wider _ _ at_last)
+    by_end (inr (inr turn)) = one (answered c) goes.last.scene now.scene (omega arith) (record { command = turn.command; there = turn.next; result = turn.result; meets = turn.meets }) at_last
+
+  -- a target below a number is one below a greater number
+  below_more : (k n : ℕ) (name : List ℕ) → k ≤ n → IsTargetBelow c k name → IsTargetBelow c n name
+  below_more k n name le (j, v, low, tried) = (j, v, omega (arith, low, le), tried)
+
+  -- each name but targets of restores so far has what it had
+  KeptSoFar : ℕ → Scene → Type 0
+  KeptSoFar k a = (name : List ℕ) → IsTargetBelow c k name ⊎ (map.get a.files name ≡ map.get first.scene.files name)
+
+  one_keeps : files → (k : ℕ) (a b : Scene) → k ≤ answered c → IsStep disk files c.commands k a b → KeptSoFar k a → KeptSoFar (k + 1) b
+  unfolding KeptSoFar
+  one_keeps told k a b low step kept name =
+      ⊎_elim
+      (λ before. inl (below_more k (k + 1) name (omega arith) before))
+      (λ same. ⊎_elim
+      (λ target. inl (k, target.0, omega arith, record { tried = low; is = step.there ∙ ap Some target.1 }))
+      (λ stays. inr (stays ∙ same))
+      (target_or_kept step.command a.files b.files name (step.meets.on_files told).beside))
+      (kept name)
+
+  wider_keeps : (k : ℕ) (a : Scene) → KeptSoFar k a → KeptSoFar (k + 1) a
+  unfolding KeptSoFar
+  wider_keeps k a kept name = ⊎_elim (λ before. inl (below_more k (k + 1) name (omega arith) before)) (λ same. inr same) (kept name)
+
+  pub keeps_others : files → KeepsOthers c first.scene.files now.scene.files
+  unfolding KeptSoFar
+  keeps_others told = record { others = by_steps KeptSoFar (one_keeps told) wider_keeps (λ name. inr refl) }
+
+  -- files and strays so far
+  record StraysSoFar (k : ℕ) (a : Scene) : Type 0 where
+    kept : KeptSoFar k a
+    strays : StraysOnlyFor c first.scene a
+
+  one_strays : files → (k : ℕ) (a b : Scene) → k ≤ answered c → IsStep disk files c.commands k a b → StraysSoFar k a → StraysSoFar (k + 1) b
+  unfolding KeptSoFar
+  one_strays told k a b low step far =
+      let here = (step.meets.on_files told).strays in
+      record {
+        kept = one_keeps told k a b low step far.kept;
+        strays = record {
+          later = omega (arith, far.strays.later, here.later);
+          missing = ⊎_elim
+              (λ same. ⊎_elim
+              (λ before. inl (same ∙ before))
+              (λ asked. inr asked)
+              far.strays.missing)
+              (λ lacking. inr (record {
+                number = k;
+                name = lacking.0;
+                backup = record { tried = low; is = step.there ∙ ap Some lacking.1 };
+                lacks = ⊎_elim (λ target. inl target) (λ same. inr (record { none = sym same ∙ lacking.2.none })) (far.kept lacking.0);
+              }))
+              here.missing;
+        };
+      }
+
+  pub strays_only : files → StraysOnlyFor c first.scene now.scene
+  unfolding KeptSoFar
+  strays_only told = (by_steps StraysSoFar (one_strays told) (λ k a far. record { kept = wider_keeps k a far.kept; strays = far.strays })
+      (record { kept = λ name. inr refl; strays = record { later = omega arith; missing = inl refl } })).strays
+
+  -- ---- the disk
+  pub beyond : disk → WritesOnly (λ place. 64 ≤ place) first.scene.disk now.scene.disk
+  beyond told = to_the_end goes (λ a b. WritesOnly (λ place. 64 ≤ place) a.disk b.disk) (λ a. made_none _ _) (λ a b d e f. made_both e f) (λ command result a b meets. writes_beyond a.store.found command (meets.on_disk told).writes)
+
+  pub by_commands : disk → WritesByCommands c first.scene.disk now.scene.disk
+  by_commands told = record {
+    beyond = beyond told;
+    nothing = λ quiet. by_steps (λ k a. WritesNothing first.scene.disk a.disk)
+        (λ k a b low step far. made_both far (quiet_writes a.store.found step.command (quiet k step.command (record { tried = low; is = step.there })) (step.meets.on_disk told).writes))
+        (λ k a far. far) (made_none _ _);
+  }
+
+-- ---- the clocks
+
+-- the last of the clocks, begun with this one
+abbrev pub last_of : ℕ → List ℕ → ℕ
+last_of begun clocks = get_or (begun ∷ clocks) (length clocks) 0
+
+pub last-push : (begun : ℕ) (clocks : List ℕ) (moment : ℕ) → last_of begun (clocks ++ moment ∷ []) ≡ moment
+last-push begun clocks moment =
+    let size : length (clocks ++ moment ∷ []) ≡ length clocks + 1 = length_push clocks moment in
+    let nothing : length clocks + 1 - (length clocks + 1) ≡ 0 = omega arith in
+    ap (λ n. get_or ((begun ∷ clocks) ++ moment ∷ []) n 0) size
+    ∙ get_or-append_right (begun ∷ clocks) (moment ∷ []) (length clocks + 1) (length clocks + 1) 0 (omega arith) (omega arith) ∙ ap (λ n. get_or (moment ∷ []) n 0) nothing
+
+module _ {disk files sink : Type 0} {commands : List Command} {first : Around} (told : disk) where
+  -- the last clock is the disk's
+  pub last_clock : {answers : List Answer} {clocks : List ℕ} {now : Around} → Turns disk files sink commands first answers clocks now → last_of (clock first.scene.disk) clocks ≡ clock now.scene.disk
+  last_clock no_turn = refl
+  last_clock (next_turn {answers} {clocks} command answer moment turns there turn) = last-push (clock first.scene.disk) clocks moment ∙ turn.clock told
+
+  rising : {answers : List Answer} {clocks : List ℕ} {now : Around} → Turns disk files sink commands first answers clocks now → (k : ℕ) → k < length clocks → get_or (clock first.scene.disk ∷ clocks) k 0 ≤ get_or clocks k 0
+  rising no_turn k low = absurd (omega (arith, low))
+  rising (next_turn {answers} {clocks} {before} {after} command answer moment turns there turn) k low =
+      ⊎_elim
+      (λ inside. omega (arith, get_or_append_left (clock first.scene.disk ∷ clocks) (moment ∷ []) 0 k (omega (arith, inside)), get_or_append_left clocks (moment ∷ []) 0 k inside, rising turns k inside))
+      (λ behind.
+      let here : k ≡ length clocks = omega (arith, low, length_push clocks moment) in
+      let begun : get_or ((clock first.scene.disk ∷ clocks) ++ moment ∷ []) k 0 ≡ clock before.scene.disk = get_or_append_left (clock first.scene.disk ∷ clocks) (moment ∷ []) 0 k (omega (arith, here)) ∙ ap (λ n. get_or (clock first.scene.disk ∷ clocks) n 0) here ∙ last_clock turns in
+      let nothing : length clocks - length clocks ≡ 0 = omega arith in
+      let ended : get_or (clocks ++ moment ∷ []) k 0 ≡ moment = ap (λ n. get_or (clocks ++ moment ∷ []) n 0) here ∙ get_or-append_right clocks (moment ∷ []) (length clocks) (length clocks) 0 refl (omega arith) ∙ ap (λ n. get_or (moment ∷ []) n 0) nothing in
+      omega (arith, begun, ended, turn.clock told, later (writes_beyond before.scene.store.found command (turn.meets.on_disk told).writes)))
+      (cases_lt k (length clocks))
+
+pub clocks_rise : {disk files sink : Type 0} {c : Course} {first now : Around} → Goes disk files sink c first now → ClocksRise disk c first.scene now.scene
+clocks_rise {disk} {files} {sink} {c} {first} {now} goes = record {
+  paired = paired goes.turns;
+  rise = λ told. rising told goes.turns;
+  last = λ told. omega (arith, last_clock told goes.turns, ends told goes.ends);
+} where
+  ends : disk → AllAnswered c goes.last now ⊎ NoneBegun c goes.last now ⊎ LastTurn disk files sink c goes.last now → clock goes.last.scene.disk ≤ clock now.scene.disk
+  ends told (inl all) = omega (arith, ap (λ (x : Around). clock x.scene.disk) all.same)
+  ends told (inr (inl begun)) = omega (arith, ap (λ (x : Around). clock x.scene.disk) begun.same)
+  ends told (inr (inr turn)) = later (writes_beyond goes.last.scene.store.found turn.command (turn.meets.on_disk told).writes)
