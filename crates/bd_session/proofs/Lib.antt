@@ -1,3 +1,4 @@
+pub mod Alone
 pub mod Apart
 pub mod Asking
 pub mod Ending
@@ -6,5 +7,6 @@ pub mod Handing
 pub mod Honestly
 pub mod Kept
 pub mod Meeting
+pub mod Opened
 pub mod Stepping
 pub mod Turning

@@ -1,0 +1,41 @@
+-- A list of one command.
+use Rattle.std.proofs.Common.{◌≡◌, ◌∙◌, ℕ, ◌+◌, List, [], ◌∷◌, ◌++◌, arith, length, refl, sym, ap, subst, Some, slice_get}
+use Rattle.std.proofs.lemmas.List.{length_push}
+use Rattle.bd_disk.specs.History.{contents}
+use Rattle.bd_model.specs.declared.answer.Answer.{Answer}
+use Rattle.bd_model.specs.declared.answer.Answer.TheVariants.{Restored}
+use Rattle.bd_model.specs.declared.command.Command.{Command}
+use Rattle.bd_model.specs.declared.command.Command.TheVariants.{Restore}
+use Rattle.bd_store.specs.Attempts.{GivesBack}
+use Rattle.bd_session.specs.Course.{Around}
+use Rattle.bd_session.specs.Turns.{Turn, Turns, no_turn, next_turn}
+use Rattle.bd_session.proofs.Turning.{none_answered}
+
+-- the only answer is that of the command's turn, from where the list began
+pub record OneTurn (disk files sink : Type 0) (command : Command) (answer : Answer) (first now : Around) : Type 0 where
+  pub moment : ℕ
+  pub turn : Turn disk files sink command answer moment first now
+
+only_one : (answers : List Answer) (answer other : Answer) → answers ++ other ∷ [] ≡ answer ∷ [] → (answers ≡ []) × (other ≡ answer)
+only_one [] answer other e = (refl, cc e)
+only_one (a ∷ answers) answer other e = absurd (omega (arith, length_push answers other, ap length e))
+
+pub one_turn : {disk files sink : Type 0} {command : Command} {first now : Around} {answers : List Answer} {clocks : List ℕ} → Turns disk files sink (command ∷ []) first answers clocks now → (answer : Answer) → answers ≡ answer ∷ [] → OneTurn disk files sink command answer first now
+one_turn no_turn answer is = absurd (cc is)
+one_turn {disk} {files} {sink} {command} {first} {now} (next_turn {answers} {clocks} {before} asked other moment turns there turn) answer is =
+    let one = only_one answers answer other is in
+    let same : command ≡ asked = first_of_one (ap (slice_get (command ∷ [])) (sym (ap length one.0)) ∙ there) in
+    record {
+      moment = moment;
+      turn = subst (λ (x : Command). Turn disk files sink x answer moment first now) (sym same)
+          (subst (λ (x : Answer). Turn disk files sink asked x moment first now) one.1
+          (subst (λ (x : Around). Turn disk files sink asked other moment x now) (none_answered turns one.0) turn));
+    }
+  where
+    first_of_one : {x y : Command} → Some x ≡ Some y → x ≡ y
+    first_of_one e = cc e
+
+-- a restore alone gave back what the contents at entry have, each chunk with its mark
+pub gives_back_alone : {disk files sink : Type 0} {v : ℕ} {name : List ℕ} {first now : Around} {clocks : List ℕ} (given bytes : ℕ) → Turns disk files sink (Restore v name ∷ []) first (Restored given bytes ∷ []) clocks now → disk → files →
+    GivesBack first.scene.store.found v name (contents first.scene.disk) first.scene.files now.scene.files
+gives_back_alone given bytes turns told files_told = ((one_turn turns (Restored given bytes) refl).turn.meets.on_both told files_told).gives
