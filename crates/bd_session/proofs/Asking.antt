@@ -1,5 +1,5 @@
 -- What is known of a command by its answer.
-use Rattle.std.proofs.Common.{◌≡◌, ◌≤◌, ◌⊎◌, ◌∙◌, ℕ, true, inl, inr, refl, sym, ap, subst, Ok, Err, Result, Option, Some}
+use Rattle.std.proofs.Common.{◌≡◌, ◌≤◌, ◌⊎◌, ◌∙◌, ℕ, true, inl, inr, refl, sym, ap, subst, ⊎_elim, Ok, Err, Result, Option, Some}
 use Rattle.bd_catalog.specs.Opening.{Found, opened}
 use Rattle.bd_model.specs.declared.answer.Answer.{Answer}
 use Rattle.bd_model.specs.declared.command.Command.{Command}
@@ -27,8 +27,7 @@ use Rattle.bd_store.specs.declared.fault.StoreFault.TheVariants.{SourceFault as 
 use Rattle.bd_session.specs.Course.{Around, Course, next_command}
 use Rattle.bd_session.specs.Ends.{EndsBy, IsMetBy, end_of}
 use Rattle.bd_session.specs.Turns.{AllAnswered, Goes, LastTurn, NoneBegun}
-use Rattle.bd_session.specs.declared.report.SessionEnd.{SessionEnd}
-use Rattle.bd_session.specs.declared.report.SessionEnd.TheVariants.{Done, SourceFault, TargetFault, DiskFault, Damaged, OutputFault, OutOfMemory, Unbuilt}
+use Rattle.bd_session.proofs.Turning.{unsaid}
 
 -- which command met a fault
 met_fault : (found : Found) (command : Command) (fault : StoreFault) → IsAnswerOf found command (Err fault) → (next : Option Command) → next ≡ Some command → IsMetBy next (end_of fault)
@@ -56,21 +55,15 @@ met_fault found Scrub (StoreDamaged damage) answers next is = absurd (cc answers
 
 pub met_by : {disk files sink : Type 0} {c : Course} {first now : Around} → Goes disk files sink c first now → IsMetBy (next_command c) c.ending
 met_by {disk} {files} {sink} {c} {first} {now} goes = by_end goes.ends where
-  by_result : (command : Command) (found : Found) (result : Result Answer StoreFault) (ending : SessionEnd) → IsAnswerOf found command result → next_command c ≡ Some command → EndsBy sink result ending goes.last now → IsMetBy (next_command c) ending
-  by_result command found (Err fault) ending answers is ends = subst (IsMetBy (next_command c)) (sym ends.0) (met_fault found command fault answers (next_command c) is)
-  by_result command found (Ok answer) OutputFault answers is ends = tt
-  by_result command found (Ok answer) OutOfMemory answers is ends = tt
-  by_result command found (Ok answer) Done answers is ends = tt
-  by_result command found (Ok answer) DiskFault answers is ends = tt
-  by_result command found (Ok answer) SourceFault answers is ends = absurd ends
-  by_result command found (Ok answer) TargetFault answers is ends = absurd ends
-  by_result command found (Ok answer) (Damaged damage) answers is ends = absurd ends
-  by_result command found (Ok answer) Unbuilt answers is ends = absurd ends
+  by_result : (command : Command) (found : Found) (result : Result Answer StoreFault) → IsAnswerOf found command result → next_command c ≡ Some command → EndsBy sink result c.ending goes.last now → IsMetBy (next_command c) c.ending
+  by_result command found (Err fault) answers is ends = subst (IsMetBy (next_command c)) (sym ends.0) (met_fault found command fault answers (next_command c) is)
+  by_result command found (Ok answer) answers is ends =
+      ⊎_elim (λ out. subst (IsMetBy (next_command c)) (sym out.0) tt) (λ memory. subst (IsMetBy (next_command c)) (sym memory.0) tt) (unsaid sink answer c.ending goes.last now ends)
 
   by_end : AllAnswered c goes.last now ⊎ NoneBegun c goes.last now ⊎ LastTurn disk files sink c goes.last now → IsMetBy (next_command c) c.ending
   by_end (inl all) = subst (IsMetBy (next_command c)) (sym all.done) tt
   by_end (inr (inl begun)) = subst (IsMetBy (next_command c)) (sym begun.memory) tt
-  by_end (inr (inr turn)) = by_result turn.command goes.last.scene.store.found turn.result c.ending turn.meets.answer turn.next turn.ends
+  by_end (inr (inr turn)) = by_result turn.command goes.last.scene.store.found turn.result turn.meets.answer turn.next turn.ends
 
 -- ---- what was answered
 

@@ -1,5 +1,5 @@
 -- What the sink was given.
-use Rattle.std.proofs.Common.{◌≡◌, ◌≢◌, ◌⊎◌, ◌∙◌, ℕ, ◌+◌, List, [], ◌∷◌, ◌++◌, length, take, inl, inr, refl, sym, ap, arith, append-nil, append_assoc, Ok, Err, Result}
+use Rattle.std.proofs.Common.{◌≡◌, ◌≢◌, ◌⊎◌, ◌∙◌, ℕ, ◌+◌, List, [], ◌∷◌, ◌++◌, length, take, inl, inr, refl, sym, ap, arith, append-nil, append_assoc, ⊎_elim, Ok, Err, Result}
 use Rattle.std.proofs.lemmas.Grind.{flat_map-append}
 use Rattle.std.proofs.lemmas.List.{length_push}
 use Rattle.std.proofs.lemmas.List.Elements.{filter_map-append}
@@ -7,14 +7,15 @@ use Rattle.bd_files.specs.Sinks.{Handed, HandsPart, moments_of, part, whole, wri
 use Rattle.bd_files.proofs.SinkLemmas.{hands_part-moments}
 use Rattle.bd_model.specs.Texts.{answer_text, texts}
 use Rattle.bd_model.specs.declared.answer.Answer.{Answer}
+use Rattle.bd_model.specs.declared.answer.Answer.TheVariants.{FullNumbers}
 use Rattle.bd_model.specs.declared.command.Command.{Command}
 use Rattle.bd_store.specs.declared.fault.StoreFault.{StoreFault}
 use Rattle.bd_session.specs.Course.{Around, Course}
 use Rattle.bd_session.specs.Ends.{EndsBy}
 use Rattle.bd_session.specs.Telling.{HandsAnswers, told}
 use Rattle.bd_session.specs.Turns.{AllAnswered, Goes, LastTurn, NoneBegun, Turns, no_turn, next_turn}
-use Rattle.bd_session.specs.declared.report.SessionEnd.{SessionEnd}
-use Rattle.bd_session.specs.declared.report.SessionEnd.TheVariants.{Done, SourceFault, TargetFault, DiskFault, Damaged, OutputFault, OutOfMemory, Unbuilt}
+use Rattle.bd_session.proofs.Turning.{unsaid}
+use Rattle.bd_session.specs.declared.report.SessionEnd.TheVariants.{OutputFault}
 
 -- one text more
 told-push : (moments : List ℕ) (answers : List Answer) (moment : ℕ) (answer : Answer) → length moments ≡ length answers → told (moments ++ moment ∷ []) (answers ++ answer ∷ []) ≡ told moments answers ++ whole moment (answer_text answer) ∷ []
@@ -53,7 +54,7 @@ whole_only {disk} {c} {before} {last} {now} far same = record {
   rest = [];
   so = same ∙ far.so ∙ ap (λ l. before ++ l) (sym (append-nil (told far.moments c.answers)));
   nothing = λ _. refl;
-  part = ([], record { so = inl refl });
+  part = (FullNumbers, record { so = inl refl });
 }
 
 -- what the last put left behind the texts: nothing, or a part
@@ -71,31 +72,28 @@ hands_answers {disk} {files} {sink} {c} {first} {now} goes tells = by_end goes.e
   unmoved : now ≡ goes.last → HandsAnswers disk c first.handed now.handed
   unmoved e = whole_only far (ap (λ (x : Around). x.handed) e)
 
-  by_result : (result : Result Answer StoreFault) (ending : SessionEnd) → c.ending ≡ ending → EndsBy sink result ending goes.last now → HandsAnswers disk c first.handed now.handed
-  by_result (Err fault) ending is ends = whole_only far ends.1.handed
-  by_result (Ok answer) OutOfMemory is ends = whole_only far ends.1.handed
-  by_result (Ok answer) OutputFault is ends =
-      let left = rest_of (ends.handed tells) in
+  by_result : (result : Result Answer StoreFault) → EndsBy sink result c.ending goes.last now → HandsAnswers disk c first.handed now.handed
+  by_result (Err fault) ends = whole_only far ends.1.handed
+  by_result (Ok answer) ends =
+      ⊎_elim
+      (λ out.
+      let left = rest_of (out.1.handed tells) in
       record {
         moments = far.moments;
         are = far.are;
         paired = far.paired;
         rest = left.0;
         so = left.1 ∙ ap (λ l. l ++ left.0) far.so ∙ append_assoc first.handed (told far.moments c.answers) left.0;
-        nothing = λ other. absurd (other is);
-        part = (answer_text answer, left.2);
-      }
-  by_result (Ok answer) Done is ends = absurd ends
-  by_result (Ok answer) SourceFault is ends = absurd ends
-  by_result (Ok answer) TargetFault is ends = absurd ends
-  by_result (Ok answer) DiskFault is ends = absurd ends
-  by_result (Ok answer) (Damaged damage) is ends = absurd ends
-  by_result (Ok answer) Unbuilt is ends = absurd ends
+        nothing = λ other. absurd (other out.0);
+        part = (answer, left.2);
+      })
+      (λ memory. whole_only far memory.2.handed)
+      (unsaid sink answer c.ending goes.last now ends)
 
   by_end : AllAnswered c goes.last now ⊎ NoneBegun c goes.last now ⊎ LastTurn disk files sink c goes.last now → HandsAnswers disk c first.handed now.handed
   by_end (inl all) = unmoved all.same
   by_end (inr (inl begun)) = unmoved begun.same
-  by_end (inr (inr turn)) = by_result turn.result c.ending refl turn.ends
+  by_end (inr (inr turn)) = by_result turn.result turn.ends
 
 -- ---- what was written, and when
 

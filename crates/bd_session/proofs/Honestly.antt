@@ -1,5 +1,5 @@
 -- The headline follows from the turns of a list.
-use Rattle.std.proofs.Common.{◌≡◌, ◌≢◌, ◌⊎◌, ◌∙◌, ℕ, ◌+◌, ◌<◌, ◌≤◌, arith, List, [], ◌∷◌, ◌++◌, length, inl, inr, refl, sym, ap, subst, Ok, Err, Result, Some}
+use Rattle.std.proofs.Common.{◌≡◌, ◌≢◌, ◌⊎◌, ◌∙◌, ℕ, ◌+◌, ◌<◌, ◌≤◌, arith, List, [], ◌∷◌, ◌++◌, length, inl, inr, refl, sym, ap, subst, ⊎_elim, Ok, Err, Result, Some}
 use Rattle.std.specs.FinMap as map
 use Rattle.std.proofs.lemmas.List.{length_push}
 use Rattle.std.proofs.lemmas.Option.{slice_get_within}
@@ -35,7 +35,7 @@ use Rattle.bd_session.proofs.Asking.{long_quiet, phase_after-room, reads_for}
 use Rattle.bd_session.proofs.Ending.{ends_done, ends_failed, ends_kept, ends_unsaid}
 use Rattle.bd_session.proofs.Going.{HasGone, goes_on, none_gone}
 use Rattle.bd_session.proofs.Kept.{target_or_kept, writes_beyond}
-use Rattle.bd_session.proofs.Turning.{IsOpen, along, by_count, still_open}
+use Rattle.bd_session.proofs.Turning.{IsOpen, along, by_count, damage_end, still_open, unsaid}
 
 -- ---- one command from where the others led
 
@@ -168,58 +168,39 @@ module _ {disk files sink : Type 0} {c : Course} {first now : Around} (told : di
     by_fault StoreDisk is kept stops = ends_failed s c goes.last.scene.disk now.scene.disk goes.last.scene.files g writes turn.command turn.next now.scene.files is kept.stands stops.within (half_or_kept (subst LeavesTarget (sym is) tt) kept.beside)
     by_fault (StoreDamaged damage) is kept stops = absurd kept
 
-    by_result : (result : Result Answer StoreFault) (ending : SessionEnd) → c.ending ≡ ending → Meets disk files (attempt turn.command result goes.last.scene now.scene) → EndsBy sink result ending goes.last now → MeetsTheHeadline s (clock s.disk) c now.scene.disk now.scene.files
-    by_result (Err fault) ending is meets ends =
-        by_fault fault (is ∙ ends.0)
+    by_result : (result : Result Answer StoreFault) → Meets disk files (attempt turn.command result goes.last.scene now.scene) → EndsBy sink result c.ending goes.last now → MeetsTheHeadline s (clock s.disk) c now.scene.disk now.scene.files
+    by_result (Err fault) meets ends =
+        by_fault fault ends.0
         (made s c.commands c.answers c.clocks goes.last.scene now.scene g held_last turn.command near (Err fault) (meets.on_both told files_told))
         (stopped s c.commands c.answers c.clocks goes.last.scene now.scene g held_last turn.command near (Err fault) (meets.on_both told files_told))
-    by_result (Ok answer) OutputFault is meets ends =
+    by_result (Ok answer) meets ends =
         let done : Answered t g.phase answer (contents now.scene.disk) now.scene.files = made s c.commands c.answers c.clocks goes.last.scene now.scene g held_last turn.command near (Ok answer) (meets.on_both told files_told) in
         let stops : StopsOnEitherSide t goes.last.scene.disk now.scene.disk (Ok answer) = stopped s c.commands c.answers c.clocks goes.last.scene now.scene g held_last turn.command near (Ok answer) (meets.on_both told files_told) in
-        ends_unsaid s c goes.last.scene.disk now.scene.disk goes.last.scene.files g writes turn.command turn.next now.scene.files done.outcome done.leads is
-        (stands_on t g.phase answer (contents now.scene.disk) now.scene.files done) stops.within done.beside
-    by_result (Ok answer) OutOfMemory is meets ends =
-        let quiet = long_quiet turn.command answer goes.last.scene now.scene ends.0 meets.answer (meets.on_disk told).reads (meets.on_files files_told).beside in
-        unmoved (subst Leaves (sym is) leaves_memory) (λ other. absurd (other is)) quiet.0 quiet.1
-    by_result (Ok answer) Done is meets ends = absurd ends
-    by_result (Ok answer) SourceFault is meets ends = absurd ends
-    by_result (Ok answer) TargetFault is meets ends = absurd ends
-    by_result (Ok answer) DiskFault is meets ends = absurd ends
-    by_result (Ok answer) (Damaged damage) is meets ends = absurd ends
-    by_result (Ok answer) Unbuilt is meets ends = absurd ends
+        ⊎_elim
+        (λ out. ends_unsaid s c goes.last.scene.disk now.scene.disk goes.last.scene.files g writes turn.command turn.next now.scene.files done.outcome done.leads out.0
+        (stands_on t g.phase answer (contents now.scene.disk) now.scene.files done) stops.within done.beside)
+        (λ memory.
+        let quiet = long_quiet turn.command answer goes.last.scene now.scene memory.1 meets.answer (meets.on_disk told).reads (meets.on_files files_told).beside in
+        unmoved (subst Leaves (sym memory.0) leaves_memory) (λ other. absurd (other memory.0)) quiet.0 quiet.1)
+        (unsaid sink answer c.ending goes.last now ends)
 
     -- no damage was met
-    no_damage : (result : Result Answer StoreFault) (ending : SessionEnd) → Meets disk files (attempt turn.command result goes.last.scene now.scene) → EndsBy sink result ending goes.last now → (damage : Damage) → ending ≢ Damaged damage
-    no_damage (Err (StoreDamaged damage)) ending meets ends other is = absurd (made s c.commands c.answers c.clocks goes.last.scene now.scene g held_last turn.command near (Err (StoreDamaged damage)) (meets.on_both told files_told))
-    no_damage (Err StoreSource) ending meets ends other is = clash (sym ends.0 ∙ is) where
-      clash : SourceFault ≡ Damaged other → ⊥
-      clash e = cc e
-    no_damage (Err StoreTarget) ending meets ends other is = clash (sym ends.0 ∙ is) where
-      clash : TargetFault ≡ Damaged other → ⊥
-      clash e = cc e
-    no_damage (Err StoreDisk) ending meets ends other is = clash (sym ends.0 ∙ is) where
-      clash : DiskFault ≡ Damaged other → ⊥
-      clash e = cc e
-    no_damage (Err StoreMemory) ending meets ends other is = clash (sym ends.0 ∙ is) where
-      clash : OutOfMemory ≡ Damaged other → ⊥
-      clash e = cc e
-    no_damage (Err StoreUnbuilt) ending meets ends other is = clash (sym ends.0 ∙ is) where
-      clash : Unbuilt ≡ Damaged other → ⊥
-      clash e = cc e
-    no_damage (Ok answer) (Damaged damage) meets ends other is = absurd ends
-    no_damage (Ok answer) OutputFault meets ends other is = cc is
-    no_damage (Ok answer) OutOfMemory meets ends other is = cc is
-    no_damage (Ok answer) Done meets ends other is = cc is
-    no_damage (Ok answer) SourceFault meets ends other is = cc is
-    no_damage (Ok answer) TargetFault meets ends other is = cc is
-    no_damage (Ok answer) DiskFault meets ends other is = cc is
-    no_damage (Ok answer) Unbuilt meets ends other is = cc is
+    no_damage : (result : Result Answer StoreFault) → Meets disk files (attempt turn.command result goes.last.scene now.scene) → EndsBy sink result c.ending goes.last now → (damage : Damage) → c.ending ≢ Damaged damage
+    no_damage (Err fault) meets ends damage is =
+        subst (λ f. MakesStep t g.phase (contents now.scene.disk) now.scene.files (Err f)) (damage_end fault damage (sym ends.0 ∙ is))
+        (made s c.commands c.answers c.clocks goes.last.scene now.scene g held_last turn.command near (Err fault) (meets.on_both told files_told))
+    no_damage (Ok answer) meets ends damage is = ⊎_elim (λ out. no_output (sym out.0 ∙ is)) (λ memory. no_memory (sym memory.0 ∙ is)) (unsaid sink answer c.ending goes.last now ends) where
+      no_output : OutputFault ≡ Damaged damage → ⊥
+      no_output e = cc e
+
+      no_memory : OutOfMemory ≡ Damaged damage → ⊥
+      no_memory e = cc e
 
   pub headline_met : AllAnswered c goes.last now ⊎ NoneBegun c goes.last now ⊎ LastTurn disk files sink c goes.last now → MeetsTheHeadline s (clock s.disk) c now.scene.disk now.scene.files
   unfolding g
   headline_met (inl all) = subst (λ (x : Around). MeetsTheHeadline s (clock s.disk) c x.scene.disk x.scene.files) (sym all.same) (ends_done g all.done all.all)
   headline_met (inr (inl begun)) = unmoved (subst Leaves (sym begun.memory) leaves_memory) (λ other. absurd (other begun.memory)) (ap (λ (x : Around). x.scene.disk) begun.same) (ap (λ (x : Around). x.scene.files) begun.same)
-  headline_met (inr (inr turn)) = by_result turn turn.result c.ending refl turn.meets turn.ends
+  headline_met (inr (inr turn)) = by_result turn turn.result turn.meets turn.ends
 
   pub damage_met : AllAnswered c goes.last now ⊎ NoneBegun c goes.last now ⊎ LastTurn disk files sink c goes.last now → (damage : Damage) → c.ending ≢ Damaged damage
   damage_met (inl all) damage is = clash (sym all.done ∙ is) where
@@ -228,7 +209,7 @@ module _ {disk files sink : Type 0} {c : Course} {first now : Around} (told : di
   damage_met (inr (inl begun)) damage is = clash (sym begun.memory ∙ is) where
     clash : OutOfMemory ≡ Damaged damage → ⊥
     clash e = cc e
-  damage_met (inr (inr turn)) damage is = no_damage turn turn.result c.ending turn.meets turn.ends damage is
+  damage_met (inr (inr turn)) damage is = no_damage turn turn.result turn.meets turn.ends damage is
 
 -- without a fault it ends well
 complete : (ending : SessionEnd) (before now : Around) → EndsByCount ending before now → ((damage : Damage) → ending ≢ Damaged damage) → NoFault before now → (ending ≡ Done) ⊎ ((ending ≡ OutOfMemory) ⊎ (ending ≡ Unbuilt))

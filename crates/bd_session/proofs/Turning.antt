@@ -1,18 +1,21 @@
 -- What holds along the turns of a list, and up to its end.
-use Rattle.std.proofs.Common.{◌≡◌, ◌≢◌, ◌⊎◌, ◌↔◌, ◌∙◌, ℕ, ◌+◌, ◌≤◌, Bool, true, false, List, [], length, inl, inr, refl, sym, ap, subst, arith, Ok, Err, Result}
+use Rattle.std.proofs.Common.{◌≡◌, ◌≢◌, ◌⊎◌, ◌↔◌, ◌∙◌, ℕ, ◌+◌, ◌≤◌, Bool, true, false, List, [], length, inl, inr, refl, sym, ap, subst, arith, ⊎_elim, Ok, Err, Result}
 use Rattle.std.proofs.lemmas.List.{length_push}
 use Rattle.std.proofs.lemmas.Option.{slice_get_within}
 use Rattle.bd_disk.specs.Calls.{Rose}
 use Rattle.bd_model.specs.Sizes.{disk_bytes}
+use Rattle.bd_model.specs.Texts.{answer_text}
 use Rattle.bd_model.specs.declared.answer.Answer.{Answer}
 use Rattle.bd_model.specs.declared.command.Command.{Command}
+use Rattle.bd_model.specs.declared.damage.Damage.{Damage}
 use Rattle.bd_catalog.specs.Agreement.{Agrees}
+use Rattle.bd_script.specs.Long.{is_long}
 use Rattle.bd_store.specs.Attempts.{Meets, Scene, attempt}
 use Rattle.bd_store.specs.Causes.{Counts, HasRisen, NoneFell}
 use Rattle.bd_store.specs.declared.fault.StoreFault.{StoreFault}
 use Rattle.bd_store.specs.declared.fault.StoreFault.TheVariants.{SourceFault as StoreSource, TargetFault as StoreTarget, DiskFault as StoreDisk, Damaged as StoreDamaged, OutOfMemory as StoreMemory, Unbuilt as StoreUnbuilt}
 use Rattle.bd_session.specs.Course.{Around, Course}
-use Rattle.bd_session.specs.Ends.{EndsBy, EndsByCount, EndsOnlyByCount, LeavesCounts, end_of}
+use Rattle.bd_session.specs.Ends.{FailsSink, LeavesSink, EndsBy, EndsByCount, EndsOnlyByCount, LeavesCounts, end_of}
 use Rattle.bd_session.specs.Keeping.{KeepsStore}
 use Rattle.bd_session.specs.Turns.{AllAnswered, Goes, LastTurn, NoneBegun, Turn, Turns, no_turn, next_turn}
 use Rattle.bd_session.specs.declared.report.SessionEnd.{SessionEnd}
@@ -37,6 +40,12 @@ pub record HasTurned (disk files sink : Type 0) (commands : List Command) (first
 pub not_true : (b : Bool) → (b ≡ true → ⊥) → b ≡ false
 not_true true h = absurd (h refl)
 not_true false h = refl
+
+abbrev failed : StoreFault → Result Answer StoreFault
+failed fault = Err fault
+
+one_fault : {one other : StoreFault} → failed one ≡ failed other → one ≡ other
+one_fault e = cc e
 
 -- an answer is no fault
 answer_no_fault : {answer : Answer} {fault : StoreFault} → (Ok answer ≡ Err fault) → ⊥
@@ -112,9 +121,50 @@ module _ {disk files sink : Type 0} {c : Course} {first now : Around} (goes : Go
   held_stays : now.scene.store.held ≡ first.scene.store.held
   held_stays = to_the_end (λ a b. b.store.held ≡ a.store.held) (λ a. refl) (λ a b c e f. f ∙ e) (λ command result a b meets. meets.store.held)
 
+-- ---- the last command
+
+-- an answer whose text wasn't put: the sink failed, or there was no memory for the many lines
+pub unsaid : (sink : Type 0) (answer : Answer) (ending : SessionEnd) (last now : Around) → EndsBy sink (Ok answer) ending last now →
+    ((ending ≡ OutputFault) × FailsSink sink (answer_text answer) last now) ⊎ ((ending ≡ OutOfMemory) × (is_long answer ≡ true) × LeavesSink last now)
+unsaid sink answer OutputFault last now ends = inl (refl, ends)
+unsaid sink answer OutOfMemory last now ends = inr (refl, ends.0, ends.1)
+unsaid sink answer Done last now ends = absurd ends
+unsaid sink answer SourceFault last now ends = absurd ends
+unsaid sink answer TargetFault last now ends = absurd ends
+unsaid sink answer DiskFault last now ends = absurd ends
+unsaid sink answer (Damaged damage) last now ends = absurd ends
+unsaid sink answer Unbuilt last now ends = absurd ends
+
+-- which faults bring these ends
+disk_end : (fault : StoreFault) → end_of fault ≡ DiskFault → fault ≡ StoreDisk
+disk_end StoreDisk e = refl
+disk_end StoreSource e = absurd (cc e)
+disk_end StoreTarget e = absurd (cc e)
+disk_end (StoreDamaged damage) e = absurd (cc e)
+disk_end StoreMemory e = absurd (cc e)
+disk_end StoreUnbuilt e = absurd (cc e)
+
+pub damage_end : (fault : StoreFault) (damage : Damage) → end_of fault ≡ Damaged damage → fault ≡ StoreDamaged damage
+damage_end (StoreDamaged found) damage e = cc e
+damage_end StoreSource damage e = absurd (cc e)
+damage_end StoreTarget damage e = absurd (cc e)
+damage_end StoreDisk damage e = absurd (cc e)
+damage_end StoreMemory damage e = absurd (cc e)
+damage_end StoreUnbuilt damage e = absurd (cc e)
+
+-- a fault of the disk ends the list, and is that of its last command
+disk_ends : (sink : Type 0) (result : Result Answer StoreFault) (ending : SessionEnd) (last now : Around) → EndsBy sink result ending last now → (result ≡ Err StoreDisk) ↔ (ending ≡ DiskFault)
+disk_ends sink (Err fault) ending last now ends = (λ e. ends.0 ∙ ap end_of (one_fault e), λ e. ap Err (disk_end fault (sym ends.0 ∙ e)))
+disk_ends sink (Ok answer) ending last now ends = (λ e. absurd (answer_no_fault e), λ e. absurd (⊎_elim (λ out. out_is (sym out.0 ∙ e)) (λ memory. memory_is (sym memory.0 ∙ e)) (unsaid sink answer ending last now ends))) where
+  out_is : OutputFault ≡ DiskFault → ⊥
+  out_is e = cc e
+
+  memory_is : OutOfMemory ≡ DiskFault → ⊥
+  memory_is e = cc e
+
 -- ---- by which count
 
--- what the last command's fault did to the counts, from the first on
+-- what the last command did to the counts, from the first on
 last_cause : (sink : Type 0) (result : Result Answer StoreFault) (ending : SessionEnd) (first last now : Around) → last.scene.counts ≡ first.scene.counts → last.sink_faults ≡ first.sink_faults →
     (command : Command) → {disk files : Type 0} → Meets disk files (attempt command result last.scene now.scene) → EndsBy sink result ending last now → EndsByCount ending first now
 last_cause sink (Err fault) ending first last now counts sinks command meets ends = subst (λ e. EndsByCount e first now) (sym ends.0) (by_fault fault (subst (λ (x : Counts). HasRisen fault x now.scene.counts) counts meets.cause.cause)) where
@@ -128,26 +178,16 @@ last_cause sink (Err fault) ending first last now counts sinks command meets end
   by_fault (StoreDamaged damage) same = record { store = same; sink = stays }
   by_fault StoreMemory same = record { store = same; sink = stays }
   by_fault StoreUnbuilt same = record { store = same; sink = stays }
-last_cause sink (Ok answer) OutputFault first last now counts sinks command meets ends = record { store = meets.cause.cause ∙ counts; sink = subst (λ n. Rose n now.sink_faults) sinks ends.faults }
-last_cause sink (Ok answer) OutOfMemory first last now counts sinks command meets ends = record { store = meets.cause.cause ∙ counts; sink = ends.1.faults ∙ sinks }
-last_cause sink (Ok answer) Done first last now counts sinks command meets ends = absurd ends
-last_cause sink (Ok answer) SourceFault first last now counts sinks command meets ends = absurd ends
-last_cause sink (Ok answer) TargetFault first last now counts sinks command meets ends = absurd ends
-last_cause sink (Ok answer) DiskFault first last now counts sinks command meets ends = absurd ends
-last_cause sink (Ok answer) (Damaged damage) first last now counts sinks command meets ends = absurd ends
-last_cause sink (Ok answer) Unbuilt first last now counts sinks command meets ends = absurd ends
+last_cause sink (Ok answer) ending first last now counts sinks command meets ends =
+    ⊎_elim
+    (λ out. subst (λ e. EndsByCount e first now) (sym out.0) (record { store = meets.cause.cause ∙ counts; sink = subst (λ n. Rose n now.sink_faults) sinks out.1.faults }))
+    (λ memory. subst (λ e. EndsByCount e first now) (sym memory.0) (record { store = meets.cause.cause ∙ counts; sink = memory.2.faults ∙ sinks }))
+    (unsaid sink answer ending last now ends)
 
 -- the sink's count didn't fall
 last_sink : (sink : Type 0) (result : Result Answer StoreFault) (ending : SessionEnd) (last now : Around) → EndsBy sink result ending last now → last.sink_faults ≤ now.sink_faults
 last_sink sink (Err fault) ending last now ends = omega (arith, ends.1.faults)
-last_sink sink (Ok answer) OutputFault last now ends = ends.later
-last_sink sink (Ok answer) OutOfMemory last now ends = omega (arith, ends.1.faults)
-last_sink sink (Ok answer) Done last now ends = absurd ends
-last_sink sink (Ok answer) SourceFault last now ends = absurd ends
-last_sink sink (Ok answer) TargetFault last now ends = absurd ends
-last_sink sink (Ok answer) DiskFault last now ends = absurd ends
-last_sink sink (Ok answer) (Damaged damage) last now ends = absurd ends
-last_sink sink (Ok answer) Unbuilt last now ends = absurd ends
+last_sink sink (Ok answer) ending last now ends = ⊎_elim (λ out. out.1.later) (λ memory. omega (arith, memory.2.faults)) (unsaid sink answer ending last now ends)
 
 pub by_count : {disk files sink : Type 0} {c : Course} {first now : Around} → Goes disk files sink c first now → EndsOnlyByCount c.ending first now
 by_count {disk} {files} {sink} {c} {first} {now} goes = record { later = none_fell goes; sink = sinks goes.ends; cause = cause goes.ends } where
@@ -165,33 +205,6 @@ by_count {disk} {files} {sink} {c} {first} {now} goes = record { later = none_fe
   cause (inr (inr turn)) = last_cause sink turn.result c.ending first goes.last now (counts_stay goes.turns) (sink_stays goes.turns) turn.command turn.meets turn.ends
 
 -- ---- the store
-
--- a fault of the disk ends the list, and is that of its last command
-disk_ends : (sink : Type 0) (result : Result Answer StoreFault) (ending : SessionEnd) (last now : Around) → EndsBy sink result ending last now → (result ≡ Err StoreDisk) ↔ (ending ≡ DiskFault)
-disk_ends sink (Err StoreDisk) ending last now ends = (λ _. ends.0, λ _. refl)
-disk_ends sink (Err StoreSource) ending last now ends = (λ e. absurd (cc e), λ e. absurd (clash (sym ends.0 ∙ e))) where
-  clash : SourceFault ≡ DiskFault → ⊥
-  clash e = cc e
-disk_ends sink (Err StoreTarget) ending last now ends = (λ e. absurd (cc e), λ e. absurd (clash (sym ends.0 ∙ e))) where
-  clash : TargetFault ≡ DiskFault → ⊥
-  clash e = cc e
-disk_ends sink (Err (StoreDamaged damage)) ending last now ends = (λ e. absurd (cc e), λ e. absurd (clash (sym ends.0 ∙ e))) where
-  clash : Damaged damage ≡ DiskFault → ⊥
-  clash e = cc e
-disk_ends sink (Err StoreMemory) ending last now ends = (λ e. absurd (cc e), λ e. absurd (clash (sym ends.0 ∙ e))) where
-  clash : OutOfMemory ≡ DiskFault → ⊥
-  clash e = cc e
-disk_ends sink (Err StoreUnbuilt) ending last now ends = (λ e. absurd (cc e), λ e. absurd (clash (sym ends.0 ∙ e))) where
-  clash : Unbuilt ≡ DiskFault → ⊥
-  clash e = cc e
-disk_ends sink (Ok answer) DiskFault last now ends = absurd ends
-disk_ends sink (Ok answer) OutputFault last now ends = (λ e. absurd (cc e), λ e. absurd (cc e))
-disk_ends sink (Ok answer) OutOfMemory last now ends = (λ e. absurd (cc e), λ e. absurd (cc e))
-disk_ends sink (Ok answer) Done last now ends = absurd ends
-disk_ends sink (Ok answer) SourceFault last now ends = absurd ends
-disk_ends sink (Ok answer) TargetFault last now ends = absurd ends
-disk_ends sink (Ok answer) (Damaged damage) last now ends = absurd ends
-disk_ends sink (Ok answer) Unbuilt last now ends = absurd ends
 
 -- the sizes stay along the turns
 sizes_stay : {disk files sink : Type 0} {commands : List Command} {first now : Around} {answers : List Answer} {clocks : List ℕ} → Turns disk files sink commands first answers clocks now → IsOpen disk first → now.scene.store.found.sizes ≡ first.scene.store.found.sizes

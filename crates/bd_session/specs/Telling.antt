@@ -22,7 +22,7 @@ told (moment ∷ moments) (answer ∷ answers) = whole moment (answer_text answe
 told _ _ = []
 
 -- What the sink was given: the text of each answer at its moment, in order, and nothing else, unless it failed. Then it may
--- have taken a part of the next text behind them. Where the disk tells, the moments are the clocks.
+-- have taken a part of one more answer's text behind them. Where the disk tells, the moments are the clocks.
 pub record HandsAnswers (disk : Type 0) (c : Course) (before now : List Handed) : Type 0 where
   pub moments : List ℕ
   pub are : disk → moments ≡ c.clocks
@@ -30,4 +30,4 @@ pub record HandsAnswers (disk : Type 0) (c : Course) (before now : List Handed) 
   pub rest : List Handed
   pub so : now ≡ before ++ (told moments c.answers ++ rest)
   pub nothing : c.ending ≢ OutputFault → rest ≡ []
-  pub part : (text : List ℕ) × HandsPart text [] rest
+  pub part : (answer : Answer) × HandsPart (answer_text answer) [] rest
