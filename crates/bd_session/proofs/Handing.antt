@@ -14,8 +14,8 @@ use Rattle.bd_session.specs.Course.{Around, Course}
 use Rattle.bd_session.specs.Ends.{EndsBy}
 use Rattle.bd_session.specs.Telling.{HandsAnswers, told}
 use Rattle.bd_session.specs.Turns.{AllAnswered, Goes, LastTurn, NoneBegun, Turns, no_turn, next_turn}
-use Rattle.bd_session.proofs.Turning.{unsaid}
 use Rattle.bd_session.specs.declared.report.SessionEnd.TheVariants.{OutputFault}
+use Rattle.bd_session.proofs.Turning.{unsaid}
 
 -- one text more
 told-push : (moments : List ℕ) (answers : List Answer) (moment : ℕ) (answer : Answer) → length moments ≡ length answers → told (moments ++ moment ∷ []) (answers ++ answer ∷ []) ≡ told moments answers ++ whole moment (answer_text answer) ∷ []

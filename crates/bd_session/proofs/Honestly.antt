@@ -31,10 +31,9 @@ use Rattle.bd_session.specs.Session.{MeetsHonestly}
 use Rattle.bd_session.specs.Turns.{AllAnswered, Goes, LastTurn, NoneBegun, Turns, no_turn, next_turn}
 use Rattle.bd_session.specs.declared.report.SessionEnd.{SessionEnd}
 use Rattle.bd_session.specs.declared.report.SessionEnd.TheVariants.{Done, SourceFault, TargetFault, DiskFault, Damaged, OutputFault, OutOfMemory, Unbuilt}
-use Rattle.bd_session.proofs.Asking.{long_quiet, phase_after-room, reads_for}
+use Rattle.bd_session.proofs.ByCommand.{long_quiet, phase_after-room, reads_for, target_or_kept, writes_beyond}
 use Rattle.bd_session.proofs.Ending.{ends_done, ends_failed, ends_kept, ends_unsaid}
 use Rattle.bd_session.proofs.Going.{HasGone, goes_on, none_gone}
-use Rattle.bd_session.proofs.Kept.{target_or_kept, writes_beyond}
 use Rattle.bd_session.proofs.Turning.{IsOpen, along, by_count, damage_end, still_open, unsaid}
 
 -- ---- one command from where the others led

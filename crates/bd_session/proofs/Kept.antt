@@ -1,59 +1,22 @@
 -- What the commands of a list keep of files and disk, and of the clocks.
-use Rattle.std.proofs.Common.{◌≡◌, ◌⊎◌, ◌∙◌, ℕ, ◌+◌, ◌-◌, ◌<◌, ◌≤◌, true, false, List, [], ◌∷◌, ◌++◌, length, get_or, inl, inr, refl, sym, ap, subst, arith, ⊎_elim, Ok, Result, Some, slice_get}
+use Rattle.std.proofs.Common.{◌≡◌, ◌≤◌, ◌⊎◌, ◌∙◌, ℕ, inl, inr, refl, sym, ap, subst, ⊎_elim, Ok, Err, Result, Some, ◌+◌, ◌-◌, ◌<◌, List, [], ◌∷◌, ◌++◌, length, get_or, arith, slice_get}
 use Rattle.std.specs.FinMap as map
-use Rattle.std.specs.Str.{bytes_eq}
 use Rattle.std.proofs.lemmas.Bool.{cases_lt}
-use Rattle.std.proofs.lemmas.Bool.Decides.{not_from_Decides}
 use Rattle.std.proofs.lemmas.List.{length_push, get_or_append_left, get_or-append_right}
-use Rattle.std.proofs.lemmas.Slice.Eq.{bytes_eq-Decides}
-use Rattle.bd_disk.specs.History.{History, clock}
-use Rattle.bd_disk.specs.Made.{WritesNothing, WritesOnly}
-use Rattle.bd_disk.proofs.Frames.{later, made_both, made_none, nothing_within, writes_wider}
-use Rattle.bd_model.specs.FileMap.{FileMap}
+use Rattle.bd_disk.specs.History.{clock}
+use Rattle.bd_disk.specs.Made.{WritesOnly, WritesNothing}
+use Rattle.bd_disk.proofs.Frames.{later, made_both, made_none}
 use Rattle.bd_model.specs.declared.answer.Answer.{Answer}
 use Rattle.bd_model.specs.declared.command.Command.{Command}
-use Rattle.bd_model.specs.declared.command.Command.TheVariants.{Backup, Restore, Expire, Reorganise, Scrub, List as Listing}
 use Rattle.bd_catalog.specs.Opening.{Found}
-use Rattle.bd_store.specs.Attempts.{Meets, Scene, WritesByCommand, attempt}
-use Rattle.bd_store.specs.Steps.{KeepsFiles}
+use Rattle.bd_store.specs.Attempts.{IsAnswerOf, Scene, attempt, Meets}
 use Rattle.bd_store.specs.declared.fault.StoreFault.{StoreFault}
-use Rattle.bd_session.specs.Course.{Around, Course, answered}
-use Rattle.bd_session.specs.Keeping.{ClocksRise, IsQuiet, IsTargetBelow, KeepsOthers, StraysOnlyFor, WritesByCommands}
+use Rattle.bd_session.specs.Course.{Around, Course, next_command, answered}
+use Rattle.bd_session.specs.Ends.{EndsBy, IsMetBy}
 use Rattle.bd_session.specs.Turns.{AllAnswered, Goes, LastTurn, NoneBegun, Turns, no_turn, next_turn}
-use Rattle.bd_session.proofs.Turning.{paired, to_the_end}
-
--- ---- by the command
-
--- no command writes in the superblock
-pub writes_beyond : (found : Found) (command : Command) {old new : History} → WritesByCommand found command old new → WritesOnly (λ place. 64 ≤ place) old new
-writes_beyond found (Backup name) writes = writes_wider _ (λ place unnamed. unnamed.begins) writes
-writes_beyond found (Restore v name) writes = nothing_within _ writes
-writes_beyond found Expire writes = nothing_within _ writes
-writes_beyond found Reorganise writes = nothing_within _ writes
-writes_beyond found Scrub writes = nothing_within _ writes
-writes_beyond found Listing writes = nothing_within _ writes
-
--- restores and lists write nothing
-quiet_writes : (found : Found) (command : Command) {old new : History} → IsQuiet command → WritesByCommand found command old new → WritesNothing old new
-quiet_writes found (Backup name) quiet writes = absurd quiet
-quiet_writes found (Restore v name) quiet writes = writes
-quiet_writes found Expire quiet writes = absurd quiet
-quiet_writes found Reorganise quiet writes = absurd quiet
-quiet_writes found Scrub quiet writes = absurd quiet
-quiet_writes found Listing quiet writes = writes
-
--- each name has what it had, but for the target of a restore
-pub target_or_kept : (command : Command) (old new : FileMap) (name : List ℕ) → KeepsFiles command old new → ((v : ℕ) × (command ≡ Restore v name)) ⊎ (map.get new name ≡ map.get old name)
-target_or_kept (Restore v target) old new name keeps =
-    elim (bytes_eq name target) as (λ b. bytes_eq name target ≡ b → ((u : ℕ) × (Restore v target ≡ Restore u name)) ⊎ (map.get new name ≡ map.get old name)) [
-      | true ↦ λ e. inl (v, ap (λ (n : List ℕ). Restore v n) (sym ((bytes_eq-Decides name target).0 e)))
-      | false ↦ λ e. inr (keeps.others name (not_from_Decides _ (bytes_eq-Decides name target) e))
-    ] refl
-target_or_kept (Backup n) old new name same = inr (ap (λ (m : FileMap). map.get m name) same)
-target_or_kept Expire old new name same = inr (ap (λ (m : FileMap). map.get m name) same)
-target_or_kept Reorganise old new name same = inr (ap (λ (m : FileMap). map.get m name) same)
-target_or_kept Scrub old new name same = inr (ap (λ (m : FileMap). map.get m name) same)
-target_or_kept Listing old new name same = inr (ap (λ (m : FileMap). map.get m name) same)
+use Rattle.bd_session.specs.Keeping.{ClocksRise, IsTargetBelow, KeepsOthers, StraysOnlyFor, WritesByCommands}
+use Rattle.bd_session.proofs.Turning.{unsaid, paired, to_the_end}
+use Rattle.bd_session.proofs.ByCommand.{met_fault, quiet_writes, target_or_kept, writes_beyond}
 
 -- ---- a step of each command, with its number
 
@@ -196,3 +159,17 @@ clocks_rise {disk} {files} {sink} {c} {first} {now} goes = record {
   ends told (inl all) = omega (arith, ap (λ (x : Around). clock x.scene.disk) all.same)
   ends told (inr (inl begun)) = omega (arith, ap (λ (x : Around). clock x.scene.disk) begun.same)
   ends told (inr (inr turn)) = later (writes_beyond goes.last.scene.store.found turn.command (turn.meets.on_disk told).writes)
+
+-- ---- which command brought the end
+
+pub met_by : {disk files sink : Type 0} {c : Course} {first now : Around} → Goes disk files sink c first now → IsMetBy (next_command c) c.ending
+met_by {disk} {files} {sink} {c} {first} {now} goes = by_end goes.ends where
+  by_result : (command : Command) (found : Found) (result : Result Answer StoreFault) → IsAnswerOf found command result → next_command c ≡ Some command → EndsBy sink result c.ending goes.last now → IsMetBy (next_command c) c.ending
+  by_result command found (Err fault) answers is ends = subst (IsMetBy (next_command c)) (sym ends.0) (met_fault found command fault answers (next_command c) is)
+  by_result command found (Ok answer) answers is ends =
+      ⊎_elim (λ out. subst (IsMetBy (next_command c)) (sym out.0) tt) (λ memory. subst (IsMetBy (next_command c)) (sym memory.0) tt) (unsaid sink answer c.ending goes.last now ends)
+
+  by_end : AllAnswered c goes.last now ⊎ NoneBegun c goes.last now ⊎ LastTurn disk files sink c goes.last now → IsMetBy (next_command c) c.ending
+  by_end (inl all) = subst (IsMetBy (next_command c)) (sym all.done) tt
+  by_end (inr (inl begun)) = subst (IsMetBy (next_command c)) (sym begun.memory) tt
+  by_end (inr (inr turn)) = by_result turn.command goes.last.scene.store.found turn.result turn.meets.answer turn.next turn.ends

@@ -1,6 +1,6 @@
 pub mod Alone
 pub mod Apart
-pub mod Asking
+pub mod ByCommand
 pub mod Ending
 pub mod Going
 pub mod Handing

@@ -2,10 +2,9 @@
 use Rattle.bd_session.specs.Course.{Around, Course}
 use Rattle.bd_session.specs.Session.{MeetsSession}
 use Rattle.bd_session.specs.Turns.{Goes}
-use Rattle.bd_session.proofs.Asking.{met_by}
 use Rattle.bd_session.proofs.Honestly.{meets_honestly}
 use Rattle.bd_session.proofs.Handing.{hands_answers}
-use Rattle.bd_session.proofs.Kept.{by_commands, clocks_rise, keeps_others, strays_only}
+use Rattle.bd_session.proofs.Kept.{by_commands, clocks_rise, keeps_others, met_by, strays_only}
 use Rattle.bd_session.proofs.Turning.{IsOpen, by_count, bytes_stay, keeps_store}
 
 pub meets_session : {disk files sink : Type 0} {c : Course} {before now : Around} → IsOpen disk before → Goes disk files sink c before now → MeetsSession disk files sink c before now

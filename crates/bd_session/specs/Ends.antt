@@ -6,8 +6,8 @@ use Rattle.bd_model.specs.Texts.{answer_text}
 use Rattle.bd_model.specs.declared.answer.Answer.{Answer}
 use Rattle.bd_model.specs.declared.command.Command.{Command}
 use Rattle.bd_model.specs.declared.command.Command.TheVariants.{Backup, Restore}
-use Rattle.bd_script.specs.Long.{is_long}
 use Rattle.bd_catalog.specs.Opening.{Found}
+use Rattle.bd_script.specs.Long.{is_long}
 use Rattle.bd_store.specs.Attempts.{IsAnswerOf}
 use Rattle.bd_store.specs.Causes.{HasRisen, NoneFell}
 use Rattle.bd_store.specs.declared.fault.StoreFault.{StoreFault}

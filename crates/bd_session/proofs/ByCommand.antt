@@ -1,15 +1,16 @@
--- What is known of a command by its answer.
-use Rattle.std.proofs.Common.{◌≡◌, ◌≤◌, ◌⊎◌, ◌∙◌, ℕ, true, inl, inr, refl, sym, ap, subst, ⊎_elim, Ok, Err, Result, Option, Some}
-use Rattle.bd_catalog.specs.Opening.{Found, opened}
+-- What is said of a command by which one it is. A command that is built adds its lines here; all else goes by its answer.
+use Rattle.std.proofs.Common.{◌≡◌, ◌≤◌, ◌⊎◌, ◌∙◌, ℕ, true, inl, inr, refl, sym, ap, subst, Ok, Err, Option, Some, false, List}
+use Rattle.std.specs.FinMap as map
+use Rattle.std.specs.Str.{bytes_eq}
+use Rattle.std.proofs.lemmas.Bool.Decides.{not_from_Decides}
+use Rattle.std.proofs.lemmas.Slice.Eq.{bytes_eq-Decides}
+use Rattle.bd_disk.specs.History.{clock, contents, History}
+use Rattle.bd_disk.specs.Made.{WritesOnly, WritesNothing}
+use Rattle.bd_disk.proofs.Frames.{at_start, nothing_within, writes_wider}
+use Rattle.bd_disk.proofs.Traces.{reads_of_run}
 use Rattle.bd_model.specs.declared.answer.Answer.{Answer}
 use Rattle.bd_model.specs.declared.command.Command.{Command}
 use Rattle.bd_model.specs.declared.command.Command.TheVariants.{Backup, Restore, Expire, Reorganise, Scrub, List as Listing}
-use Rattle.bd_catalog.specs.Standing.{StandsFor}
-use Rattle.bd_catalog.specs.Agreement.{Agrees}
-use Rattle.bd_disk.specs.History.{clock, contents}
-use Rattle.bd_disk.specs.Made.{WritesOnly}
-use Rattle.bd_disk.proofs.Frames.{at_start}
-use Rattle.bd_disk.proofs.Traces.{reads_of_run}
 use Rattle.bd_model.specs.FileMap.{FileMap}
 use Rattle.bd_model.specs.Marks.{Near}
 use Rattle.bd_model.specs.State.{VersionState, history}
@@ -17,20 +18,54 @@ use Rattle.bd_model.specs.Step.{phase_after, without_room}
 use Rattle.bd_model.specs.declared.shape.Shape.{Shape}
 use Rattle.bd_model.specs.declared.layout.Phase.{Phase}
 use Rattle.bd_model.specs.declared.answer.Answer.TheVariants.{Restored, Expired, Scrubbed, Listed, Soaked}
+use Rattle.bd_catalog.specs.Opening.{Found, opened}
+use Rattle.bd_catalog.specs.Standing.{StandsFor}
+use Rattle.bd_catalog.specs.Agreement.{Agrees}
 use Rattle.bd_script.specs.Long.{is_long}
-use Rattle.bd_store.specs.Attempts.{IsAnswerOf, ReadsByCommand, Scene, attempt}
+use Rattle.bd_store.specs.Attempts.{IsAnswerOf, ReadsByCommand, Scene, attempt, WritesByCommand}
 use Rattle.bd_store.specs.Steps.{task, IsNear, KeepsFiles}
 use Rattle.bd_store.specs.Touches.{WalksTo}
-use Rattle.bd_session.specs.Reads.{ReadsFor, RestoreReads}
 use Rattle.bd_store.specs.declared.fault.StoreFault.{StoreFault}
 use Rattle.bd_store.specs.declared.fault.StoreFault.TheVariants.{SourceFault as StoreSource, TargetFault as StoreTarget, DiskFault as StoreDisk, Damaged as StoreDamaged, OutOfMemory as StoreMemory, Unbuilt as StoreUnbuilt}
-use Rattle.bd_session.specs.Course.{Around, Course, next_command}
-use Rattle.bd_session.specs.Ends.{EndsBy, IsMetBy, end_of}
-use Rattle.bd_session.specs.Turns.{AllAnswered, Goes, LastTurn, NoneBegun}
-use Rattle.bd_session.proofs.Turning.{unsaid}
+use Rattle.bd_session.specs.Reads.{ReadsFor, RestoreReads}
+use Rattle.bd_session.specs.Ends.{IsMetBy, end_of}
+use Rattle.bd_session.specs.Keeping.{IsQuiet}
+
+-- no command writes in the superblock
+pub writes_beyond : (found : Found) (command : Command) {old new : History} → WritesByCommand found command old new → WritesOnly (λ place. 64 ≤ place) old new
+writes_beyond found (Backup name) writes = writes_wider _ (λ place unnamed. unnamed.begins) writes
+writes_beyond found (Restore v name) writes = nothing_within _ writes
+writes_beyond found Expire writes = nothing_within _ writes
+writes_beyond found Reorganise writes = nothing_within _ writes
+writes_beyond found Scrub writes = nothing_within _ writes
+writes_beyond found Listing writes = nothing_within _ writes
+
+-- restores and lists write nothing
+pub quiet_writes : (found : Found) (command : Command) {old new : History} → IsQuiet command → WritesByCommand found command old new → WritesNothing old new
+quiet_writes found (Backup name) quiet writes = absurd quiet
+quiet_writes found (Restore v name) quiet writes = writes
+quiet_writes found Expire quiet writes = absurd quiet
+quiet_writes found Reorganise quiet writes = absurd quiet
+quiet_writes found Scrub quiet writes = absurd quiet
+quiet_writes found Listing quiet writes = writes
+
+-- each name has what it had, but for the target of a restore
+pub target_or_kept : (command : Command) (old new : FileMap) (name : List ℕ) → KeepsFiles command old new → ((v : ℕ) × (command ≡ Restore v name)) ⊎ (map.get new name ≡ map.get old name)
+target_or_kept (Restore v target) old new name keeps =
+    elim (bytes_eq name target) as (λ b. bytes_eq name target ≡ b → ((u : ℕ) × (Restore v target ≡ Restore u name)) ⊎ (map.get new name ≡ map.get old name)) [
+      | true ↦ λ e. inl (v, ap (λ (n : List ℕ). Restore v n) (sym ((bytes_eq-Decides name target).0 e)))
+      | false ↦ λ e. inr (keeps.others name (not_from_Decides _ (bytes_eq-Decides name target) e))
+    ] refl
+target_or_kept (Backup n) old new name same = inr (ap (λ (m : FileMap). map.get m name) same)
+target_or_kept Expire old new name same = inr (ap (λ (m : FileMap). map.get m name) same)
+target_or_kept Reorganise old new name same = inr (ap (λ (m : FileMap). map.get m name) same)
+target_or_kept Scrub old new name same = inr (ap (λ (m : FileMap). map.get m name) same)
+target_or_kept Listing old new name same = inr (ap (λ (m : FileMap). map.get m name) same)
+
+-- ---- which faults it meets
 
 -- which command met a fault
-met_fault : (found : Found) (command : Command) (fault : StoreFault) → IsAnswerOf found command (Err fault) → (next : Option Command) → next ≡ Some command → IsMetBy next (end_of fault)
+pub met_fault : (found : Found) (command : Command) (fault : StoreFault) → IsAnswerOf found command (Err fault) → (next : Option Command) → next ≡ Some command → IsMetBy next (end_of fault)
 met_fault found command StoreDisk answers next is = tt
 met_fault found command StoreMemory answers next is = tt
 met_fault found command StoreUnbuilt answers next is = (found, command, is, answers)
@@ -52,18 +87,6 @@ met_fault found Listing (StoreDamaged damage) answers next is = absurd (cc answe
 met_fault found Expire (StoreDamaged damage) answers next is = absurd (cc answers)
 met_fault found Reorganise (StoreDamaged damage) answers next is = absurd (cc answers)
 met_fault found Scrub (StoreDamaged damage) answers next is = absurd (cc answers)
-
-pub met_by : {disk files sink : Type 0} {c : Course} {first now : Around} → Goes disk files sink c first now → IsMetBy (next_command c) c.ending
-met_by {disk} {files} {sink} {c} {first} {now} goes = by_end goes.ends where
-  by_result : (command : Command) (found : Found) (result : Result Answer StoreFault) → IsAnswerOf found command result → next_command c ≡ Some command → EndsBy sink result c.ending goes.last now → IsMetBy (next_command c) c.ending
-  by_result command found (Err fault) answers is ends = subst (IsMetBy (next_command c)) (sym ends.0) (met_fault found command fault answers (next_command c) is)
-  by_result command found (Ok answer) answers is ends =
-      ⊎_elim (λ out. subst (IsMetBy (next_command c)) (sym out.0) tt) (λ memory. subst (IsMetBy (next_command c)) (sym memory.0) tt) (unsaid sink answer c.ending goes.last now ends)
-
-  by_end : AllAnswered c goes.last now ⊎ NoneBegun c goes.last now ⊎ LastTurn disk files sink c goes.last now → IsMetBy (next_command c) c.ending
-  by_end (inl all) = subst (IsMetBy (next_command c)) (sym all.done) tt
-  by_end (inr (inl begun)) = subst (IsMetBy (next_command c)) (sym begun.memory) tt
-  by_end (inr (inr turn)) = by_result turn.command goes.last.scene.store.found turn.result turn.meets.answer turn.next turn.ends
 
 -- ---- what was answered
 
