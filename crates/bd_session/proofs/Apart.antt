@@ -3,7 +3,7 @@ use Rattle.std.proofs.Common.{◌≡◌, ◌<◌, ℕ, zero, suc, Bool, true, fa
 use Rattle.std.specs.Prelude.{option_to_list, unwrap_or}
 use Rattle.std.proofs.lemmas.Bool.{or_left}
 use Rattle.std.proofs.lemmas.Grind.{flat_map-append}
-use Rattle.std.proofs.lemmas.List.{map-append}
+use Rattle.std.proofs.lemmas.List.{map-append, take-map}
 use Rattle.std.specs.FinMap as files_at
 use Rattle.bd_model.specs.Chunks.{chunks}
 use Rattle.bd_model.specs.FileMap.{FileMap}
@@ -69,17 +69,11 @@ from_there (d ∷ commands) (suc n) zero command low there = (unheld (take n com
   first e = cc e
 from_there (d ∷ commands) (suc n) (suc k) command low there = from_there commands n k command (omega (arith, low)) there
 
-unheld-take : (commands : List Command) (n : ℕ) → unheld (take n commands) ≡ take n (unheld commands)
-unheld-take [] zero = refl
-unheld-take [] (suc n) = refl
-unheld-take (d ∷ commands) zero = refl
-unheld-take (d ∷ commands) (suc n) = ap (λ l. record { held = 0; command = d } ∷ l) (unheld-take commands n)
-
 pub distinct_marks_tell_apart : DistinctMarksTellApart
 distinct_marks_tell_apart s commands n apart = record {
   each = λ k low command there p leads.
       let here : after s.shape s.state s.files (unheld (take n commands)) k ≡ Some p =
-      ap (λ cs. after s.shape s.state s.files cs k) (unheld-take commands n) ∙ commands_lead_on.alike s.shape s.state s.files (unheld commands) n k (omega (arith, low)) ∙ leads in
+      ap (λ cs. after s.shape s.state s.files cs k) (sym (take-map (λ c. record { held = 0; command = c }) n commands)) ∙ commands_lead_on.alike s.shape s.state s.files (unheld commands) n k (omega (arith, low)) ∙ leads in
       let next = from_there commands n k command low there in
       near_next s.shape p.state p.files command next.0
       (subst (λ cs. Distinct (given s.shape p.state p.files cs)) next.1 (given_chunks_stay_apart.all s.shape s.state s.files (unheld (take n commands)) k p here apart));

@@ -70,7 +70,7 @@ module _ {disk files sink : Type 0} {commands : List Command} {first : Around} (
   held_on : {answers : List Answer} {clocks : List ℕ} {now : Around} → Turns disk files sink commands first answers clocks now → now.scene.store.held ≡ 0
   held_on turns = along (λ a b. b.store.held ≡ a.store.held) (λ a. refl) (λ a b c e f. f ∙ e) (λ command result a b meets. meets.store.held) turns ∙ held
 
-  pub has_gone : {answers : List Answer} {clocks : List ℕ} {now : Around} → Turns disk files sink commands first answers clocks now → length answers ≤ n → HasGone (start shape st phase first.scene) commands answers clocks now.scene.disk now.scene.files
+  has_gone : {answers : List Answer} {clocks : List ℕ} {now : Around} → Turns disk files sink commands first answers clocks now → length answers ≤ n → HasGone (start shape st phase first.scene) commands answers clocks now.scene.disk now.scene.files
   has_gone no_turn low = none_gone (start shape st phase first.scene) commands honest
   has_gone (next_turn {answers} {clocks} {before} {after} command answer moment turns there turn) low =
       let s = start shape st phase first.scene in
@@ -195,13 +195,13 @@ module _ {disk files sink : Type 0} {c : Course} {first now : Around} (told : di
       no_memory : OutOfMemory ≡ Damaged damage → ⊥
       no_memory e = cc e
 
-  pub headline_met : AllAnswered c goes.last now ⊎ NoneBegun c goes.last now ⊎ LastTurn disk files sink c goes.last now → MeetsTheHeadline s (clock s.disk) c now.scene.disk now.scene.files
+  headline_met : AllAnswered c goes.last now ⊎ NoneBegun c goes.last now ⊎ LastTurn disk files sink c goes.last now → MeetsTheHeadline s (clock s.disk) c now.scene.disk now.scene.files
   unfolding g
   headline_met (inl all) = subst (λ (x : Around). MeetsTheHeadline s (clock s.disk) c x.scene.disk x.scene.files) (sym all.same) (ends_done g all.done all.all)
   headline_met (inr (inl begun)) = unmoved (subst Leaves (sym begun.memory) leaves_memory) (λ other. absurd (other begun.memory)) (ap (λ (x : Around). x.scene.disk) begun.same) (ap (λ (x : Around). x.scene.files) begun.same)
   headline_met (inr (inr turn)) = by_result turn turn.result turn.meets turn.ends
 
-  pub damage_met : AllAnswered c goes.last now ⊎ NoneBegun c goes.last now ⊎ LastTurn disk files sink c goes.last now → (damage : Damage) → c.ending ≢ Damaged damage
+  damage_met : AllAnswered c goes.last now ⊎ NoneBegun c goes.last now ⊎ LastTurn disk files sink c goes.last now → (damage : Damage) → c.ending ≢ Damaged damage
   damage_met (inl all) damage is = clash (sym all.done ∙ is) where
     clash : Done ≡ Damaged damage → ⊥
     clash e = cc e

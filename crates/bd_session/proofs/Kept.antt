@@ -106,7 +106,7 @@ module _ {disk files sink : Type 0} {c : Course} {first now : Around} (goes : Go
       (record { kept = λ name. inr refl; strays = record { later = omega arith; missing = inl refl } })).strays
 
   -- ---- the disk
-  pub beyond : disk → WritesOnly (λ place. 64 ≤ place) first.scene.disk now.scene.disk
+  beyond : disk → WritesOnly (λ place. 64 ≤ place) first.scene.disk now.scene.disk
   beyond told = to_the_end goes (λ a b. WritesOnly (λ place. 64 ≤ place) a.disk b.disk) (λ a. made_none _ _) (λ a b d e f. made_both e f) (λ command result a b meets. writes_beyond a.store.found command (meets.on_disk told).writes)
 
   pub by_commands : disk → WritesByCommands c first.scene.disk now.scene.disk
@@ -120,10 +120,10 @@ module _ {disk files sink : Type 0} {c : Course} {first now : Around} (goes : Go
 -- ---- the clocks
 
 -- the last of the clocks, begun with this one
-abbrev pub last_of : ℕ → List ℕ → ℕ
+abbrev last_of : ℕ → List ℕ → ℕ
 last_of begun clocks = get_or (begun ∷ clocks) (length clocks) 0
 
-pub last-push : (begun : ℕ) (clocks : List ℕ) (moment : ℕ) → last_of begun (clocks ++ moment ∷ []) ≡ moment
+last-push : (begun : ℕ) (clocks : List ℕ) (moment : ℕ) → last_of begun (clocks ++ moment ∷ []) ≡ moment
 last-push begun clocks moment =
     let size : length (clocks ++ moment ∷ []) ≡ length clocks + 1 = length_push clocks moment in
     let nothing : length clocks + 1 - (length clocks + 1) ≡ 0 = omega arith in
@@ -132,7 +132,7 @@ last-push begun clocks moment =
 
 module _ {disk files sink : Type 0} {commands : List Command} {first : Around} (told : disk) where
   -- the last clock is the disk's
-  pub last_clock : {answers : List Answer} {clocks : List ℕ} {now : Around} → Turns disk files sink commands first answers clocks now → last_of (clock first.scene.disk) clocks ≡ clock now.scene.disk
+  last_clock : {answers : List Answer} {clocks : List ℕ} {now : Around} → Turns disk files sink commands first answers clocks now → last_of (clock first.scene.disk) clocks ≡ clock now.scene.disk
   last_clock no_turn = refl
   last_clock (next_turn {answers} {clocks} command answer moment turns there turn) = last-push (clock first.scene.disk) clocks moment ∙ turn.clock told
 

@@ -1,5 +1,6 @@
 -- What holds along the turns of a list, and up to its end.
 use Rattle.std.proofs.Common.{◌≡◌, ◌≢◌, ◌⊎◌, ◌↔◌, ◌∙◌, ℕ, ◌+◌, ◌≤◌, Bool, true, false, List, [], length, inl, inr, refl, sym, ap, subst, arith, ⊎_elim, Ok, Err, Result}
+use Rattle.std.proofs.lemmas.Bool.{false_from_ne_true}
 use Rattle.std.proofs.lemmas.List.{length_push}
 use Rattle.std.proofs.lemmas.Option.{slice_get_within}
 use Rattle.bd_disk.specs.Calls.{Rose}
@@ -37,10 +38,6 @@ pub record HasTurned (disk files sink : Type 0) (commands : List Command) (first
   pub ending : report.end ≡ Done
   pub opened : IsOpen disk now
 
-pub not_true : (b : Bool) → (b ≡ true → ⊥) → b ≡ false
-not_true true h = absurd (h refl)
-not_true false h = refl
-
 abbrev failed : StoreFault → Result Answer StoreFault
 failed fault = Err fault
 
@@ -60,7 +57,7 @@ module _ {disk files sink : Type 0} where
     agrees = λ told. (turn.meets.on_disk told).agrees sound;
   } where
     sound : after.scene.store.worn ≡ false
-    sound = not_true _ (λ worn. answer_no_fault (turn.meets.store.worn.0 worn))
+    sound = false_from_ne_true _ (λ worn. answer_no_fault (turn.meets.store.worn.0 worn))
 
     room : disk_bytes after.scene.store.found.sizes ≤ after.scene.disk_bytes
     room = omega (arith, opened.room, ap disk_bytes (turn.meets.store.sizes sound), turn.meets.bytes)
@@ -92,11 +89,11 @@ module _ {disk files sink : Type 0} where
     along R none both one (next_turn command answer moment turns there turn) = both _ _ _ (along R none both one turns) (one _ _ _ _ turn.meets)
 
     -- no count rose
-    pub counts_stay : {answers : List Answer} {clocks : List ℕ} {now : Around} → Turns disk files sink commands first answers clocks now → now.scene.counts ≡ first.scene.counts
+    counts_stay : {answers : List Answer} {clocks : List ℕ} {now : Around} → Turns disk files sink commands first answers clocks now → now.scene.counts ≡ first.scene.counts
     counts_stay no_turn = refl
     counts_stay (next_turn command answer moment turns there turn) = turn.meets.cause.cause ∙ counts_stay turns
 
-    pub sink_stays : {answers : List Answer} {clocks : List ℕ} {now : Around} → Turns disk files sink commands first answers clocks now → now.sink_faults ≡ first.sink_faults
+    sink_stays : {answers : List Answer} {clocks : List ℕ} {now : Around} → Turns disk files sink commands first answers clocks now → now.sink_faults ≡ first.sink_faults
     sink_stays no_turn = refl
     sink_stays (next_turn command answer moment turns there turn) = turn.faults ∙ sink_stays turns
 
