@@ -1,42 +1,38 @@
--- The counts of faults, and which end comes by which count.
-use Rattle.std.specs.Prelude.{◌≡◌, ℕ, ◌-◌, ◌^◌, ◌<◌, ◌≤◌}
+-- Which end comes by which count.
+use Rattle.std.specs.Prelude.{◌≡◌, ℕ, ◌≤◌}
 use Rattle.bd_disk.specs.Calls.{Rose}
+use Rattle.bd_store.specs.Causes.{HasRisen, NoneFell}
+use Rattle.bd_store.specs.declared.fault.StoreFault.{StoreFault}
+use Rattle.bd_store.specs.declared.fault.StoreFault.TheVariants.{SourceFault as StoreSource, TargetFault as StoreTarget, DiskFault as StoreDisk}
+use Rattle.mfdedup.specs.Outside.{Outside}
 use Rattle.mfdedup.specs.declared.report.End.{End}
-use Rattle.mfdedup.specs.declared.report.End.TheVariants.{Done, DiskFault, SourceFault, TargetFault, OutputFault}
+use Rattle.mfdedup.specs.declared.report.End.TheVariants.{DiskFault, SourceFault, TargetFault, OutputFault}
 
--- the counts of faults of a disk, of sources, of targets and of a sink
-pub record AllCounts : Type 0 where
-  pub disk : ℕ
-  pub sources : ℕ
-  pub targets : ℕ
-  pub sink : ℕ
+-- a disk, a source or a target failed, and nothing else
+pub record StoreFailed (fault : StoreFault) (before now : Outside) : Type 0 where
+  pub risen : HasRisen fault before.counts now.counts
+  pub sink : now.sink_faults ≡ before.sink_faults
 
-abbrev pub all_counts : ℕ → ℕ → ℕ → ℕ → AllCounts
-all_counts disk sources targets sink = record { disk = disk; sources = sources; targets = targets; sink = sink }
+-- the sink failed, and nothing else
+pub record SinkFailed (before now : Outside) : Type 0 where
+  pub counts : now.counts ≡ before.counts
+  pub risen : Rose before.sink_faults now.sink_faults
 
-pub record NoCountFell (before now : AllCounts) : Type 0 where
-  pub disk : before.disk ≤ now.disk
-  pub sources : before.sources ≤ now.sources
-  pub targets : before.targets ≤ now.targets
-  pub sink : before.sink ≤ now.sink
+-- nothing failed
+pub record NoneFailed (before now : Outside) : Type 0 where
+  pub counts : now.counts ≡ before.counts
+  pub sink : now.sink_faults ≡ before.sink_faults
 
--- no count rose, and none stands at its last value
-pub record NoFault (before now : AllCounts) : Type 0 where
-  pub same : now ≡ before
-  pub disk : now.disk < 2 ^ 64 - 1
-  pub sources : now.sources < 2 ^ 64 - 1
-  pub targets : now.targets < 2 ^ 64 - 1
-  pub sink : now.sink < 2 ^ 64 - 1
+abbrev pub EndsByCount : End → Outside → Outside → Type 0
+EndsByCount SourceFault before now = StoreFailed StoreSource before now
+EndsByCount TargetFault before now = StoreFailed StoreTarget before now
+EndsByCount DiskFault before now = StoreFailed StoreDisk before now
+EndsByCount OutputFault before now = SinkFailed before now
+EndsByCount ending before now = NoneFailed before now
 
--- each fault by its count, and Done only where no count rose
-abbrev pub EndsByCount : End → AllCounts → AllCounts → Type 0
-EndsByCount Done before now = now ≡ before
-EndsByCount SourceFault before now = Rose before.sources now.sources
-EndsByCount TargetFault before now = Rose before.targets now.targets
-EndsByCount DiskFault before now = Rose before.disk now.disk
-EndsByCount OutputFault before now = Rose before.sink now.sink
-EndsByCount _ before now = Unit {0}
-
-pub record EndsOnlyByCount (ending : End) (before now : AllCounts) : Type 0 where
-  pub later : NoCountFell before now
+-- No count falls. Each fault comes by the count of its object alone, and every other end, that for want of memory too, leaves
+-- all of them.
+pub record EndsOnlyByCount (ending : End) (before now : Outside) : Type 0 where
+  pub later : NoneFell before.counts now.counts
+  pub sink : before.sink_faults ≤ now.sink_faults
   pub cause : EndsByCount ending before now

@@ -1,20 +1,22 @@
--- The end that a fault of the store brings.
+-- The end that a fault of the crates below brings.
 use Rattle.mfdedup.specs.declared.report.End.{End}
-use Rattle.mfdedup.specs.declared.report.End.TheVariants.{DiskFault, Damaged, SourceFault, TargetFault, OutOfMemory, Unbuilt, NotAStore, AlreadyAStore, TooSmall}
-use Rattle.bd_store.specs.declared.fault.StoreFault.{StoreFault}
-use Rattle.bd_store.specs.declared.fault.StoreFault.TheVariants.{SourceFault as StoreSource, TargetFault as StoreTarget, DiskFault as StoreDisk, Damaged as StoreDamaged, OutOfMemory as StoreMemory, Unbuilt as StoreUnbuilt}
+use Rattle.mfdedup.specs.declared.report.End.TheVariants.{Done, DiskFault, Damaged, SourceFault, TargetFault, OutputFault, OutOfMemory, Unbuilt, NotAStore, AlreadyAStore, TooSmall}
 use Rattle.bd_recover.specs.declared.fault.OpenFault.{OpenFault}
 use Rattle.bd_recover.specs.declared.fault.OpenFault.TheVariants.{NotAStore as OpenNotAStore, DiskFault as OpenDisk, OutOfMemory as OpenMemory}
 use Rattle.bd_recover.specs.declared.fault.FormatFault.{FormatFault}
 use Rattle.bd_recover.specs.declared.fault.FormatFault.TheVariants.{AlreadyAStore as FormatMarked, TooSmall as FormatSmall, DiskFault as FormatDisk, OutOfMemory as FormatMemory}
+use Rattle.bd_session.specs.declared.report.SessionEnd.{SessionEnd}
+use Rattle.bd_session.specs.declared.report.SessionEnd.TheVariants.{Done as AllDone, SourceFault as SessionSource, TargetFault as SessionTarget, DiskFault as SessionDisk, Damaged as SessionDamaged, OutputFault as SessionOutput, OutOfMemory as SessionMemory, Unbuilt as SessionUnbuilt}
 
-abbrev pub end_of : StoreFault → End
-end_of StoreSource = SourceFault
-end_of StoreTarget = TargetFault
-end_of StoreDisk = DiskFault
-end_of (StoreDamaged damage) = Damaged damage
-end_of StoreMemory = OutOfMemory
-end_of StoreUnbuilt = Unbuilt
+abbrev pub end_of_session : SessionEnd → End
+end_of_session AllDone = Done
+end_of_session SessionSource = SourceFault
+end_of_session SessionTarget = TargetFault
+end_of_session SessionDisk = DiskFault
+end_of_session (SessionDamaged damage) = Damaged damage
+end_of_session SessionOutput = OutputFault
+end_of_session SessionMemory = OutOfMemory
+end_of_session SessionUnbuilt = Unbuilt
 
 abbrev pub end_of_opening : OpenFault → End
 end_of_opening (OpenNotAStore place) = NotAStore place

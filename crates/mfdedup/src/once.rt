@@ -1,15 +1,13 @@
 //! What is asked without a store: the empty one, and a blank file.
-ghost use Rattle.std.specs.Prelude.{◌≡◌, ◌++◌, ℕ, OnOk, replicate};
+ghost use Rattle.std.specs.Prelude.{◌≡◌, ℕ, OnOk, replicate};
 ghost use Rattle.std.specs.FinMap as map;
 ghost use Rattle.bd_disk.specs.Calls.{HasCause};
 ghost use Rattle.bd_files.specs.Files.{ChangesOnly, IsFinished};
-ghost use Rattle.bd_files.specs.Sinks.{moments_of};
-ghost use Rattle.bd_model.specs.Texts.{texts};
-ghost use Rattle.mfdedup.specs.Counts.{all_counts, EndsOnlyByCount};
-ghost use Rattle.mfdedup.specs.Fits.{IsOfFormat};
-ghost use Rattle.mfdedup.specs.Requests.{Blanks, EndsBlank, Formats};
+ghost use Rattle.bd_model.specs.Sizes.{sizes_of};
 ghost use Rattle.mfdedup.specs.Failing.{end_of_format};
-ghost use Rattle.mfdedup.specs.Whole.{Puts};
+ghost use Rattle.mfdedup.specs.Outside.{Outside, outside, with_disk};
+ghost use Rattle.mfdedup.specs.Words.{ToFormat, ToBlank};
+ghost use Rattle.mfdedup.specs.Works.{Works};
 
 use crate::progress::Progress;
 use crate::report::End;
@@ -20,15 +18,10 @@ use bd_model::{Answer, Name, Shape};
 use bd_store::{FormatFault, Store};
 use std::alloc::Global;
 
-/// Makes the empty store of this shape.
+/// Makes the empty store of this shape. No file is touched.
 pub fn format<D: Disk, O: Sink>(alloc: Global, shape: Shape, disk: &mut D, out: &mut O) -> Progress
     requires takes { O.tells → D.tells → O.takes D D.history }
-    ensures bytes { D.bytes disk.new ≡ D.bytes disk.old }
-    ensures cause { (sources : ℕ) → (targets : ℕ) → EndsOnlyByCount result.end (all_counts (D.faults disk.old) sources targets (O.faults out.old)) (all_counts (D.faults disk.new) sources targets (O.faults out.new)) }
-    ensures written { O.tells → Puts (O.faults out.old) (O.faults out.new) (O.handed out.old) (O.handed out.new) (texts result.answers.items) }
-    ensures moments { O.tells → D.tells → moments_of (O.handed out.new) ≡ moments_of (O.handed out.old) ++ result.clocks.items }
-    ensures ends { IsOfFormat result.end }
-    ensures format { D.tells → Formats shape (D.bytes disk.old) result.end result.clocks.items (D.history disk.old) (D.history disk.new) }
+    ensures works { (kept : Outside) → Works D.tells (Unit {0}) O.tells (ToFormat (sizes_of shape)) result (with_disk D.Disk O.Sink kept disk.old out.old) (with_disk D.Disk O.Sink kept disk.new out.new) }
 {
     match Progress::alone(alloc) {
         Ok(progress) => match Store::format(alloc, disk, shape) {
@@ -61,12 +54,7 @@ pub fn blank<D: Disk, F: Files, O: Sink>(
     out: &mut O,
 ) -> Progress
     requires takes { O.tells → D.tells → O.takes D D.history }
-    ensures cause { EndsOnlyByCount result.end (all_counts (D.faults disk.now) (F.source_faults files.old) (F.target_faults files.old) (O.faults out.old)) (all_counts (D.faults disk.now) (F.source_faults files.new) (F.target_faults files.new) (O.faults out.new)) }
-    ensures written { O.tells → Puts (O.faults out.old) (O.faults out.new) (O.handed out.old) (O.handed out.new) (texts result.answers.items) }
-    ensures moments { O.tells → D.tells → moments_of (O.handed out.new) ≡ moments_of (O.handed out.old) ++ result.clocks.items }
-    ensures strays { F.tells → F.strays files.new ≡ F.strays files.old }
-    ensures ends { EndsBlank result.end }
-    ensures blank { F.tells → Blanks name.now length result.end (F.files files.old) (F.files files.new) (F.unfinished files.new) }
+    ensures works { Works D.tells F.tells O.tells (ToBlank length name.now) result (outside D.Disk F.Files O.Sink disk.now files.old out.old) (outside D.Disk F.Files O.Sink disk.now files.new out.new) }
 {
     match Progress::alone(alloc) {
         Ok(progress) => match put_zeros(length, name, files) {

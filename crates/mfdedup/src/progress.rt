@@ -50,28 +50,6 @@ impl Progress {
         })
     }
 
-    /// The one command, with room for its answer.
-    pub fn of(alloc: Global, command: &Command) -> Result<Progress, OutOfMemory>
-        ensures commands { IfOk result (λ p. p.commands.items ≡ command.now ∷ []) }
-        ensures answers { IfOk result (λ p. p.answers.items ≡ []) }
-        ensures clocks { IfOk result (λ p. p.clocks.items ≡ []) }
-        ensures room { IfOk result (λ p. (1 ≤ p.answers.spare) × (1 ≤ p.clocks.spare)) }
-    {
-        let mut commands = Commands::new(alloc);
-        let mut answers = Answers::new(alloc);
-        let mut clocks = Moments::new(alloc);
-        commands.reserve(1)?;
-        answers.reserve(1)?;
-        clocks.reserve(1)?;
-        commands.push(copy_of(alloc, command)?);
-        Ok(Progress {
-            commands,
-            answers,
-            clocks,
-            end: End::Done,
-        })
-    }
-
     /// The same, ended so.
     pub fn ending(self, end: End) -> Progress
         ensures { result ≡ record self { end = end } }
@@ -85,7 +63,17 @@ impl Progress {
     }
 }
 
-fn copy_of(alloc: Global, command: &Command) -> Result<Command, OutOfMemory>
+/// A list of this command alone.
+pub fn copy_of(alloc: Global, command: &Command) -> Result<Commands, OutOfMemory>
+    ensures { IfOk result (λ commands. commands.items ≡ command.now ∷ []) }
+{
+    let mut commands = Commands::new(alloc);
+    commands.reserve(1)?;
+    commands.push(twin_of(alloc, command)?);
+    Ok(commands)
+}
+
+fn twin_of(alloc: Global, command: &Command) -> Result<Command, OutOfMemory>
     ensures { IfOk result (λ copy. copy ≡ command.now) }
 {
     match command {

@@ -1,28 +1,44 @@
-use Rattle.std.proofs.Common.{◌∙◌, inl, sym, subst, ap, refl, IsErr}
+use Rattle.std.proofs.Common.{◌∙◌, sym, subst, ap, refl, IsErr, Err, inl, arith}
 use Rattle.bd_disk.proofs.Frames.{leaves_same, made_none}
 use Rattle.bd_disk.proofs.RunLemmas.{work_written}
 use Rattle.bd_catalog.specs.Opening.{opened}
 use Rattle.bd_recover.proofs.Found.{unmarked}
 use Rattle.bd_recover.specs.declared.fault.FormatFault.TheVariants.{OutOfMemory}
-use Rattle.mfdedup.specs.Requests.{Formats}
-use Rattle.mfdedup.proofs.Formatting.{formats_done, formats_failed}
+use Rattle.bd_model.specs.Sizes.{sizes_of}
+use Rattle.mfdedup.specs.Outside.{with_disk}
+use Rattle.mfdedup.specs.Words.{ToFormat}
+use Rattle.mfdedup.specs.Works.{Works}
 use Rattle.mfdedup.specs.declared.progress.Progress.{Progress}
+use Rattle.mfdedup.proofs.Making.{formatted_works, unformatted_works}
 use Rattle.mfdedup.proofs.once.format.Goals as goal
 use Rattle.mfdedup.proofs.once.format.Goals.{in-Ok-format, in-Err-format}
 
-pub returns-after-format-clause-format : goal.returns-after-format-clause-format
-returns-after-format-clause-format g c = λ told.
-    elim c.match-format.branch [
-      | in-Ok-format w ↦
-          let noted = w.note_answer.ensures.noted in
-          subst (λ (p : Progress). Formats c.args.shape (g.D.Disk.bytes c.args.disk.now) p.end p.clocks.items (g.D.Disk.history c.args.disk.now) (g.D.Disk.history c.format.new.disk)) (sym w.result-is)
-          (formats_done c.args.shape (g.D.Disk.bytes c.args.disk.now) _ noted.0 w.note_answer.result.end w.note_answer.result.answers.items w.note_answer.result.clocks.items _ _ (w.in-Ok-format.ensures.answer.refused told) (noted.1.0 told) (w.in-Ok-format.ensures.made told) (w.in-Ok-format.ensures.rests told).settled (work_written w.in-Ok-format.ensures.disk told) (w.in-Ok-format.ensures.stops told) noted.1.1)
-      | in-Err-format w ↦
-          subst (λ (p : Progress). Formats c.args.shape (g.D.Disk.bytes c.args.disk.now) p.end p.clocks.items (g.D.Disk.history c.args.disk.now) (g.D.Disk.history c.format.new.disk)) (sym w.result-is)
-          (formats_failed c.args.shape (g.D.Disk.bytes c.args.disk.now) w.in-Err-format.fault w.ending.result.end w.ending.result.clocks.items _ _ (ap (λ (p : Progress). p.end) w.ending.ensures ∙ w.end_of_format.ensures) (ap (λ (p : Progress). p.clocks.items) w.ending.ensures ∙ c.in-Ok.ensures.clocks) (w.in-Err-format.ensures.answer.refused told) (w.in-Err-format.ensures.answer.untouched told) (work_written w.in-Err-format.ensures.disk told) (w.in-Err-format.ensures.stops told))
-    ]
+pub returns-after-format : goal.returns-after-format
+returns-after-format g c = record {
+  works = λ kept.
+      let o = with_disk g.D.Disk g.O.Sink kept c.args.disk.now c.args.out.now in
+      elim c.match-format.branch [
+        | in-Ok-format w ↦
+            let ok = w.in-Ok-format.ensures in
+            subst (λ out. Works g.D.Disk.tells (Unit {0}) g.O.Sink.tells (ToFormat (sizes_of c.args.shape)) c.match-format.result o (with_disk g.D.Disk g.O.Sink kept c.format.new.disk out)) (sym w.out-is)
+            (subst (λ (p : Progress). Works g.D.Disk.tells (Unit {0}) g.O.Sink.tells (ToFormat (sizes_of c.args.shape)) p o (with_disk g.D.Disk g.O.Sink kept c.format.new.disk w.note_answer.new.out)) (sym w.result-is)
+            (formatted_works c.args.shape w.note_answer.result o (with_disk g.D.Disk g.O.Sink kept c.format.new.disk c.args.out.now) (with_disk g.D.Disk g.O.Sink kept c.format.new.disk w.note_answer.new.out)
+            (w.note_answer.ensures.notes kept) ok.disk.bytes (λ i. record kept.counts { disk = ok.cause.cause i }) refl refl refl refl refl ok.answer.refused ok.made.stands (λ told. (ok.made.rests told).settled) (work_written ok.disk) ok.stops))
+        | in-Err-format w ↦
+            let failed = w.in-Err-format.ensures in
+            subst (λ out. Works g.D.Disk.tells (Unit {0}) g.O.Sink.tells (ToFormat (sizes_of c.args.shape)) c.match-format.result o (with_disk g.D.Disk g.O.Sink kept c.format.new.disk out)) (sym w.out-is)
+            (subst (λ (p : Progress). Works g.D.Disk.tells (Unit {0}) g.O.Sink.tells (ToFormat (sizes_of c.args.shape)) p o (with_disk g.D.Disk g.O.Sink kept c.format.new.disk c.args.out.now)) (sym w.result-is)
+            (unformatted_works c.args.shape w.ending.result w.in-Err-format.fault o _ _ _
+            (record { commands = ap (λ (p : Progress). p.commands.items) w.ending.ensures ∙ c.in-Ok.ensures.commands; answers = ap (λ (p : Progress). p.answers.items) w.ending.ensures ∙ c.in-Ok.ensures.answers; clocks = ap (λ (p : Progress). p.clocks.items) w.ending.ensures ∙ c.in-Ok.ensures.clocks })
+            (ap (λ (p : Progress). p.end) w.ending.ensures ∙ w.end_of_format.ensures) failed.disk.bytes failed.cause failed.answer.refused failed.answer.untouched (λ told e. failed.memory (ap Err e) told) (work_written failed.disk) failed.stops))
+      ];
+}
 
-pub returns-in-Err-clause-format : goal.returns-in-Err-clause-format
-returns-in-Err-clause-format g c = λ told.
-    formats_failed c.args.shape (g.D.Disk.bytes c.args.disk.now) OutOfMemory c.none.result.end c.none.result.clocks.items _ _ c.none.ensures.end c.none.ensures.clocks tt (λ fault is. made_none _ _) (made_none _ _)
-    (λ none settled. leaves_same refl (record { each = λ image now. inl (subst (λ m. IsErr (opened m)) (sym (settled.each image now)) (unmarked _ none)) }))
+pub returns-in-Err : goal.returns-in-Err
+returns-in-Err g c = record {
+  works = λ kept.
+      let o = with_disk g.D.Disk g.O.Sink kept c.args.disk.now c.args.out.now in
+      unformatted_works c.args.shape c.none.result OutOfMemory o _ _ _ (record { commands = c.none.ensures.commands; answers = c.none.ensures.answers; clocks = c.none.ensures.clocks }) c.none.ensures.end refl (record { later = omega arith; cause = refl })
+      (λ told. tt) (λ told fault is. made_none _ _) (λ told e. refl) (λ told. made_none _ _)
+      (λ told none settled. leaves_same refl (record { each = λ image now. inl (subst (λ m. IsErr (opened m)) (sym (settled.each image now)) (unmarked _ none)) }));
+}

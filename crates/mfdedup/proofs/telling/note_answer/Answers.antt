@@ -1,21 +1,18 @@
-use Rattle.std.proofs.Common.{◌∷◌, ◌++◌, [], ◌∙◌, ap, append-nil, refl, sym}
-use Rattle.bd_disk.specs.History.{clock}
-use Rattle.bd_files.specs.Sinks.{moments_of}
-use Rattle.bd_files.proofs.SinkLemmas.{hands_on-noted, hands_part-moments}
+use Rattle.std.proofs.Common.{[], ◌∷◌, ◌++◌, ◌∙◌, ap, refl}
+use Rattle.mfdedup.specs.Outside.{with_disk}
+use Rattle.mfdedup.proofs.Noting.{alone_noted, alone_untold, untold}
 use Rattle.mfdedup.proofs.telling.note_answer.Goals as goal
 
-pub returns-in-Ok-clause-moments : goal.returns-in-Ok-clause-moments
-returns-in-Ok-clause-moments g c = λ tells disk_tells.
-    hands_on-noted (c.in-Ok.ensures.put tells) disk_tells
-    ∙ ap (λ l. moments_of (g.O.Sink.handed c.args.out.now) ++ l) (sym (c.push-in-Ok.ensures.items ∙ ap (λ l. l ++ c.in-Ok.moment ∷ []) c.requires.clocks))
+pub returns-in-Ok : goal.returns-in-Ok
+returns-in-Ok g c = record {
+  notes = λ kept. alone_noted c.args.answer c.in-Ok.moment _ (with_disk g.D.Disk g.O.Sink kept c.args.disk.now c.args.out.now) (with_disk g.D.Disk g.O.Sink kept c.args.disk.now c.tell_answer.new.out) refl c.requires.nothing.commands
+      (c.push.ensures.items ∙ ap (λ xs. xs ++ c.args.answer ∷ []) c.requires.nothing.answers) (c.push-in-Ok.ensures.items ∙ ap (λ xs. xs ++ c.in-Ok.moment ∷ []) c.requires.nothing.clocks)
+      c.in-Ok.ensures.cause c.in-Ok.ensures.moment c.in-Ok.ensures.put;
+}
 
-pub returns-in-Err-Output-clause-noted : goal.returns-in-Err-Output-clause-noted
-returns-in-Err-Output-clause-noted g c = (clock (g.D.Disk.history c.args.disk.now), ((λ told. refl), (c.requires.answers, c.requires.clocks)))
-
-pub returns-in-Err-Output-clause-moments : goal.returns-in-Err-Output-clause-moments
-returns-in-Err-Output-clause-moments g c = λ tells disk_tells.
-    hands_part-moments (c.in-Err-Output.ensures.part tells)
-    ∙ sym (ap (λ l. moments_of (g.O.Sink.handed c.args.out.now) ++ l) c.requires.clocks ∙ append-nil (moments_of (g.O.Sink.handed c.args.out.now)))
-
-pub returns-clause-noted : goal.returns-clause-noted
-returns-clause-noted g c = (clock (g.D.Disk.history c.args.disk.now), ((λ told. refl), (c.requires.answers, (c.requires.clocks, (rw c.in-Err-Memory.field-0-is at c.in-Err-Memory.ensures.cause).1))))
+pub returns-in-Err : goal.returns-in-Err
+returns-in-Err g c = record {
+  notes = λ kept. alone_untold c.args.answer _ (with_disk g.D.Disk g.O.Sink kept c.args.disk.now c.args.out.now) (with_disk g.D.Disk g.O.Sink kept c.args.disk.now c.tell_answer.new.out) refl
+      (record { commands = c.requires.nothing.commands; answers = c.requires.nothing.answers; clocks = c.requires.nothing.clocks }) c.in-Err.ensures.later
+      (untold c.args.answer c.in-Err.field-0 _ _ c.requires.short c.in-Err.ensures.cause) c.in-Err.ensures.part;
+}

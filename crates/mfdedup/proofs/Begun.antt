@@ -1,0 +1,50 @@
+-- What an opening leaves of what lies round it.
+use Rattle.std.proofs.Common.{◌≡◌, ◌⊎◌, ◌∙◌, ℕ, List, inl, inr, refl, sym, subst, ap, arith, Result, Ok, Err, false}
+use Rattle.bd_disk.specs.Calls.{Rose, FailsByCount}
+use Rattle.bd_disk.specs.History.{History, contents}
+use Rattle.bd_catalog.specs.Opening.{Found, opened}
+use Rattle.bd_model.specs.declared.place.Place.{Place}
+use Rattle.bd_recover.specs.Opens.{is_disk_fault}
+use Rattle.bd_recover.specs.declared.fault.OpenFault.{OpenFault}
+use Rattle.bd_recover.specs.declared.fault.OpenFault.TheVariants.{NotAStore as OpenNotAStore, DiskFault as OpenDisk, OutOfMemory as OpenMemory}
+use Rattle.bd_store.specs.Causes.{Counts}
+use Rattle.bd_store.specs.Openings.{AnswersOpening}
+use Rattle.bd_store.specs.Shown.{Shown}
+use Rattle.mfdedup.specs.Commands.{EndsUnopened, OpensNone, ReadsFront}
+use Rattle.mfdedup.specs.Counts.{EndsOnlyByCount}
+use Rattle.mfdedup.specs.Failing.{end_of_opening}
+use Rattle.mfdedup.specs.Noted.{NothingNoted}
+use Rattle.mfdedup.specs.Outside.{Outside}
+use Rattle.mfdedup.specs.declared.progress.Progress.{Progress}
+
+-- the same outside, with this disk and this count of its faults
+abbrev pub at_disk : Outside → ℕ → History → ℕ → Outside
+at_disk o bytes disk faults = record o { disk_bytes = bytes; disk = disk; counts = record o.counts { disk = faults } }
+
+pub only_disk : (o : Outside) (bytes faults : ℕ) (disk : History) → bytes ≡ o.disk_bytes → faults ≡ o.counts.disk → at_disk o bytes disk faults ≡ record o { disk = disk }
+only_disk o bytes faults disk e f = λ i. at_disk o (e i) disk (f i)
+
+pub but_faults : (o : Outside) (bytes faults : ℕ) (disk : History) → bytes ≡ o.disk_bytes → at_disk o bytes disk faults ≡ record o { disk = disk; counts = record o.counts { disk = faults } }
+but_faults o bytes faults disk e = λ i. at_disk o (e i) disk faults
+
+-- why no store was opened
+pub unopened : (disk : Type 0) (fault : OpenFault) (old : History) → (disk → AnswersOpening (opened (contents old)) (Err fault)) → EndsUnopened disk old (end_of_opening fault)
+unopened disk (OpenNotAStore place) old answers = answers
+unopened disk OpenDisk old answers = tt
+unopened disk OpenMemory old answers = tt
+
+-- by which count
+pub opening_cause : {T : Type 0} (fault : OpenFault) (o : Outside) (bytes faults : ℕ) (disk : History) → FailsByCount {T = T} is_disk_fault o.counts.disk faults (Err fault) → EndsOnlyByCount (end_of_opening fault) o (at_disk o bytes disk faults)
+opening_cause (OpenNotAStore place) o bytes faults disk fails = record { later = record { disk = fails.later; sources = omega arith; targets = omega arith }; sink = omega arith; cause = record { counts = λ i. record o.counts { disk = fails.cause i }; sink = refl } }
+opening_cause OpenDisk o bytes faults disk fails = record { later = record { disk = fails.later; sources = omega arith; targets = omega arith }; sink = omega arith; cause = record { risen = (fails.cause, refl, refl); sink = refl } }
+opening_cause OpenMemory o bytes faults disk fails = record { later = record { disk = fails.later; sources = omega arith; targets = omega arith }; sink = omega arith; cause = record { counts = λ i. record o.counts { disk = fails.cause i }; sink = refl } }
+
+pub no_store : {disk T : Type 0} (p : Progress) (fault : OpenFault) (o : Outside) (bytes faults : ℕ) (now : History) → NothingNoted p → p.end ≡ end_of_opening fault → (disk → AnswersOpening (opened (contents o.disk)) (Err fault)) → FailsByCount {T = T} is_disk_fault o.counts.disk faults (Err fault) → (disk → ReadsFront o.disk now) → bytes ≡ o.disk_bytes →
+    OpensNone disk p o (at_disk o bytes now faults)
+no_store {disk} {T} p fault o bytes faults now none e answers fails front same = record {
+  nothing = none;
+  ends = subst (EndsUnopened disk o.disk) (sym e) (unopened disk fault o.disk answers);
+  cause = subst (λ x. EndsOnlyByCount x o (at_disk o bytes now faults)) (sym e) (opening_cause {T = T} fault o bytes faults now fails);
+  reads = front;
+  beside = but_faults o bytes faults now same;
+}

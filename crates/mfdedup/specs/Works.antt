@@ -1,0 +1,44 @@
+-- What comes of words.
+use Rattle.std.specs.Prelude.{◌≡◌, ◌⊎◌, List, [], ◌∷◌, MatchBool}
+use Rattle.bd_model.specs.declared.command.Command.{Command}
+use Rattle.mfdedup.specs.Built.{is_built}
+use Rattle.mfdedup.specs.Commands.{RunsCommands}
+use Rattle.mfdedup.specs.Counts.{EndsOnlyByCount}
+use Rattle.mfdedup.specs.Headline.{IsTheHeadline}
+use Rattle.mfdedup.specs.Noted.{ClocksRise, HandsAnswers, TellsEnd}
+use Rattle.mfdedup.specs.Outside.{Outside}
+use Rattle.mfdedup.specs.Requests.{BlanksFile, EndsAtOnce, FormatsStore}
+use Rattle.mfdedup.specs.Statuses.{end_text}
+use Rattle.mfdedup.specs.Words.{Reading, ToFormat, ToRun, ToScript, ToBlank, ToSoak, Refused}
+use Rattle.mfdedup.specs.declared.progress.Progress.{Progress}
+use Rattle.mfdedup.specs.declared.report.End.{End}
+use Rattle.mfdedup.specs.declared.report.End.TheVariants.{OutOfMemory, Unbuilt}
+use Rattle.mfdedup.specs.declared.report.Report.{Report}
+
+-- by what the words ask for; what is still to come ends at once
+abbrev pub WorksByWords : Type 0 → Type 0 → Type 0 → Reading → Progress → Outside → Outside → Type 0
+WorksByWords disk files sink (ToFormat sizes) p before now = FormatsStore disk sizes p before now
+WorksByWords disk files sink (ToRun command) p before now = MatchBool (is_built command) (RunsCommands disk files sink (command ∷ []) p before now) (EndsAtOnce Unbuilt p before now)
+WorksByWords disk files sink (ToScript name) p before now = EndsAtOnce Unbuilt p before now
+WorksByWords disk files sink (ToBlank count name) p before now = BlanksFile files count name p before now
+WorksByWords disk files sink (ToSoak seed count) p before now = EndsAtOnce Unbuilt p before now
+WorksByWords disk files sink (Refused ending) p before now = EndsAtOnce ending p before now
+
+-- All that comes of the words, but for the text of the end. `disk`, `files` and `sink` are that these tell what they hold.
+pub record Works (disk files sink : Type 0) (reading : Reading) (p : Progress) (before now : Outside) : Type 0 where
+  pub bytes : now.disk_bytes ≡ before.disk_bytes
+  pub cause : EndsOnlyByCount p.end before now
+  pub clocks : ClocksRise disk p before now
+  pub written : sink → HandsAnswers disk p before.handed now.handed
+  pub words : WorksByWords disk files sink reading p before now
+  -- over an honest disk, while no two different chunks given have one mark
+  pub headline : disk → files → IsTheHeadline reading p before now
+
+-- And then the text of the end was put. For want of memory all words may end at once.
+pub record Did (disk files sink : Type 0) (reading : Reading) (p : Progress) (before now : Outside) : Type 0 where
+  pub done : Outside
+  pub works : Works disk files sink reading p before done ⊎ EndsAtOnce OutOfMemory p before done
+  pub tells : TellsEnd sink (end_text p.end) done now
+
+abbrev pub progress_of : Report → Progress
+progress_of report = record { commands = report.commands; answers = report.answers; clocks = report.clocks; end = report.end }
