@@ -6,6 +6,7 @@ use Rattle.bd_disk.specs.History.{clock}
 use Rattle.bd_files.specs.Sinks.{Handed, HandsOn, HandsPart, part}
 use Rattle.bd_model.specs.Texts.{answer_text}
 use Rattle.bd_model.specs.declared.answer.Answer.{Answer}
+use Rattle.bd_model.specs.declared.answer.Answer.TheVariants.{Formatted}
 use Rattle.bd_store.specs.Causes.{Counts, NoneFell}
 use Rattle.bd_script.specs.Long.{is_long}
 use Rattle.bd_session.specs.Telling.{told, ToldByCount}
@@ -41,7 +42,7 @@ no_texts {disk} {p} {before} {now} none same = record {
   rest = [];
   so = same ∙ sym (append-nil before);
   nothing = λ ends. refl;
-  part = ([], record { so = inl refl });
+  part = (Formatted, record { so = inl refl });
 }
 
 -- ---- one answer alone
@@ -73,7 +74,7 @@ alone_noted {disk} {sink} answer moment p before now ends no_commands answers cl
     rest = [];
     so = subst (λ (xs : List Answer). now.handed ≡ before.handed ++ (told (h.noted ∷ []) xs ++ [])) (sym answers) h.so;
     nothing = λ other. refl;
-    part = ([], take_nothing []);
+    part = (answer, take_nothing (answer_text answer));
   }
 
 -- the sink failed
@@ -100,7 +101,7 @@ alone_untold {disk} {sink} answer p before now ends none later rose put = record
     rest = part (take count (answer_text answer)) ∷ [];
     so = more;
     nothing = is_output;
-    part = (answer_text answer, record { so = inr (count, refl) });
+    part = (answer, record { so = inr (count, refl) });
   }
 
 -- it was answered, or only its text couldn't be put

@@ -3,6 +3,7 @@ use Rattle.std.specs.Prelude.{◌≡◌, ◌≢◌, ◌⊎◌, ℕ, ◌≤◌, �
 use Rattle.bd_disk.specs.Calls.{Rose}
 use Rattle.bd_disk.specs.History.{clock}
 use Rattle.bd_files.specs.Sinks.{Handed, HandsPart, whole}
+use Rattle.bd_model.specs.Texts.{answer_text}
 use Rattle.bd_model.specs.declared.answer.Answer.{Answer}
 use Rattle.bd_session.specs.Telling.{told}
 use Rattle.mfdedup.specs.Outside.{Outside}
@@ -28,7 +29,7 @@ pub record ClocksRise (disk : Type 0) (p : Progress) (before now : Outside) : Ty
   pub last : disk → get_or (clock before.disk ∷ p.clocks.items) (length p.clocks.items) 0 ≤ clock now.disk
 
 -- What the sink was given: the text of each answer at its moment, in order, and nothing else, unless it failed. Then it may
--- have taken a part of the next text behind them. Where the disk tells, the moments are the clocks.
+-- have taken a part of one more text behind them. Where the disk tells, the moments are the clocks.
 pub record HandsAnswers (disk : Type 0) (p : Progress) (before now : List Handed) : Type 0 where
   pub moments : List ℕ
   pub are : disk → moments ≡ p.clocks.items
@@ -36,7 +37,7 @@ pub record HandsAnswers (disk : Type 0) (p : Progress) (before now : List Handed
   pub rest : List Handed
   pub so : now ≡ before ++ (told moments p.answers.items ++ rest)
   pub nothing : p.end ≢ OutputFault → rest ≡ []
-  pub part : (text : List ℕ) × HandsPart text [] rest
+  pub part : (answer : Answer) × HandsPart (answer_text answer) [] rest
 
 -- how an answer that is no command's can be noted: with the disk's clock, or not where the sink failed
 abbrev pub NotesByEnd : End → Outside → Outside → Type 0

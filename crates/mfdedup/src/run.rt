@@ -61,7 +61,8 @@ fn act<D: Disk, F: Files, O: Sink>(
         Request::Format { shape } => format(alloc, *shape, disk, out),
         Request::Run { commands } => run_asked(alloc, commands, disk, files, out),
         Request::Blank { length, name } => blank(alloc, *length, name, disk, files, out),
-        Request::Script { .. } | Request::Soak { .. } => Progress::none(alloc, End::Unbuilt),
+        Request::Script { .. } => Progress::none(alloc, End::Unbuilt),
+        Request::Soak { .. } => Progress::none(alloc, End::Unbuilt),
     }
 }
 

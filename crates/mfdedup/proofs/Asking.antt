@@ -1,0 +1,99 @@
+-- What comes of words that ask for nothing that is built, and of a request by the words that ask for it.
+use Rattle.std.proofs.Common.{◌≡◌, ◌⊎◌, ◌∙◌, ℕ, List, [], ◌∷◌, sym, subst, ap, refl, arith, cond, true, false, Bool, MatchBool, None, Some, inl, inr, append-nil}
+use Rattle.bd_disk.specs.History.{History, clock}
+use Rattle.bd_disk.specs.Looks.{LooksOnlyAt}
+use Rattle.bd_disk.proofs.Frames.{made_none}
+use Rattle.bd_disk.proofs.Looking.{looks_from}
+use Rattle.bd_model.specs.Roomy.{Roomy}
+use Rattle.bd_model.specs.Sizes.{sizes_of}
+use Rattle.bd_model.specs.declared.command.Command.{Command}
+use Rattle.bd_model.specs.declared.shape.Shape.{Shape}
+use Rattle.mfdedup.specs.Built.{is_built}
+use Rattle.mfdedup.specs.Commands.{EndsUnopened, OpensNone, RunsCommands}
+use Rattle.mfdedup.specs.Counts.{EndsByCount, EndsOnlyByCount, NoneFailed}
+use Rattle.mfdedup.specs.Headline.{commands_asked}
+use Rattle.mfdedup.specs.Noted.{NothingNoted}
+use Rattle.mfdedup.specs.Outside.{Outside}
+use Rattle.mfdedup.specs.Requests.{EndsAtOnce}
+use Rattle.mfdedup.specs.Words.{AsksFor, IsOfWords, Reading, ToFormat, ToRun, ToScript, ToBlank, ToSoak, Refused}
+use Rattle.mfdedup.specs.Works.{Works, WorksByWords}
+use Rattle.mfdedup.specs.declared.progress.Progress.{Progress}
+use Rattle.mfdedup.specs.declared.report.End.{End}
+use Rattle.mfdedup.specs.declared.report.End.TheVariants.{BadWords, BadNumber, BadName, OutOfMemory, Unbuilt}
+use Rattle.mfdedup.specs.declared.report.Request.{Request}
+use Rattle.mfdedup.specs.declared.report.Request.TheVariants.{Format, Run, Script, Soak}
+use Rattle.mfdedup.proofs.Causes.{untouched_cause}
+use Rattle.mfdedup.proofs.Noting.{no_clocks, no_texts}
+
+-- ---- at once
+
+pub at_once : {disk files sink : Type 0} (reading : Reading) (p : Progress) (o : Outside) → NothingNoted p → (NoneFailed o o → EndsByCount p.end o o) → WorksByWords disk files sink reading p o o → commands_asked reading ≡ None → Works disk files sink reading p o o
+at_once {disk} {files} {sink} reading p o none cause words nothing = record {
+  bytes = refl;
+  cause = untouched_cause p.end o cause;
+  clocks = no_clocks none (λ told. omega arith);
+  written = λ told. no_texts none refl;
+  words = words;
+  headline = λ told _. record { each = λ shape st phase commands asked promised. let clash : None ≡ Some commands = sym nothing ∙ asked in absurd (cc clash) };
+}
+
+-- a command that is still to come
+module _ (disk files sink : Type 0) (command : Command) (p : Progress) (o : Outside) (ends : EndsAtOnce Unbuilt p o o) where
+  unbuilt : (b : Bool) → b ≡ false → MatchBool b (RunsCommands disk files sink (command ∷ []) p o o) (EndsAtOnce Unbuilt p o o)
+  unbuilt true is_false = absurd (cc is_false)
+  unbuilt false is_false = ends
+
+  asks_none : (b : Bool) → b ≡ false → cond b (Some (command ∷ [])) None ≡ None
+  asks_none true is_false = absurd (cc is_false)
+  asks_none false is_false = refl
+
+  pub asked_unbuilt : is_built command ≡ false → Works disk files sink (ToRun command) p o o
+  asked_unbuilt is_false =
+      at_once (ToRun command) p o ends.nothing (subst (λ x. NoneFailed o o → EndsByCount x o o) (sym ends.ends) (λ nothing. nothing)) (unbuilt (is_built command) is_false) (asks_none (is_built command) is_false)
+
+-- no memory was there before the opening
+pub unopened_memory : {disk : Type 0} (p : Progress) (o : Outside) → NothingNoted p → p.end ≡ OutOfMemory → OpensNone disk p o o
+unopened_memory {disk} p o none e = record {
+  nothing = none;
+  ends = subst (EndsUnopened disk o.disk) (sym e) tt;
+  cause = subst (λ x. EndsOnlyByCount x o o) (sym e) (untouched_cause OutOfMemory o (λ nothing. nothing));
+  reads = λ told. record { writes = made_none _ o.disk; looks = looks_from _ {places = []} tt (record { made = made_none _ o.disk; so = sym (append-nil _) }) };
+  beside = refl;
+}
+
+-- ---- by the request
+
+pub format_asks : {disk files sink : Type 0} (reading : Reading) (shape : Shape) (p : Progress) (before now : Outside) → AsksFor reading (Some (Format shape)) → Works disk (Unit {0}) sink (ToFormat (sizes_of shape)) p before now → Works disk files sink reading p before now
+format_asks {disk} {files} {sink} (ToFormat sizes) shape p before now asks w =
+    subst (λ s. Works disk files sink (ToFormat s) p before now) asks (record { bytes = w.bytes; cause = w.cause; clocks = w.clocks; written = w.written; words = w.words; headline = λ told _. w.headline told tt })
+format_asks _ shape p before now asks w = absurd asks
+
+pub run_asks : {disk files sink : Type 0} (reading : Reading) (commands : Roomy Command) (p : Progress) (before now : Outside) → AsksFor reading (Some (Run commands)) →
+    ((command : Command) → commands.items ≡ command ∷ [] → Works disk files sink (ToRun command) p before now) → Works disk files sink reading p before now
+run_asks (ToRun command) commands p before now only works = works command only
+run_asks _ commands p before now asks works = absurd asks
+
+pub script_asks : {disk files sink : Type 0} (reading : Reading) (name : List ℕ) (p : Progress) (o : Outside) → AsksFor reading (Some (Script name)) → NothingNoted p → p.end ≡ Unbuilt → Works disk files sink reading p o o
+script_asks (ToScript given) name p o asks none e = at_once (ToScript given) p o none (subst (λ x. NoneFailed o o → EndsByCount x o o) (sym e) (λ nothing. nothing)) (record { ends = e; nothing = none; untouched = refl }) refl
+script_asks _ name p o asks none e = absurd asks
+
+pub soak_asks : {disk files sink : Type 0} (reading : Reading) (seed count : ℕ) (p : Progress) (o : Outside) → AsksFor reading (Some (Soak seed count)) → NothingNoted p → p.end ≡ Unbuilt → Works disk files sink reading p o o
+soak_asks (ToSoak s n) seed count p o asks none e = at_once (ToSoak s n) p o none (subst (λ x. NoneFailed o o → EndsByCount x o o) (sym e) (λ nothing. nothing)) (record { ends = e; nothing = none; untouched = refl }) refl
+soak_asks _ seed count p o asks none e = absurd asks
+
+-- ---- refused
+
+of_words : (e : End) (before now : Outside) → IsOfWords e → NoneFailed before now → EndsByCount e before now
+of_words BadWords before now kind none = none
+of_words (BadNumber position) before now kind none = none
+of_words BadName before now kind none = none
+of_words OutOfMemory before now kind none = none
+of_words _ before now kind none = absurd kind
+
+pub refused_works : {disk files sink : Type 0} (reading : Reading) (p : Progress) (o : Outside) → reading ≡ Refused p.end → IsOfWords p.end → NothingNoted p → Works disk files sink reading p o o
+refused_works {disk} {files} {sink} reading p o is kind none =
+    subst (λ r. Works disk files sink r p o o) (sym is) (at_once (Refused p.end) p o none (of_words p.end o o kind) (record { ends = refl; nothing = none; untouched = refl }) refl)
+
+pub ends_early : {disk files sink : Type 0} (reading : Reading) (e : End) (p : Progress) (o : Outside) → p.end ≡ e → NothingNoted p → IsOfWords e → (reading ≡ Refused e) ⊎ (e ≡ OutOfMemory) → Works disk files sink reading p o o ⊎ EndsAtOnce OutOfMemory p o o
+ends_early reading e p o ends none kind (inl is) = inl (refused_works reading p o (is ∙ ap Refused (sym ends)) (subst IsOfWords (sym ends) kind) none)
+ends_early reading e p o ends none kind (inr memory) = inr (record { ends = ends ∙ memory; nothing = none; untouched = refl })
