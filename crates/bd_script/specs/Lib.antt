@@ -1,1 +1,4 @@
 pub mod Long
+pub mod Numbers
+pub mod Scripts
+pub mod Splits

@@ -1,5 +1,5 @@
-//! The line of each answer and each damage.
-use crate::{answer_text, damage_line, short_text};
+//! The line of each answer and each damage, and scripts that are read.
+use crate::{ScriptFault, answer_text, damage_line, read_script, short_text};
 use bd_marks::mark_of;
 use bd_model::{Answer, Damage, Findings, Owner, ScrubReport, VersionLine, VersionLines};
 use std::alloc::Global;
@@ -210,5 +210,35 @@ fn each_damage_has_its_line(rt: HostRuntime) {
     ];
     for (damage, want) in cases.iter() {
         assert_eq!(rt; damage_line(damage).bytes(), want.as_bytes());
+    }
+}
+
+// How many commands were read, or the line that is none.
+fn read(alloc: Global, script: &str) -> Result<usize, u64> {
+    match read_script(alloc, script.as_bytes()) {
+        Ok(commands) => Ok(commands.len()),
+        Err(ScriptFault::BadLine { number }) => Err(number),
+        Err(ScriptFault::OutOfMemory) => Err(0),
+    }
+}
+
+#[test]
+fn scripts_are_read(rt: HostRuntime) {
+    let alloc = rt.alloc();
+    let cases = [
+        ("", Ok(0)),
+        ("list", Ok(1)),
+        (
+            "backup a\nrestore 4294967295 -b c\nexpire\nreorganise\nscrub\nlist\n",
+            Ok(6),
+        ),
+        ("backup a\nrestor 1 x\n", Err(2)),
+        ("\n", Err(1)),
+        ("restore 01 x", Err(1)),
+        ("restore 4294967296 x", Err(1)),
+        ("list\nlist \nbackup\n", Err(2)),
+    ];
+    for (script, want) in cases.iter() {
+        assert!(rt; read(alloc, script) == *want);
     }
 }

@@ -1,11 +1,11 @@
 -- What words ask for.
 use Rattle.std.specs.Prelude.{◌≡◌, ℕ, ◌+◌, ◌*◌, ◌-◌, Bool, not, ◌&&◌, ◌||◌, ◌==◌, List, [], ◌∷◌, length, slice_index, codes, nat_le, Option, Some, None, if◌then◌else◌}
-use Rattle.std.specs.List.{list_all}
 use Rattle.std.specs.Str.{bytes_eq}
 use Rattle.bd_model.specs.Limits.{is_name}
 use Rattle.bd_model.specs.Sizes.{Sizes, sizes_of}
 use Rattle.bd_model.specs.declared.command.Command.{Command}
 use Rattle.bd_model.specs.declared.command.Command.TheVariants.{Backup, Restore, Expire, Reorganise, Scrub, List as Listing}
+use Rattle.bd_script.specs.Numbers.{number_of}
 use Rattle.mfdedup.specs.declared.report.End.{End}
 use Rattle.mfdedup.specs.declared.report.End.TheVariants.{BadWords, BadNumber, BadName, OutOfMemory}
 use Rattle.mfdedup.specs.declared.report.Request.{Request}
@@ -23,23 +23,6 @@ pub data Reading : Type 0 where
 -- the sizes of a store where none are asked for
 abbrev pub default_sizes : Sizes
 default_sizes = record { extent = 1048576; extents = 4096; retain = 64; min = 2048; bits = 13; max = 65536 }
-
--- ---- numbers
-abbrev pub is_digit : ℕ → Bool
-is_digit b = nat_le 48 b && nat_le b 57
-
--- decimal digits that begin with a 0 only where they are no more
-abbrev pub is_digits : List ℕ → Bool
-is_digits bytes = not (length bytes == 0) && (list_all is_digit bytes && (length bytes == 1 || not (slice_index bytes 0 == 48)))
-
--- the number that digits spell behind a number
-abbrev pub read_on : ℕ → List ℕ → ℕ
-read_on n [] = n
-read_on n (b ∷ bytes) = read_on (10 * n + (b - 48)) bytes
-
--- the number that the text spells, where it is at most this
-abbrev pub number_of : ℕ → List ℕ → Option ℕ
-number_of most text = if is_digits text && nat_le (read_on 0 text) most then Some (read_on 0 text) else None
 
 -- ---- lines
 -- a word that doesn't begin with a dash

@@ -1,13 +1,14 @@
 //! What the words of a command line ask for.
 ghost use Rattle.std.specs.Prelude.{◌≡◌, ◌⊎◌, ◌≤◌, ◌<◌, ◌^◌, ◌↔◌, ◌∷◌, [], true, false, IfOk, IfErr, IsTrue, map, string_bytes, Some};
-ghost use Rattle.std.specs.List.{list_all};
 ghost use Rattle.bd_model.specs.Limits.{is_name};
 ghost use Rattle.bd_model.specs.Sizes.{sizes_of};
-ghost use Rattle.mfdedup.specs.Words.{AsksFor, IsOfWords, ToRun, Refused, default_sizes, is_digit, is_digits, is_value, number_of, reading, reading_alone, reading_one, reading_two, restore_request, blank_request, soak_request};
+ghost use Rattle.bd_script.specs.Numbers.{number_of};
+ghost use Rattle.mfdedup.specs.Words.{AsksFor, IsOfWords, ToRun, Refused, default_sizes, is_value, reading, reading_alone, reading_one, reading_two, restore_request, blank_request, soak_request};
 ghost use Rattle.mfdedup.specs.declared.report.End.TheVariants.{BadName, BadNumber, OutOfMemory};
 
 use crate::report::{End, Request};
 use bd_model::{Command, Commands, Name, NameFault, Shape};
+use bd_script::number;
 use std::alloc::Global;
 
 /// The most bytes of a blank file: the largest disk that a store can have.
@@ -181,29 +182,4 @@ fn number_at(text: &str, most: u64, position: u32) -> Result<u64, End>
         Some(number) => Ok(number),
         None => Err(End::BadNumber { position }),
     }
-}
-
-fn number(text: &str, most: u64) -> Option<u64>
-    ensures { result ≡ number_of most text.now }
-{
-    if !is_digits(text.as_bytes()) {
-        return None;
-    }
-    match text.parse::<u64>() {
-        Ok(number) => { if number <= most { Some(number) } else { None } }
-        Err(_) => None,
-    }
-}
-
-fn all_digits(bytes: &[u8]) -> bool
-    ensures { result ≡ list_all is_digit bytes.now }
-{
-    bytes.iter().all(|b| *b >= b'0' && *b <= b'9')
-}
-
-// Whether these are decimal digits that begin with a 0 only where they are no more.
-fn is_digits(bytes: &[u8]) -> bool
-    ensures { result ≡ is_digits bytes.now }
-{
-    !bytes.is_empty() && all_digits(bytes) && (bytes.len() == 1 || bytes[0] != b'0')
 }

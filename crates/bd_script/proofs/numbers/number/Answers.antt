@@ -1,7 +1,7 @@
 use Rattle.std.proofs.Common.{◌≡◌, arith, true, ◌^◌, ◌<◌}
-use Rattle.mfdedup.specs.Words.{is_digits}
-use Rattle.mfdedup.proofs.Numbers.{digits_parse, number_fits, number_above, number_wide}
-use Rattle.mfdedup.proofs.words.number.Goals as goal
+use Rattle.bd_script.specs.Numbers.{is_digits}
+use Rattle.bd_script.proofs.Decimals.{digits_parse, number_fits, number_above, number_wide}
+use Rattle.bd_script.proofs.numbers.number.Goals as goal
 
 pub returns-then-number-most : goal.returns-then-number-most
 returns-then-number-most c =

@@ -1,0 +1,6 @@
+use Rattle.bd_script.proofs.splits.behind.Goals as goal
+use Rattle.std.proofs.lemmas.Bool.Decides.{Decides-eqb}
+use Rattle.std.proofs.lemmas.Slice.Eq.{strip_prefix_is}
+
+pub returns : goal.returns
+returns c = strip_prefix_is Decides-eqb c.args.text.now c.args.word.now c.strip_prefix.result c.strip_prefix.ensures.cases
