@@ -1,9 +1,9 @@
 //! What the words of a command line ask for.
-ghost use Rattle.std.specs.Prelude.{◌≡◌, ◌⊎◌, ◌≤◌, ◌<◌, ◌^◌, ◌↔◌, ◌∷◌, [], true, false, IfOk, IfErr, IsTrue, map, string_bytes, Some};
+ghost use Rattle.std.specs.Prelude.{◌≡◌, ◌⊎◌, ◌≤◌, ◌<◌, ◌^◌, ◌↔◌, ◌∷◌, [], true, false, IfOk, IfErr, IsTrue, map, string_bytes, option_map, Some};
 ghost use Rattle.bd_model.specs.Limits.{is_name};
-ghost use Rattle.bd_model.specs.Sizes.{sizes_of};
+ghost use Rattle.bd_model.specs.Sizes.{Sizes};
 ghost use Rattle.bd_script.specs.Numbers.{number_of};
-ghost use Rattle.mfdedup.specs.Words.{AsksFor, IsOfWords, ToRun, Refused, default_sizes, is_value, reading, reading_alone, reading_one, reading_two, restore_request, blank_request, soak_request};
+ghost use Rattle.mfdedup.specs.Words.{AsksFor, IsOfWords, ToRun, Refused, are_options, format_request, is_asked_once, is_option, is_value, reading, reading_alone, reading_one, reading_others, reading_two, shape_request, size_of, value_of, restore_request, blank_request, soak_request};
 ghost use Rattle.mfdedup.specs.declared.report.End.TheVariants.{BadName, BadNumber, OutOfMemory};
 
 use crate::report::{End, Request};
@@ -18,6 +18,7 @@ const MOST_BLANK: u64 = 1_099_516_763_350;
 const MOST_TURNS: u64 = 16;
 
 /// Reads the words behind the store's path.
+#[tactic(auto, unfolding(crate::specs::Words::reading))]
 pub fn read(alloc: Global, words: &[String]) -> Result<Request, End>
     ensures asked { IfOk result (λ request. AsksFor (reading (map string_bytes words.now)) (Some request)) }
     ensures refused { IfErr result (λ ending. (reading (map string_bytes words.now) ≡ Refused ending) ⊎ (ending ≡ OutOfMemory)) }
@@ -25,10 +26,26 @@ pub fn read(alloc: Global, words: &[String]) -> Result<Request, End>
 {
     match words {
         [] => Err(End::BadWords),
-        [word] => read_alone(alloc, word.as_str()),
-        [word, value] => read_one(alloc, word.as_str(), value.as_str()),
-        [word, first, second] => read_two(alloc, word.as_str(), first.as_str(), second.as_str()),
-        [_, _, _, _, ..] => Err(End::BadWords),
+        [word, values @ ..] => {
+            if word.as_str() == "format" {
+                read_format(values)
+            } else {
+                read_others(alloc, word.as_str(), values)
+            }
+        }
+    }
+}
+
+fn read_others(alloc: Global, word: &str, values: &[String]) -> Result<Request, End>
+    ensures asked { IfOk result (λ request. AsksFor (reading_others word.now (map string_bytes values.now)) (Some request)) }
+    ensures refused { IfErr result (λ ending. (reading_others word.now (map string_bytes values.now) ≡ Refused ending) ⊎ (ending ≡ OutOfMemory)) }
+    ensures kind { IfErr result IsOfWords }
+{
+    match values {
+        [] => read_alone(alloc, word),
+        [value] => read_one(alloc, word, value.as_str()),
+        [first, second] => read_two(alloc, word, first.as_str(), second.as_str()),
+        [_, _, _, ..] => Err(End::BadWords),
     }
 }
 
@@ -37,11 +54,6 @@ fn read_alone(alloc: Global, word: &str) -> Result<Request, End>
     ensures refused { IfErr result (λ ending. (reading_alone word.now ≡ Refused ending) ⊎ (ending ≡ OutOfMemory)) }
     ensures kind { IfErr result IsOfWords }
 {
-    if word == "format" {
-        return Ok(Request::Format {
-            shape: default_shape(),
-        });
-    }
     if word == "expire" {
         return run_of(alloc, Command::Expire);
     }
@@ -143,14 +155,96 @@ fn run_of(alloc: Global, command: Command) -> Result<Request, End>
     Ok(Request::Run { commands })
 }
 
-// The shape of a store where none is asked for.
-fn default_shape() -> Shape
-    ensures { sizes_of result ≡ default_sizes }
+// The shape that options ask for.
+fn read_format(words: &[String]) -> Result<Request, End>
+    ensures asked { IfOk result (λ request. AsksFor (format_request (map string_bytes words.now)) (Some request)) }
+    ensures refused { IfErr result (λ ending. format_request (map string_bytes words.now) ≡ Refused ending) }
+    ensures kind { IfErr result IsOfWords }
 {
-    match Shape::new(1_048_576, 4_096, 64, 2_048, 13, 65_536) {
-        Ok(shape) => shape,
-        Err(_) => unreachable!(),
+    if !are_options(words) {
+        return Err(End::BadWords);
     }
+    let extent = size_at(value_of("--extent", words), 1_048_576, 0)?;
+    let extents = size_at(value_of("--extents", words), 4_096, 1)?;
+    let retain = size_at(value_of("--retain", words), 64, 2)?;
+    let min = size_at(value_of("--min", words), 2_048, 3)?;
+    let bits = size_at(value_of("--bits", words), 13, 4)?;
+    let max = size_at(value_of("--max", words), 65_536, 5)?;
+    shape_request(extent, extents, retain, min, bits, max)
+}
+
+fn shape_request(
+    extent: u32,
+    extents: u32,
+    retain: u32,
+    min: u32,
+    bits: u32,
+    max: u32,
+) -> Result<Request, End>
+    ensures asked { IfOk result (λ request. AsksFor (shape_request (record { extent = extent; extents = extents; retain = retain; min = min; bits = bits; max = max })) (Some request)) }
+    ensures refused { IfErr result (λ ending. shape_request (record { extent = extent; extents = extents; retain = retain; min = min; bits = bits; max = max }) ≡ Refused ending) }
+    ensures kind { IfErr result IsOfWords }
+{
+    match Shape::new(extent, extents, retain, min, bits, max) {
+        Ok(shape) => Ok(Request::Format { shape }),
+        Err(fault) => Err(End::BadShape { field: fault.field }),
+    }
+}
+
+// The number of an option, or what stands for it where it is missing.
+fn size_at(value: Option<&str>, missing: u32, position: u32) -> Result<u32, End>
+    ensures number { IfOk result (λ n. size_of missing (option_map (λ v. v.now) value.entry) ≡ Some n) }
+    ensures bad { IfErr result (λ ending. (ending ≡ BadNumber position) × (size_of missing (option_map (λ v. v.now) value.entry) ≡ None)) }
+    ensures kind { IfErr result IsOfWords }
+{
+    match value {
+        Some(value) => Ok(number_at(value, u64::from(u32::MAX), position)? as u32),
+        None => Ok(missing),
+    }
+}
+
+// Whether these are options, each with its value and at most once.
+fn are_options(words: &[String]) -> bool
+    ensures { result ≡ are_options (map string_bytes words.now) }
+{
+    match words {
+        [] => true,
+        [_] => false,
+        [word, value, more @ ..] => {
+            is_asked_once(word.as_str(), value.as_str(), more) && are_options(more)
+        }
+    }
+}
+
+fn is_asked_once(word: &str, value: &str, words: &[String]) -> bool
+    ensures { result ≡ is_asked_once word.now value.now (map string_bytes words.now) }
+{
+    is_option(word) && is_value(value) && value_of(word, words).is_none()
+}
+
+fn is_option(word: &str) -> bool
+    ensures { result ≡ is_option word.now }
+{
+    word == "--extent"
+        || word == "--extents"
+        || word == "--retain"
+        || word == "--min"
+        || word == "--bits"
+        || word == "--max"
+}
+
+// The value behind an option.
+fn value_of<'a>(option: &str, words: &'a [String]) -> Option<&'a str>
+    ensures { option_map (λ v. v.now) result ≡ value_of option.now (map string_bytes words.now) }
+{
+    let mut rest = words;
+    while let [word, value, more @ ..] = rest {
+        if word.as_str() == option {
+            return Some(value.as_str());
+        }
+        rest = more;
+    }
+    None
 }
 
 fn is_value(word: &str) -> bool
