@@ -1,5 +1,5 @@
 -- Words in pairs.
-use Rattle.std.proofs.Common.{◌≡◌, ℕ, ◌<◌, ◌≤◌, List, [], ◌∷◌, ◌-◌, length, map, take, drop, get_or, Bool, ◌&&◌, Option, None, true, false, refl, sym, ap, arith}
+use Rattle.std.proofs.Common.{◌≡◌, ℕ, ◌<◌, ◌≤◌, List, [], ◌∷◌, ◌-◌, length, map, take, drop, get_or, Bool, ◌&&◌, None, false, refl, arith}
 use Rattle.std.proofs.lemmas.List.{take_rest}
 use Rattle.mfdedup.specs.Words.{are_options, is_asked_once, value_of}
 

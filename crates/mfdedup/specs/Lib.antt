@@ -3,6 +3,7 @@ pub mod Commands
 pub mod Counts
 pub mod Failing
 pub mod Headline
+pub mod Lines
 pub mod Noted
 pub mod Outside
 pub mod Requests

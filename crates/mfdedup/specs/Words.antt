@@ -1,5 +1,5 @@
 -- What words ask for.
-use Rattle.std.specs.Prelude.{◌≡◌, ℕ, ◌+◌, ◌*◌, ◌-◌, Bool, true, false, not, is_none, ◌&&◌, ◌||◌, ◌==◌, List, [], ◌∷◌, length, slice_index, codes, nat_le, Option, Some, None, if◌then◌else◌}
+use Rattle.std.specs.Prelude.{◌≡◌, ℕ, Bool, true, false, not, is_none, ◌&&◌, ◌==◌, List, [], ◌∷◌, length, drop, slice_index, codes, Option, Some, None, if◌then◌else◌}
 use Rattle.std.specs.List.{list_any}
 use Rattle.std.specs.Str.{bytes_eq}
 use Rattle.bd_model.specs.Limits.{is_name}
@@ -124,16 +124,20 @@ reading_two word first second =
     (if bytes_eq word (codes "blank") then blank_request first second else
     (if bytes_eq word (codes "soak") then soak_request first second else Refused BadWords)))
 
-abbrev pub reading_others : List ℕ → List (List ℕ) → Reading
-reading_others word [] = reading_alone word
-reading_others word (value ∷ []) = reading_one word value
-reading_others word (first ∷ second ∷ []) = reading_two word first second
-reading_others word (a ∷ b ∷ c ∷ words) = Refused BadWords
+abbrev pub reading_others : List (List ℕ) → Reading
+reading_others [] = Refused BadWords
+reading_others (word ∷ []) = reading_alone word
+reading_others (word ∷ value ∷ []) = reading_one word value
+reading_others (word ∷ first ∷ second ∷ []) = reading_two word first second
+reading_others (word ∷ a ∷ b ∷ c ∷ words) = Refused BadWords
+
+abbrev pub is_format : List (List ℕ) → Bool
+is_format [] = false
+is_format (word ∷ words) = bytes_eq word (codes "format")
 
 -- Each line has exactly its words. Words are refused first, then numbers, then names, then sizes out of range.
 unfoldable pub reading : List (List ℕ) → Reading
-reading [] = Refused BadWords
-reading (word ∷ words) = if bytes_eq word (codes "format") then format_request words else reading_others word words
+reading words = if is_format words then format_request (drop 1 words) else reading_others words
 
 -- ---- the request that a report shows
 abbrev pub AsksFor : Reading → Option Request → Type 0

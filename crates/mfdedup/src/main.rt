@@ -8,6 +8,7 @@ mod report;
 mod run;
 mod status;
 mod telling;
+mod values;
 mod words;
 
 use bd_disk::{Disk, FileDisk, MemDisk};

@@ -1,12 +1,13 @@
 //! What the words of a command line ask for.
-ghost use Rattle.std.specs.Prelude.{◌≡◌, ◌⊎◌, ◌≤◌, ◌<◌, ◌^◌, ◌↔◌, ◌∷◌, [], true, false, IfOk, IfErr, IsTrue, map, string_bytes, option_map, Some};
+ghost use Rattle.std.specs.Prelude.{◌≡◌, ◌⊎◌, ◌≤◌, ◌<◌, ◌^◌, ◌↔◌, ◌∷◌, [], true, false, IfOk, IfErr, IsTrue, drop, length, map, string_bytes, option_map, Some};
 ghost use Rattle.bd_model.specs.Limits.{is_name};
 ghost use Rattle.bd_model.specs.Sizes.{Sizes};
 ghost use Rattle.bd_script.specs.Numbers.{number_of};
-ghost use Rattle.mfdedup.specs.Words.{AsksFor, IsOfWords, ToRun, Refused, are_options, format_request, is_asked_once, is_option, is_value, reading, reading_alone, reading_one, reading_others, reading_two, shape_request, size_of, value_of, restore_request, blank_request, soak_request};
+ghost use Rattle.mfdedup.specs.Words.{AsksFor, IsOfWords, ToRun, Refused, are_options, format_request, is_asked_once, is_format, is_option, is_value, reading, reading_alone, reading_one, reading_two, shape_request, size_of, value_of, restore_request, blank_request, soak_request};
 ghost use Rattle.mfdedup.specs.declared.report.End.TheVariants.{BadName, BadNumber, OutOfMemory};
 
 use crate::report::{End, Request};
+use crate::values::{one_value, options_of, two_values};
 use bd_model::{Command, Commands, Name, NameFault, Shape};
 use bd_script::number;
 use std::alloc::Global;
@@ -24,28 +25,26 @@ pub fn read(alloc: Global, words: &[String]) -> Result<Request, End>
     ensures refused { IfErr result (λ ending. (reading (map string_bytes words.now) ≡ Refused ending) ⊎ (ending ≡ OutOfMemory)) }
     ensures kind { IfErr result IsOfWords }
 {
+    if is_format(words) {
+        return read_format(alloc, words);
+    }
     match words {
         [] => Err(End::BadWords),
-        [word, values @ ..] => {
-            if word.as_str() == "format" {
-                read_format(values)
-            } else {
-                read_others(alloc, word.as_str(), values)
-            }
+        [word] => read_alone(alloc, word.as_str()),
+        [word, value] => read_one(alloc, word.as_str(), value.as_str(), words),
+        [word, first, second] => {
+            read_two(alloc, word.as_str(), first.as_str(), second.as_str(), words)
         }
+        [_, _, _, _, ..] => Err(End::BadWords),
     }
 }
 
-fn read_others(alloc: Global, word: &str, values: &[String]) -> Result<Request, End>
-    ensures asked { IfOk result (λ request. AsksFor (reading_others word.now (map string_bytes values.now)) (Some request)) }
-    ensures refused { IfErr result (λ ending. (reading_others word.now (map string_bytes values.now) ≡ Refused ending) ⊎ (ending ≡ OutOfMemory)) }
-    ensures kind { IfErr result IsOfWords }
+fn is_format(words: &[String]) -> bool
+    ensures { result ≡ is_format (map string_bytes words.now) }
 {
-    match values {
-        [] => read_alone(alloc, word),
-        [value] => read_one(alloc, word, value.as_str()),
-        [first, second] => read_two(alloc, word, first.as_str(), second.as_str()),
-        [_, _, _, ..] => Err(End::BadWords),
+    match words {
+        [word, ..] => word.as_str() == "format",
+        [] => false,
     }
 }
 
@@ -69,7 +68,9 @@ fn read_alone(alloc: Global, word: &str) -> Result<Request, End>
     Err(End::BadWords)
 }
 
-fn read_one(alloc: Global, word: &str, value: &str) -> Result<Request, End>
+// The words are tested by hand, and clap reads their values.
+fn read_one(alloc: Global, word: &str, value: &str, words: &[String]) -> Result<Request, End>
+    requires line { map string_bytes words.now ≡ word.now ∷ value.now ∷ [] }
     ensures asked { IfOk result (λ request. AsksFor (reading_one word.now value.now) (Some request)) }
     ensures refused { IfErr result (λ ending. (reading_one word.now value.now ≡ Refused ending) ⊎ (ending ≡ OutOfMemory)) }
     ensures kind { IfErr result IsOfWords }
@@ -78,17 +79,24 @@ fn read_one(alloc: Global, word: &str, value: &str) -> Result<Request, End>
         return Err(End::BadWords);
     }
     if word == "backup" {
-        let name = name_of(alloc, value)?;
+        let name = name_of(alloc, one_value(alloc, words)?)?;
         return run_of(alloc, Command::Backup { name });
     }
     if word == "run" {
-        let name = name_of(alloc, value)?;
+        let name = name_of(alloc, one_value(alloc, words)?)?;
         return Ok(Request::Script { name });
     }
     Err(End::BadWords)
 }
 
-fn read_two(alloc: Global, word: &str, first: &str, second: &str) -> Result<Request, End>
+fn read_two(
+    alloc: Global,
+    word: &str,
+    first: &str,
+    second: &str,
+    words: &[String],
+) -> Result<Request, End>
+    requires line { map string_bytes words.now ≡ word.now ∷ first.now ∷ second.now ∷ [] }
     ensures asked { IfOk result (λ request. AsksFor (reading_two word.now first.now second.now) (Some request)) }
     ensures refused { IfErr result (λ ending. (reading_two word.now first.now second.now ≡ Refused ending) ⊎ (ending ≡ OutOfMemory)) }
     ensures kind { IfErr result IsOfWords }
@@ -97,13 +105,16 @@ fn read_two(alloc: Global, word: &str, first: &str, second: &str) -> Result<Requ
         return Err(End::BadWords);
     }
     if word == "restore" {
-        return read_restore(alloc, first, second);
+        let (version, name) = two_values(alloc, words)?;
+        return read_restore(alloc, version, name);
     }
     if word == "blank" {
-        return read_blank(alloc, first, second);
+        let (length, name) = two_values(alloc, words)?;
+        return read_blank(alloc, length, name);
     }
     if word == "soak" {
-        return read_soak(first, second);
+        let (seed, count) = two_values(alloc, words)?;
+        return read_soak(seed, count);
     }
     Err(End::BadWords)
 }
@@ -156,21 +167,31 @@ fn run_of(alloc: Global, command: Command) -> Result<Request, End>
 }
 
 // The shape that options ask for.
-fn read_format(words: &[String]) -> Result<Request, End>
-    ensures asked { IfOk result (λ request. AsksFor (format_request (map string_bytes words.now)) (Some request)) }
-    ensures refused { IfErr result (λ ending. format_request (map string_bytes words.now) ≡ Refused ending) }
+fn read_format(alloc: Global, words: &[String]) -> Result<Request, End>
+    requires some { 0 < length words.now }
+    ensures asked { IfOk result (λ request. AsksFor (format_request (drop 1 (map string_bytes words.now))) (Some request)) }
+    ensures refused { IfErr result (λ ending. (format_request (drop 1 (map string_bytes words.now)) ≡ Refused ending) ⊎ (ending ≡ OutOfMemory)) }
     ensures kind { IfErr result IsOfWords }
 {
-    if !are_options(words) {
+    if !has_options(words) {
         return Err(End::BadWords);
     }
-    let extent = size_at(value_of("--extent", words), 1_048_576, 0)?;
-    let extents = size_at(value_of("--extents", words), 4_096, 1)?;
-    let retain = size_at(value_of("--retain", words), 64, 2)?;
-    let min = size_at(value_of("--min", words), 2_048, 3)?;
-    let bits = size_at(value_of("--bits", words), 13, 4)?;
-    let max = size_at(value_of("--max", words), 65_536, 5)?;
+    let options = options_of(alloc, words)?;
+    let extent = size_at(options.extent, 1_048_576, 0)?;
+    let extents = size_at(options.extents, 4_096, 1)?;
+    let retain = size_at(options.retain, 64, 2)?;
+    let min = size_at(options.min, 2_048, 3)?;
+    let bits = size_at(options.bits, 13, 4)?;
+    let max = size_at(options.max, 65_536, 5)?;
     shape_request(extent, extents, retain, min, bits, max)
+}
+
+// Whether options stand behind the first word.
+fn has_options(words: &[String]) -> bool
+    requires { 0 < length words.now }
+    ensures { result ≡ are_options (drop 1 (map string_bytes words.now)) }
+{
+    are_options(&words[1..])
 }
 
 fn shape_request(
