@@ -19,7 +19,7 @@ use Rattle.mfdedup.specs.Words.{AsksFor, IsOfWords, Reading, ToFormat, ToRun, To
 use Rattle.mfdedup.specs.Works.{Works, WorksByWords}
 use Rattle.mfdedup.specs.declared.progress.Progress.{Progress}
 use Rattle.mfdedup.specs.declared.report.End.{End}
-use Rattle.mfdedup.specs.declared.report.End.TheVariants.{BadWords, BadNumber, BadName, OutOfMemory, Unbuilt}
+use Rattle.mfdedup.specs.declared.report.End.TheVariants.{BadWords, BadNumber, BadName, BadShape, OutOfMemory, Unbuilt}
 use Rattle.mfdedup.specs.declared.report.Request.{Request}
 use Rattle.mfdedup.specs.declared.report.Request.TheVariants.{Format, Run, Script, Soak}
 use Rattle.mfdedup.proofs.Causes.{untouched_cause}
@@ -87,6 +87,7 @@ of_words : (e : End) (before now : Outside) → IsOfWords e → NoneFailed befor
 of_words BadWords before now kind none = none
 of_words (BadNumber position) before now kind none = none
 of_words BadName before now kind none = none
+of_words (BadShape field) before now kind none = none
 of_words OutOfMemory before now kind none = none
 of_words _ before now kind none = absurd kind
 
