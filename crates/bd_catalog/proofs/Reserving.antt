@@ -33,9 +33,9 @@ same_volume v x rows extents =
     ∙ ap (λ (ns : List ℕ). record { rows = x.rows.items; extents = ns }) extents
 
 -- the same lists make the same catalogue
-pub same_catalogue : (base newest : ℕ) (phase : Phase) (vs ws : List VersionRow) (es fs : List VolumeEntry) (xs ys : List ActiveCategory) → vs ≡ ws → es ≡ fs → xs ≡ ys
+pub same_lists_make : (base newest : ℕ) (phase : Phase) (vs ws : List VersionRow) (es fs : List VolumeEntry) (xs ys : List ActiveCategory) → vs ≡ ws → es ≡ fs → xs ≡ ys
     → made base newest phase (map version_entry vs) es (map open_entry xs) ≡ made base newest phase (map version_entry ws) fs (map open_entry ys)
-same_catalogue base newest phase vs ws es fs xs ys versions volumes actives =
+same_lists_make base newest phase vs ws es fs xs ys versions volumes actives =
     ap (λ (zs : List VersionRow). made base newest phase (map version_entry zs) es (map open_entry xs)) versions
     ∙ ap (λ (gs : List VolumeEntry). made base newest phase (map version_entry ws) gs (map open_entry xs)) volumes
     ∙ ap (λ (zs : List ActiveCategory). made base newest phase (map version_entry ws) fs (map open_entry zs)) actives

@@ -1,7 +1,7 @@
 use Rattle.std.proofs.Common.{rules, ◌≡◌, ◌+◌, ◌-◌, length, map, set, ◌∙◌, ap, arith}
 use Rattle.bd_catalog.specs.declared.rows.ClosedVolume.{ClosedVolume}
 use Rattle.bd_catalog.specs.Shown.{volume_entry}
-use Rattle.bd_catalog.proofs.Reserving.{same_entries, same_volume, same_catalogue, last_room-set}
+use Rattle.bd_catalog.proofs.Reserving.{same_entries, same_volume, same_lists_make, last_room-set}
 use Rattle.bd_catalog.proofs.contents.Contents.reserve.Goals as goal
 
 pub returns-in_err-reserve-5-clause-same : goal.returns-in_err-reserve-5-clause-same
@@ -11,7 +11,7 @@ returns-in_err-reserve-5-clause-same c =
     let items = c.reserve-2.new.self.items in
     let n = c.len-count.result - 1 in
     let old = c.args.self.now in
-    same_catalogue old.base old.newest old.phase c.reserve.new.self.items old.versions.items (map volume_entry (set items n v)) (map volume_entry old.volumes.items)
+    same_lists_make old.base old.newest old.phase c.reserve.new.self.items old.versions.items (map volume_entry (set items n v)) (map volume_entry old.volumes.items)
     c.reserve-3.new.self.items old.actives.items c.in_ok-reserve.ensures.items
     (same_entries items n v x c.index_mut-last.ensures.value (same_volume v x c.in_ok-reserve-4.ensures.items c.in_err-reserve-5.ensures.numbers) ∙ ap (map volume_entry) c.in_ok-reserve-2.ensures.items)
     c.in_ok-reserve-3.ensures.items
@@ -23,7 +23,7 @@ returns-in_ok-reserve-5-clause-same c =
     let items = c.reserve-2.new.self.items in
     let n = c.len-count.result - 1 in
     let old = c.args.self.now in
-    same_catalogue old.base old.newest old.phase c.reserve.new.self.items old.versions.items (map volume_entry (set items n v)) (map volume_entry old.volumes.items)
+    same_lists_make old.base old.newest old.phase c.reserve.new.self.items old.versions.items (map volume_entry (set items n v)) (map volume_entry old.volumes.items)
     c.reserve-3.new.self.items old.actives.items c.in_ok-reserve.ensures.items
     (same_entries items n v x c.index_mut-last.ensures.value (same_volume v x c.in_ok-reserve-4.ensures.items c.in_ok-reserve-5.ensures.numbers) ∙ ap (map volume_entry) c.in_ok-reserve-2.ensures.items)
     c.in_ok-reserve-3.ensures.items
