@@ -26,7 +26,7 @@ pub record Shows (shape : Shape) (st : VersionState) (phase : Phase) (held : ℕ
   pub reserve : HasReserve (sizes_of shape) (history shape st) phase held
 
 -- an image opens in one way
-found_once : (image : List ℕ) (one other : Found) → opened image ≡ Ok one → opened image ≡ Ok other → one ≡ other
+pub found_once : (image : List ℕ) (one other : Found) → opened image ≡ Ok one → opened image ≡ Ok other → one ≡ other
 found_once image one other e f = let same : Ok one ≡ Ok other = sym e ∙ f in cc
 
 -- what an opening finds in an image that stands for a state shows this state
