@@ -167,7 +167,7 @@ module _ (s : Sizes) (bounded : IsBounded s) where
     pub extents : length e.extents ≡ up s.extent (40 * e.chunks)
     pub fits : e.length < 2 ^ 64
 
-  version_of : (e : VersionEntry) → version_holds s e ≡ true → VersionHolds e
+  pub version_of : (e : VersionEntry) → version_holds s e ≡ true → VersionHolds e
   version_of e h =
       let p1 = nat_le e.fresh e.chunks in
       let p2 = p1 && nat_le e.chunks e.length in
