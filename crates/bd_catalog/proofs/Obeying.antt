@@ -78,7 +78,7 @@ numbers_of s c h =
     }
 
 -- a test of each element, as facts
-All-from_list_all : {X : Type 0} (p : X → Bool) (P : X → Type 0) → ((x : X) → p x ≡ true → P x) → (xs : List X) → list_all p xs ≡ true → All P xs
+pub All-from_list_all : {X : Type 0} (p : X → Bool) (P : X → Type 0) → ((x : X) → p x ≡ true → P x) → (xs : List X) → list_all p xs ≡ true → All P xs
 All-from_list_all p P says [] h = All-nil P
 All-from_list_all p P says (x ∷ xs) h =
     All-cons P x xs (says x (left_and (p x) (list_all p xs) h)) (All-from_list_all p P says xs (right_and (p x) (list_all p xs) h))
@@ -120,14 +120,16 @@ ascends_count low high (n ∷ ns) h =
     let below : n ≤ high = leb-true n high (right_and (nat_le low n) (nat_le n high) bounds) in
     omega (arith, ascends_count (n + 1) high ns (right_and (nat_le low n && nat_le n high) (ascends (n + 1) high ns) h))
 
--- a store may have this many versions and extents, and an extent has a byte
+-- a store may have this many versions, extents, bytes of an extent and bytes of a chunk, and an extent has a byte
 pub record IsBounded (s : Sizes) : Type 0 where
   pub retain : s.retain ≤ 256
   pub extents : s.extents ≤ 65536
   pub extent : 1 ≤ s.extent
+  pub extent_high : s.extent ≤ 16777216
+  pub chunk : s.max ≤ 65536
 
 pub bounded_of : (shape : Shape) → IsBounded (sizes_of shape)
-bounded_of shape = record { retain = shape.in_range.retain_high; extents = shape.in_range.extents_high; extent = omega (arith, shape.in_range.extent_low) }
+bounded_of shape = record { retain = shape.in_range.retain_high; extents = shape.in_range.extents_high; extent = omega (arith, shape.in_range.extent_low); extent_high = shape.in_range.extent_high; chunk = shape.in_range.max_high }
 
 -- the lists of one owner after the other
 pub record OwnFew (top : ℕ) (numbers : List ℕ) : Type 0 where

@@ -1,6 +1,7 @@
 pub mod Agreement
 pub mod Catalogue
 pub mod Damages
+pub mod Giving
 pub mod Growing
 pub mod Ledger
 pub mod Loading
@@ -10,6 +11,7 @@ pub mod Rules
 pub mod Shown
 pub mod Sound
 pub mod Spelling
+pub mod Splitting
 pub mod Standing
 pub mod Steps
 pub mod Walks

@@ -11,7 +11,7 @@ ghost use Rattle.bd_catalog.specs.Ledger.{found_alone, found_in, IsPlaced, HasRo
 ghost use Rattle.bd_catalog.specs.Rules.{obeys, catalogue_of};
 ghost use Rattle.bd_catalog.specs.Spelling.{spelled};
 ghost use Rattle.bd_catalog.specs.Shown.{catalogue_of_contents, version_entry, volume_entry, open_entry};
-ghost use Rattle.bd_catalog.specs.Steps.{after_step, brought, stepped, with_catalogue, Fits, InOtherHalf, IsMade, LeavesEither};
+ghost use Rattle.bd_catalog.specs.Steps.{after_step, brought, stepped, with_catalogue, Fits, InOtherHalf, IsMade, LeavesEither, NeedsRoom};
 
 use crate::contents::Contents;
 use crate::decode::take_contents;
@@ -177,23 +177,27 @@ impl Catalog {
         self.contents.reserve(self.shape.extents())
     }
 
-    // Makes the step in memory alone. The half stays.
-    fn make(&mut self, step: Step)
-        requires reserved { HasRoom self.old }
+    // Makes the step in memory alone, where what it gives up is free at once. The half stays.
+    fn make(&mut self, space: &mut Space, step: Step)
+        requires reserved { NeedsRoom step → HasRoom self.old }
         requires fits { Fits self.old.found.sizes self.old.found.catalogue step }
-        ensures { self.new.found ≡ with_catalogue self.old.found (stepped self.old.found.catalogue step) }
+        requires owners { TakenExactly space.old (all_extents self.old.found.catalogue ++ brought step) }
+        ensures found { self.new.found ≡ with_catalogue self.old.found (stepped self.old.found.catalogue step) }
+        ensures owners { TakenExactly space.new (all_extents (stepped self.old.found.catalogue step)) }
+        ensures extents { extent_count space.new ≡ extent_count space.old }
+        ensures held { held_count space.new ≡ held_count space.old }
     {
         match step {
             Step::Backup { version, fresh } => self.contents.back_up(self.alloc, version, fresh),
-            Step::Expire => unreachable!(),
-            Step::Arrange { .. } => unreachable!(),
+            Step::Expire => self.contents.expire(space),
+            Step::Arrange { volume, splits } => self.contents.arrange(space, volume, splits),
         }
     }
 
     /// Makes the step, in memory and on the disk: writes the catalogue after it into the half that isn't the newest, with
-    /// four or six calls of the disk. Takes no memory.
+    /// four or six calls of the disk and no other. Takes no memory.
     ///
-    /// A stop at any moment leaves the old catalogue or the new one. After `Failed` the catalogue isn't used again.
+    /// Once it answered Ok, what the step gave up is free in the space. A stop at any moment leaves the old catalogue or the new one. After `Failed` the catalogue isn't used again.
     pub fn commit<D: Disk>(
         &mut self,
         disk: &mut D,
@@ -201,7 +205,7 @@ impl Catalog {
         step: Step,
     ) -> Result<(), Failed>
         requires room { disk_bytes self.old.found.sizes ≤ D.bytes disk.old }
-        requires reserved { HasRoom self.old }
+        requires reserved { NeedsRoom step → HasRoom self.old }
         requires fits { Fits self.old.found.sizes self.old.found.catalogue step }
         requires agrees { D.tells → Agrees self.old.found (D.history disk.old) }
         // The space counts as taken what the catalogue and the step own, each number once.
@@ -215,7 +219,7 @@ impl Catalog {
         ensures extents { extent_count space.new ≡ extent_count space.old }
         ensures held { held_count space.new ≡ held_count space.old }
     {
-        self.make(step);
+        self.make(space, step);
         let half = write_beside(
             disk,
             &self.shape,

@@ -1,4 +1,4 @@
-use Rattle.std.proofs.Common.{◌≡◌, ◌+◌, ◌-◌, ◌%◌, ◌++◌, length, sym, ◌∙◌, ap, subst, arith}
+use Rattle.std.proofs.Common.{◌≡◌, ◌+◌, ◌-◌, ◌%◌, length, sym, ◌∙◌, ap, subst, arith}
 use Rattle.std.specs.Prelude.{IsTrue}
 use Rattle.std.proofs.Math.Nat.{mod-lt}
 use Rattle.bd_disk.specs.History.{History, contents}
@@ -7,7 +7,6 @@ use Rattle.bd_disk.specs.Runs.{Writes}
 use Rattle.bd_disk.proofs.RunLemmas.{written}
 use Rattle.bd_model.specs.Sizes.{sizes_of}
 use Rattle.bd_space.specs.Allotment.{TakenExactly}
-use Rattle.bd_space.proofs.Exact.{TakenExactly-permutation}
 use Rattle.bd_gate.specs.Halves.{Half}
 use Rattle.bd_gate.specs.Standing.{IsBeside, next_turn}
 use Rattle.bd_catalog.specs.Catalogue.{Catalogue, all_extents}
@@ -16,24 +15,23 @@ use Rattle.bd_catalog.specs.Opening.{Found}
 use Rattle.bd_catalog.specs.Rules.{obeys}
 use Rattle.bd_catalog.specs.Shown.{catalogue_of_contents}
 use Rattle.bd_catalog.specs.Spelling.{spelled}
-use Rattle.bd_catalog.specs.Steps.{brought, catalogue_calls, stepped, InOtherHalf, LeavesBeside, StopsBeside}
+use Rattle.bd_catalog.specs.Steps.{catalogue_calls, stepped, InOtherHalf, LeavesBeside, StopsBeside}
 use Rattle.bd_catalog.proofs.Committing.{other-beside, other-next, is-made, leaves-either}
 use Rattle.bd_catalog.proofs.Framing.{length-written_back}
 use Rattle.bd_catalog.proofs.Lengths.{length-spelled}
 use Rattle.bd_catalog.proofs.Obeying.{IsBounded, bounded_of}
-use Rattle.bd_catalog.proofs.Owning.{own-stepped}
 use Rattle.bd_catalog.proofs.catalog.Catalog.commit.Goals as goal
 
 pub write_beside-requires-clause-ready : goal.write_beside-requires-clause-ready
 write_beside-requires-clause-ready g c = λ told.
     let found = c.args.self.now.found in
-    let same = sym (ap (λ (l : Ledger). l.found) c.self.view_is ∙ c.make.ensures) in
+    let same = sym (ap (λ (l : Ledger). l.found) c.self.view_is ∙ c.make.ensures.found) in
     subst (λ (f : Found). IsBeside f.sizes (1 - f.half.number) f.half.other_open (g.D.Disk.history c.args.disk.now)) same (other-beside found (g.D.Disk.history c.args.disk.now) (c.requires.agrees told))
 
 pub write_beside-requires-clause-next : goal.write_beside-requires-clause-next
 write_beside-requires-clause-next g c = λ told.
     let found = c.args.self.now.found in
-    let same = sym (ap (λ (l : Ledger). l.found) c.self.view_is ∙ c.make.ensures) in
+    let same = sym (ap (λ (l : Ledger). l.found) c.self.view_is ∙ c.make.ensures.found) in
     subst (λ (f : Found). (f.half.turn + 1) % 3 ≡ next_turn f.sizes (1 - f.half.number) (contents (g.D.Disk.history c.args.disk.now))) same (other-next found (g.D.Disk.history c.args.disk.now) (c.requires.agrees told))
 
 pub log_place-self-inside-requires-clause-fits : goal.log_place-self-inside-requires-clause-fits
@@ -61,14 +59,12 @@ invariant_of-self-2 g c =
 
 pub returns-clause-owners : goal.returns-clause-owners
 returns-clause-owners g c =
-    let found = c.args.self.now.found in
-    let same = sym (ap (λ (l : Ledger). l.found) c.self.view_is ∙ c.make.ensures) in
-    subst (λ (f : Found). TakenExactly c.args.space.now (all_extents f.catalogue)) same
-    (TakenExactly-permutation c.args.space.now (all_extents found.catalogue ++ brought c.args.step) (all_extents (stepped found.catalogue c.args.step)) (own-stepped found.catalogue c.args.step) c.requires.owners)
+    let same = sym (ap (λ (l : Ledger). l.found) c.self.view_is ∙ c.make.ensures.found) in
+    subst (λ (f : Found). TakenExactly c.make.new.space (all_extents f.catalogue)) same c.make.ensures.owners
 
 pub returns-in_err-half-clause-disk : goal.returns-in_err-half-clause-disk
 returns-in_err-half-clause-disk g c =
-    let same = ap (λ (l : Ledger). l.found) c.self.view_is ∙ c.make.ensures in
+    let same = ap (λ (l : Ledger). l.found) c.self.view_is ∙ c.make.ensures.found in
     subst (λ (f : Found). Writes g.D.Disk (InOtherHalf f) c.args.disk.now c.write_beside.new.disk) same c.write_beside.ensures.disk
 
 pub returns-in_err-half-clause-either : goal.returns-in_err-half-clause-either
@@ -77,7 +73,7 @@ returns-in_err-half-clause-either g c = λ told.
     let after : Catalogue = stepped found.catalogue c.args.step in
     let old : History = g.D.Disk.history c.args.disk.now in
     let new : History = g.D.Disk.history c.write_beside.new.disk in
-    let same = ap (λ (l : Ledger). l.found) c.self.view_is ∙ c.make.ensures in
+    let same = ap (λ (l : Ledger). l.found) c.self.view_is ∙ c.make.ensures.found in
     let bounded : IsBounded found.sizes = subst (λ (f : Found). IsBounded f.sizes) same (bounded_of c.self.inside.shape) in
     let rules : IsTrue (obeys found.sizes after) = subst (λ (f : Found). IsTrue (obeys f.sizes f.catalogue)) same c.self.invariant.obeys_rules in
     leaves-either found old (c.requires.agrees told) after bounded rules new
@@ -86,7 +82,7 @@ returns-in_err-half-clause-either g c = λ told.
 
 pub returns-clause-disk : goal.returns-clause-disk
 returns-clause-disk g c =
-    let same = ap (λ (l : Ledger). l.found) c.self.view_is ∙ c.make.ensures in
+    let same = ap (λ (l : Ledger). l.found) c.self.view_is ∙ c.make.ensures.found in
     subst (λ (f : Found). Writes g.D.Disk (InOtherHalf f) c.args.disk.now c.write_beside.new.disk) same c.write_beside.ensures.disk
 
 pub returns-clause-either : goal.returns-clause-either
@@ -95,7 +91,7 @@ returns-clause-either g c = λ told.
     let after : Catalogue = stepped found.catalogue c.args.step in
     let old : History = g.D.Disk.history c.args.disk.now in
     let new : History = g.D.Disk.history c.write_beside.new.disk in
-    let same = ap (λ (l : Ledger). l.found) c.self.view_is ∙ c.make.ensures in
+    let same = ap (λ (l : Ledger). l.found) c.self.view_is ∙ c.make.ensures.found in
     let bounded : IsBounded found.sizes = subst (λ (f : Found). IsBounded f.sizes) same (bounded_of c.self.inside.shape) in
     let rules : IsTrue (obeys found.sizes after) = subst (λ (f : Found). IsTrue (obeys f.sizes f.catalogue)) same c.self.invariant.obeys_rules in
     leaves-either found old (c.requires.agrees told) after bounded rules new
@@ -108,7 +104,7 @@ returns-clause-done g c = λ told.
     let after : Catalogue = stepped found.catalogue c.args.step in
     let old : History = g.D.Disk.history c.args.disk.now in
     let new : History = g.D.Disk.history c.write_beside.new.disk in
-    let same = ap (λ (l : Ledger). l.found) c.self.view_is ∙ c.make.ensures in
+    let same = ap (λ (l : Ledger). l.found) c.self.view_is ∙ c.make.ensures.found in
     let bounded : IsBounded found.sizes = subst (λ (f : Found). IsBounded f.sizes) same (bounded_of c.self.inside.shape) in
     let rules : IsTrue (obeys found.sizes after) = subst (λ (f : Found). IsTrue (obeys f.sizes f.catalogue)) same c.self.invariant.obeys_rules in
     is-made found old (c.requires.agrees told) after bounded rules new

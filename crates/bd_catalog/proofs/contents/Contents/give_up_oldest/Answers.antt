@@ -1,0 +1,29 @@
+use Rattle.std.proofs.Common.{◌≡◌, ◌++◌, sym, subst, arith}
+use Rattle.bd_catalog.specs.declared.rows.ClosedVolume.{ClosedVolume}
+use Rattle.bd_catalog.specs.declared.rows.VersionRow.{VersionRow}
+use Rattle.bd_catalog.specs.Giving.{AreOwned, GivesUp}
+use Rattle.bd_catalog.specs.Shown.{catalogue_of_contents}
+use Rattle.bd_catalog.specs.Splitting.{expired}
+use Rattle.bd_catalog.proofs.GivenUp.{expired_two, gives_both, owned_first, owned_second}
+use Rattle.bd_catalog.proofs.contents.Contents.give_up_oldest.Goals as goal
+
+pub release-requires : goal.release-requires
+release-requires c =
+    let v : VersionRow = c.remove-version.result in
+    let w : ClosedVolume = c.remove-volume.result in
+    let parts : expired (catalogue_of_contents c.args.self.now) ≡ v.recipe.numbers ++ w.extents.numbers = expired_two c.args.self.now v w c.requires.two (omega (arith, c.requires.two, c.requires.volumes)) c.remove-version.ensures.value c.remove-volume.ensures.value in
+    owned_second c.args.space.now v.recipe.numbers w.extents.numbers (subst (AreOwned c.args.space.now) parts c.requires.owned)
+
+pub release-requires-2 : goal.release-requires-2
+release-requires-2 c =
+    let v : VersionRow = c.remove-version.result in
+    let w : ClosedVolume = c.remove-volume.result in
+    let parts : expired (catalogue_of_contents c.args.self.now) ≡ v.recipe.numbers ++ w.extents.numbers = expired_two c.args.self.now v w c.requires.two (omega (arith, c.requires.two, c.requires.volumes)) c.remove-version.ensures.value c.remove-volume.ensures.value in
+    owned_first v.recipe.numbers (subst (AreOwned c.args.space.now) parts c.requires.owned) c.release.ensures
+
+pub returns-clause-gives : goal.returns-clause-gives
+returns-clause-gives c =
+    let v : VersionRow = c.remove-version.result in
+    let w : ClosedVolume = c.remove-volume.result in
+    let parts : expired (catalogue_of_contents c.args.self.now) ≡ v.recipe.numbers ++ w.extents.numbers = expired_two c.args.self.now v w c.requires.two (omega (arith, c.requires.two, c.requires.volumes)) c.remove-version.ensures.value c.remove-volume.ensures.value in
+    subst (λ ns. GivesUp ns c.args.space.now c.release-2.new.space) (sym parts) (gives_both c.release.ensures c.release-2.ensures)
