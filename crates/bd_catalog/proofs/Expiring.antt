@@ -27,16 +27,16 @@ use Rattle.bd_catalog.proofs.Owning.{own-expire}
 
 -- ---- rules, put together
 
-obeys_by_rules : (s : Sizes) (c : Catalogue) → Rules s c → obeys s c ≡ true
+pub obeys_by_rules : (s : Sizes) (c : Catalogue) → Rules s c → obeys s c ≡ true
 obeys_by_rules s c r = λ k. r.numbers k && r.phase k && r.versions k && r.starts k && r.open_starts k && r.volumes k && r.actives k && r.extents k
 
 module _ (s : Sizes) (bounded : IsBounded s) where
-  row_by_facts : (row : CategoryRow) → RowHolds s bounded row → row_holds s row ≡ true
+  pub row_by_facts : (row : CategoryRow) → RowHolds s bounded row → row_holds s row ≡ true
   row_by_facts row h = λ k.
       le-leb 1 row.chunks h.some k && le-leb (37 * row.chunks) row.bytes h.least k && le-leb row.bytes ((36 + s.max) * row.chunks) h.most k && lt-ltb ((36 + s.max) * row.chunks) (2 ^ 64) h.fits k
 
   -- two rows are one, where their bytes lie in the extents that there are
-  rows_join : (one two : CategoryRow) (start : ℕ) → row_holds s one ≡ true → row_holds s two ≡ true → one.bytes + two.bytes ≤ s.extents * s.extent →
+  pub rows_join : (one two : CategoryRow) (start : ℕ) → row_holds s one ≡ true → row_holds s two ≡ true → one.bytes + two.bytes ≤ s.extents * s.extent →
       row_holds s (record { start = start; chunks = one.chunks + two.chunks; bytes = one.bytes + two.bytes }) ≡ true
   rows_join one two start h1 h2 inside =
       let a : RowHolds s bounded one = row_of s bounded one h1 in
@@ -94,12 +94,12 @@ module _ (s : Sizes) (bounded : IsBounded s) where
       ]
 
 -- numbers that ascend, by their first
-record AscendsFrom (low high n : ℕ) (ns : List ℕ) : Type 0 where
-  above : low ≤ n
-  below : n ≤ high
-  rest : ascends (n + 1) high ns ≡ true
+pub record AscendsFrom (low high n : ℕ) (ns : List ℕ) : Type 0 where
+  pub above : low ≤ n
+  pub below : n ≤ high
+  pub rest : ascends (n + 1) high ns ≡ true
 
-ascends_first : (low high n : ℕ) (ns : List ℕ) → ascends low high (n ∷ ns) ≡ true → AscendsFrom low high n ns
+pub ascends_first : (low high n : ℕ) (ns : List ℕ) → ascends low high (n ∷ ns) ≡ true → AscendsFrom low high n ns
 ascends_first low high n ns h =
     let bounds = nat_le low n && nat_le n high in
     let both : bounds ≡ true = left_and bounds (ascends (n + 1) high ns) h in
@@ -109,7 +109,7 @@ ascends_first low high n ns h =
       rest = right_and bounds (ascends (n + 1) high ns) h;
     }
 
-ascends_cons : (low high n : ℕ) (ns : List ℕ) → low ≤ n → n ≤ high → ascends (n + 1) high ns ≡ true → ascends low high (n ∷ ns) ≡ true
+pub ascends_cons : (low high n : ℕ) (ns : List ℕ) → low ≤ n → n ≤ high → ascends (n + 1) high ns ≡ true → ascends low high (n ∷ ns) ≡ true
 ascends_cons low high n ns above below rest = λ k. le-leb low n above k && le-leb n high below k && rest k
 
 begun_ascend : (o j : ℕ) (rows : List CategoryRow) → o + 1 ≤ j → ascends o j (starts_of rows) ≡ true → ascends (o + 1) j (starts_of (rows_from (o + 1) rows)) ≡ true
@@ -193,7 +193,7 @@ differ_by_distinct (n ∷ ns) distinct =
     let rest : all_differ ns ≡ true = differ_by_distinct ns (distinct_tail n ns distinct) in
     λ k. not (none k) && rest k
 
-all_by_each : (p : ℕ → Bool) (ns : List ℕ) → ((n : ℕ) → Contains ns n → p n ≡ true) → list_all p ns ≡ true
+pub all_by_each : (p : ℕ → Bool) (ns : List ℕ) → ((n : ℕ) → Contains ns n → p n ≡ true) → list_all p ns ≡ true
 all_by_each p [] each = refl
 all_by_each p (n ∷ ns) each =
     let here : p n ≡ true = each n (first n ns n refl) in

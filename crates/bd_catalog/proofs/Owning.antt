@@ -69,11 +69,11 @@ own-backup c entry fresh =
 
 -- ---- splits
 
-abbrev in_categories : List OpenEntry → List ℕ
+abbrev pub in_categories : List OpenEntry → List ℕ
 in_categories cs = flat_map (λ a. a.extents) cs
 
 -- what is kept of one category comes, and what the category had goes
-put_times : (n i : ℕ) (kept cs : List OpenEntry) → IsDistinct nat_eq (starts cs) → Contains (starts cs) i →
+pub put_times : (n i : ℕ) (kept cs : List OpenEntry) → IsDistinct nat_eq (starts cs) → Contains (starts cs) i →
     times n (in_categories cs) + times n (in_categories kept) ≡ times n (in_categories (put_in_place i kept cs)) + times n (extents_at i cs)
 put_times n i kept [] differ has = absurd (omega (arith, has.1))
 put_times n i kept (a ∷ cs) differ has =
@@ -108,7 +108,7 @@ place_times n (e ∷ es) cs splits is_open =
       ap (times n) next.same,
     )
 
-last_times : (n : ℕ) (f : List CategoryRow → List CategoryRow) (added : List ℕ) (es : List VolumeEntry) → 1 ≤ length es →
+pub last_times : (n : ℕ) (f : List CategoryRow → List CategoryRow) (added : List ℕ) (es : List VolumeEntry) → 1 ≤ length es →
     times n (flat_map (λ e. e.extents) (last_grown f added es)) ≡ times n (flat_map (λ e. e.extents) es) + times n added
 last_times n f added [] some = absurd (omega (arith, some))
 last_times n f added (e ∷ []) some =
@@ -123,7 +123,7 @@ last_times n f added (e ∷ second ∷ es) some =
     )
 
 -- how often a number is owned
-all_times : (n : ℕ) (c : Catalogue) →
+pub all_times : (n : ℕ) (c : Catalogue) →
     times n (all_extents c) ≡ times n (flat_map (λ e. e.extents) c.versions) + times n (flat_map (λ e. e.extents) c.volumes) + times n (flat_map (λ e. e.extents) c.actives)
 all_times n c =
     let versions : List ℕ = flat_map (λ (e : VersionEntry). e.extents) c.versions in
@@ -181,7 +181,7 @@ own-expire c =
 -- ---- any step
 
 -- numbers that ascend differ
-distinct_ascending : (low high : ℕ) (ns : List ℕ) → ascends low high ns ≡ true → IsDistinct nat_eq ns
+pub distinct_ascending : (low high : ℕ) (ns : List ℕ) → ascends low high ns ≡ true → IsDistinct nat_eq ns
 unfolding IsDistinct
 distinct_ascending low high [] h = tt
 distinct_ascending low high (n ∷ ns) h =
@@ -196,7 +196,7 @@ distinct_ascending low high (n ∷ ns) h =
         let above : low ≤ n = leb-true low n (left_and (nat_le low n) (nat_le n high) (left_and bounds (ascends (n + 1) high ns) h)) in
         ⊎_elim (λ same. omega (arith, same, above, less)) (λ later. below_none (n + 1) high ns (right_and bounds (ascends (n + 1) high ns) h) k (omega (arith, above, less)) later) (among n ns k has)
 
-open_ascend : (c : Catalogue) → actives_hold c ≡ true → ascends (c.base + 1) c.newest (map (λ e. e.row.start) c.actives) ≡ true
+pub open_ascend : (c : Catalogue) → actives_hold c ≡ true → ascends (c.base + 1) c.newest (map (λ e. e.row.start) c.actives) ≡ true
 open_ascend c h = left_and (ascends (c.base + 1) c.newest (map (λ e. e.row.start) c.actives)) (nat_lt 0 (length c.versions) || length c.actives == 0) h
 
 -- splits that ascend, of open categories that ascend, are of different ones

@@ -1,10 +1,11 @@
-//! What holds of every catalogue's spelling.
+//! What holds of every catalogue: of its spelling, and of what steps make of it.
 ghost use Rattle.std.specs.Prelude.{◌≡◌, ℕ, ◌≤◌, List, ◌++◌, length, IsTrue, Some};
 ghost use Rattle.bd_model.specs.declared.shape.Shape.{Shape};
 ghost use Rattle.bd_model.specs.Sizes.{Sizes, sizes_of, payload_room};
 ghost use Rattle.bd_catalog.specs.Catalogue.{Catalogue};
 ghost use Rattle.bd_catalog.specs.Rules.{obeys, catalogue_of};
 ghost use Rattle.bd_catalog.specs.Spelling.{spelled, read_catalogue};
+ghost use Rattle.bd_catalog.specs.Splitting.{after_expire, after_split, FitsExpire, MaySplit, SplitEntry};
 ghost use Rattle.bd_catalog.specs.Widths.{IsSpellable};
 
 /// A catalogue whose numbers fit their fields is read back from its spelling, and one that obeys the rules is such a
@@ -21,4 +22,11 @@ pub fn catalogues_read_back()
 
     ensures one { (c d : Catalogue) (rest others : List ℕ) → IsSpellable c → IsSpellable d → spelled c ++ rest ≡ spelled d ++ others
         → (c ≡ d) × (rest ≡ others) }
+{}
+
+/// A catalogue that obeys the rules does so after each split that may be made, and after an expiry.
+pub fn steps_keep_the_rules()
+    ensures split { (shape : Shape) (c : Catalogue) (e : SplitEntry) → IsTrue (obeys (sizes_of shape) c) → MaySplit (sizes_of shape) c e
+        → IsTrue (obeys (sizes_of shape) (after_split c e)) }
+    ensures expiry { (shape : Shape) (c : Catalogue) → IsTrue (obeys (sizes_of shape) c) → FitsExpire c → IsTrue (obeys (sizes_of shape) (after_expire c)) }
 {}

@@ -19,7 +19,7 @@ mod tests;
 
 pub use bd_model::{CategoryRow, Phase};
 pub use catalog::Catalog;
-pub use laws::catalogues_read_back;
+pub use laws::{catalogues_read_back, steps_keep_the_rules};
 pub use load::LoadFault;
 pub use rows::{ActiveCategory, Actives, ClosedVolume, OwnsExtents, Rows, VersionRow};
 pub use step::{SplitRow, Splits, Step};
