@@ -74,7 +74,7 @@ flat_map-last f xs x = flat_map-append f xs (x ∷ []) ∙ ap (λ (ns : List ℕ
 same_head : {X : Type 0} {x y : X} {xs ys : List X} → x ∷ xs ≡ y ∷ ys → x ≡ y
 same_head e = cc e
 
-same_tail : {X : Type 0} {x y : X} {xs ys : List X} → x ∷ xs ≡ y ∷ ys → xs ≡ ys
+pub same_tail : {X : Type 0} {x y : X} {xs ys : List X} → x ∷ xs ≡ y ∷ ys → xs ≡ ys
 same_tail e = cc e
 
 -- one volume more has its rows from the oldest version on
