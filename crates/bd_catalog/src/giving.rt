@@ -1,4 +1,4 @@
-//! What a step gives up: extents, the oldest version, and open categories that were split.
+//! What is given up: extents, and the oldest version.
 ghost use Rattle.std.specs.Prelude.{◌≡◌, ◌≢◌, ℕ, ◌+◌, ◌-◌, ◌^◌, ◌<◌, ◌≤◌, [], map, length, All, IsTrue};
 ghost use Rattle.std.specs.List.{flat_map};
 ghost use Rattle.bd_model.specs.Laws.{rows_from};
@@ -8,7 +8,7 @@ ghost use Rattle.bd_catalog.specs.Shown.{catalogue_of_contents, open_entry, volu
 ghost use Rattle.bd_catalog.specs.Splitting.{after_expire, begun_from, expired};
 
 use crate::contents::Contents;
-use crate::rows::{Actives, ClosedVolume, Rows};
+use crate::rows::{Actives, ClosedVolume, Rows, VersionRow};
 use bd_model::{CategoryRow, Phase};
 use bd_space::{Owned, Space};
 
@@ -18,6 +18,14 @@ pub(crate) fn release(space: &mut Space, owner: Owned)
     ensures { GivesUp owner.numbers space.old space.new }
 {
     space.give_back(owner);
+}
+
+// The extents of the version's recipe are free.
+fn release_recipe(space: &mut Space, version: VersionRow)
+    requires { AreOwned space.old version.recipe.numbers }
+    ensures { GivesUp version.recipe.numbers space.old space.new }
+{
+    release(space, version.recipe);
 }
 
 // The extents of all these categories are free, and none is left.
@@ -79,7 +87,7 @@ impl Contents {
     {
         release_all(space, &mut self.actives);
         if let Some(version) = self.versions.pop() {
-            release(space, version.recipe);
+            release_recipe(space, version);
         }
         self.base = self.newest;
         self.phase = Phase::Settled;
@@ -99,7 +107,7 @@ impl Contents {
         let version = self.versions.remove(0);
         let volume = self.volumes.remove(0);
         release(space, volume.extents);
-        release(space, version.recipe);
+        release_recipe(space, version);
         begin_volumes(&mut self.volumes, oldest);
     }
 

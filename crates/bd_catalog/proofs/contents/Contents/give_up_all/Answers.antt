@@ -15,8 +15,8 @@ release_all-requires c =
     subst (AreOwned c.args.space.now) (flat_map-map (λ (e : OpenEntry). e.extents) open_entry c.args.self.now.actives.items)
     (owned_second c.args.space.now (flat_map (λ (e : VersionEntry). e.extents) d.versions ++ flat_map (λ (e : VolumeEntry). e.extents) d.volumes) (flat_map (λ (e : OpenEntry). e.extents) d.actives) c.requires.owned)
 
-pub release-requires : goal.release-requires
-release-requires c =
+pub release_recipe-requires : goal.release_recipe-requires
+release_recipe-requires c =
     let v : VersionRow = c.in-Some.version in
     let parts : all_extents (catalogue_of_contents c.args.self.now) ≡ v.recipe.numbers ++ flat_map (λ (a : ActiveCategory). a.extents.numbers) c.args.self.now.actives.items =
     owned_alone c.args.self.now c.pop.new.self.items v c.requires.one c.requires.volumes c.in-Some.ensures.items in
@@ -30,6 +30,6 @@ returns-clause-gives c =
           let parts : all_extents (catalogue_of_contents c.args.self.now) ≡ v.recipe.numbers ++ flat_map (λ (a : ActiveCategory). a.extents.numbers) c.args.self.now.actives.items =
           owned_alone c.args.self.now c.pop.new.self.items v c.requires.one c.requires.volumes w.in-Some.ensures.items in
           subst (λ ns. GivesUp ns c.args.space.now c.match-pop.space) (sym parts)
-          (gives_both c.release_all.ensures.gives (subst (GivesUp v.recipe.numbers c.release_all.new.space) (sym w.space-is) w.release.ensures))
+          (gives_both c.release_all.ensures.gives (subst (GivesUp v.recipe.numbers c.release_all.new.space) (sym w.space-is) w.release_recipe.ensures))
       | in_default w ↦ absurd (omega (arith, c.requires.one, ap (λ (xs : List VersionRow). length xs) w.in_default.ensures.items, w.in_default.ensures))
     ]

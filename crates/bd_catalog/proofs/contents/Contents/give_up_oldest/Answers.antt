@@ -14,8 +14,8 @@ release-requires c =
     let parts : expired (catalogue_of_contents c.args.self.now) ≡ v.recipe.numbers ++ w.extents.numbers = expired_two c.args.self.now v w c.requires.two (omega (arith, c.requires.two, c.requires.volumes)) c.remove-version.ensures.value c.remove-volume.ensures.value in
     owned_second c.args.space.now v.recipe.numbers w.extents.numbers (subst (AreOwned c.args.space.now) parts c.requires.owned)
 
-pub release-requires-2 : goal.release-requires-2
-release-requires-2 c =
+pub release_recipe-requires : goal.release_recipe-requires
+release_recipe-requires c =
     let v : VersionRow = c.remove-version.result in
     let w : ClosedVolume = c.remove-volume.result in
     let parts : expired (catalogue_of_contents c.args.self.now) ≡ v.recipe.numbers ++ w.extents.numbers = expired_two c.args.self.now v w c.requires.two (omega (arith, c.requires.two, c.requires.volumes)) c.remove-version.ensures.value c.remove-volume.ensures.value in
@@ -26,4 +26,4 @@ returns-clause-gives c =
     let v : VersionRow = c.remove-version.result in
     let w : ClosedVolume = c.remove-volume.result in
     let parts : expired (catalogue_of_contents c.args.self.now) ≡ v.recipe.numbers ++ w.extents.numbers = expired_two c.args.self.now v w c.requires.two (omega (arith, c.requires.two, c.requires.volumes)) c.remove-version.ensures.value c.remove-volume.ensures.value in
-    subst (λ ns. GivesUp ns c.args.space.now c.release-2.new.space) (sym parts) (gives_both c.release.ensures c.release-2.ensures)
+    subst (λ ns. GivesUp ns c.args.space.now c.release_recipe.new.space) (sym parts) (gives_both c.release.ensures c.release_recipe.ensures)
