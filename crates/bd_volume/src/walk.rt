@@ -31,15 +31,16 @@ fn put_volume(pieces: &mut Pieces, number: u32, volume: &ClosedVolume, version: 
 {
     let mut from = 0;
     for row in volume.rows.as_slice() {
+        let to = from + row.bytes;
         let piece = Piece {
             who: Owner::Volume(number),
             start: row.start,
             from,
-            to: from + row.bytes,
+            to,
             chunks: row.chunks,
         };
         put_begun(pieces, piece, version);
-        from += row.bytes;
+        from = to;
     }
 }
 

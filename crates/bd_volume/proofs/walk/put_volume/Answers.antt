@@ -31,8 +31,8 @@ loop-row-preserved c =
       spare = omega (arith, inv.spare, c.put_begun.ensures.spare);
     }
 
-pub overflow_add-piece : goal.overflow_add-piece
-overflow_add-piece c =
+pub overflow_add-to : goal.overflow_add-to
+overflow_add-to c =
     let i = c.loop-row.row-index in
     let rows = c.args.volume.now.rows.items in
     let row = get_or c.as_slice-row-items.result.now i none in
