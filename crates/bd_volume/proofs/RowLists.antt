@@ -20,6 +20,7 @@ use Rattle.bd_catalog.specs.Catalogue.{Catalogue, VolumeEntry, bytes_of_rows, ol
 use Rattle.bd_catalog.specs.Rows.{RowPlace, begun_by, row_place, rows_from, rows_in, volume_rows}
 use Rattle.bd_catalog.specs.Rules.{fits_eight, obeys, row_holds, volume_holds}
 use Rattle.bd_catalog.proofs.StandingFound.{numbers-each, obeys-each}
+use Rattle.bd_volume.specs.Pieces.{closed_rows}
 
 pub begun-append : (v : ℕ) (xs ys : List RowPlace) → begun_by v (xs ++ ys) ≡ begun_by v xs ++ begun_by v ys
 begun-append v xs ys = filter-append (λ (p : RowPlace). nat_le p.row.start v) xs ys
@@ -69,6 +70,10 @@ closed_is s c number e rules is =
 
 pub rows_of : {c : Catalogue} {number : ℕ} {e : VolumeEntry} → ClosedIs c number e → volume_rows c number ≡ rows_from (Volume number) e.extents 0 e.rows
 rows_of {c} {number} {e} is = λ k. rows_from (Volume number) (sym is.extents k) 0 (sym is.rows k)
+
+-- so many rows it has
+pub length-closed : (c : Catalogue) (number : ℕ) (e : VolumeEntry) → closed_rows number e ≡ volume_rows c number → length (volume_rows c number) ≡ length e.rows
+length-closed c number e is = ap (λ l. length l) (sym is) ∙ length-rows_from (Volume number) e.extents 0 e.rows
 
 -- a retained version has a number
 pub oldest_some : (s : Sizes) (c : Catalogue) → IsTrue (obeys s c) → 1 ≤ oldest_in c

@@ -1,7 +1,7 @@
 //! The rows that a restore walks over.
 ghost use Rattle.std.specs.Prelude.{◌≡◌, ◌+◌, ◌^◌, ◌<◌, ◌≤◌, [], ◌∷◌, ◌++◌, length, map, nat_le, if◌then◌else◌, IfOk, IfSome, IsTrue};
 ghost use Rattle.bd_catalog.specs.Catalogue.{bytes_of_rows, oldest_in};
-ghost use Rattle.bd_catalog.specs.Rows.{open_row, walk};
+ghost use Rattle.bd_catalog.specs.Rows.{open_row, volume_rows, walk};
 ghost use Rattle.bd_catalog.specs.Rules.{obeys};
 ghost use Rattle.bd_catalog.specs.Shown.{open_entry, volume_entry};
 ghost use Rattle.bd_volume.specs.Pieces.{closed_rows, pieces_of, place_of, rows_closed_from};
@@ -44,6 +44,17 @@ fn put_volume(pieces: &mut Pieces, number: u32, volume: &ClosedVolume, version: 
     }
 }
 
+// The closed volume of this number.
+fn closed(catalog: &Catalog, number: u32) -> &ClosedVolume
+    requires rules { IsTrue (obeys catalog.now.found.sizes catalog.now.found.catalogue) }
+    requires oldest { oldest_in catalog.now.found.catalogue ≤ number }
+    requires newest { number < catalog.now.found.catalogue.newest }
+    ensures rows { closed_rows number (volume_entry result.now) ≡ volume_rows catalog.now.found.catalogue number }
+    ensures short { bytes_of_rows result.now.rows.items < 2 ^ 64 }
+{
+    catalog.volume(number).unwrap()
+}
+
 // Puts the rows of the version's own and of later closed volumes behind the others, those that begin at it or before.
 fn put_volumes(pieces: &mut Pieces, catalog: &Catalog, version: u32)
     requires rules { IsTrue (obeys catalog.now.found.sizes catalog.now.found.catalogue) }
@@ -54,7 +65,7 @@ fn put_volumes(pieces: &mut Pieces, catalog: &Catalog, version: u32)
     ensures spare { pieces.old.spare ≤ pieces.new.spare + length (rows_closed_from catalog.now.found.catalogue version) }
 {
     for number in version..catalog.newest() {
-        let volume = catalog.volume(number).unwrap();
+        let volume = closed(catalog, number);
         put_volume(pieces, number, volume, version);
     }
 }
@@ -86,7 +97,7 @@ fn rows_ahead(catalog: &Catalog, version: u32) -> Option<usize>
 {
     let mut count = catalog.actives().len();
     for number in version..catalog.newest() {
-        let volume = catalog.volume(number).unwrap();
+        let volume = closed(catalog, number);
         count = count.checked_add(volume.rows.len())?;
     }
     Some(count)

@@ -2,10 +2,9 @@ use Rattle.std.proofs.Common.{◌≡◌, ◌+◌, ◌-◌, length, length-append
 use Rattle.std.proofs.lemmas.List.{length-map}
 use Rattle.std.specs.List.{flat_map, range_with_len}
 use Rattle.bd_model.specs.Chunks.{numbers}
-use Rattle.bd_model.specs.declared.damage.Owner.TheVariants.{Volume}
 use Rattle.bd_catalog.specs.Rows.{volume_rows}
 use Rattle.bd_catalog.specs.Shown.{open_entry, volume_entry}
-use Rattle.bd_volume.proofs.RowLists.{ClosedIs, all_numbers, closed_is, length-rows_from, rows_of, volumes_next}
+use Rattle.bd_volume.proofs.RowLists.{all_numbers, length-closed, volumes_next}
 use Rattle.bd_volume.proofs.walk.rows_ahead.Goals as goal
 
 pub loop-number-init : goal.loop-number-init
@@ -18,15 +17,12 @@ loop-number-init c =
 
 pub loop-number-preserved : goal.loop-number-preserved
 loop-number-preserved c =
-    let s = c.args.catalog.now.found.sizes in
     let cat = c.args.catalog.now.found.catalogue in
     let v = c.args.version in
     let n = c.loop-number.number in
-    let e = volume_entry c.unwrap-volume.result.now in
-    let is : ClosedIs cat n e = closed_is s cat n e c.requires.rules (rw c.unwrap-volume.ensures at c.volume.ensures.row) in
     let below = flat_map (volume_rows cat) (range_with_len v (n - v)) in
     let next = ap (λ l. length l) (volumes_next cat v n c.loop-number.auto.number) in
-    let mine : length (volume_rows cat n) ≡ length e.rows = ap (λ l. length l) (rows_of is) ∙ length-rows_from (Volume n) e.extents 0 e.rows in
+    let mine = length-closed cat n (volume_entry c.closed-volume.result.now) c.closed-volume.ensures.rows in
     omega (arith, c.loop-number.invariant, next, mine, length-append below (volume_rows cat n), c.len.ensures, c.in_ok-count.ensures)
 
 pub returns : goal.returns
