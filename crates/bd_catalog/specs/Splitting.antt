@@ -119,6 +119,15 @@ pub record MaySplit (s : Sizes) (c : Catalogue) (e : SplitEntry) : Type 0 where
   pub extents_below : All (λ n. n < s.extents) (e.added ++ flat_map (λ a. a.extents) e.kept)
   pub once : IsTrue (all_differ (all_extents c ++ e.added ++ flat_map (λ a. a.extents) e.kept))
 
+-- splits each of which may be made once the ones before it were
+abbrev pub MaySplits : Sizes → Catalogue → List SplitEntry → Type 0
+MaySplits s c [] = Unit {0}
+MaySplits s c (e ∷ es) = MaySplit s c e × MaySplits s (after_split c e) es
+
+-- what is kept of a split
+abbrev pub kept_of : SplitEntry → KeptEntry
+kept_of e = record { start = e.start; kept = e.kept }
+
 -- ---- giving up the oldest version
 
 -- a volume where this is the oldest version
