@@ -2,7 +2,7 @@
 use crate::rows::{ActiveCategory, ClosedVolume, VersionRow};
 use bd_model::Sequence;
 
-/// What becomes of open categories.
+/// What becomes of open categories, ascending by their starts.
 pub type Splits = Sequence<SplitRow>;
 
 /// What becomes of one open category.
@@ -22,9 +22,10 @@ pub enum Step {
         version: VersionRow,
         fresh: Option<ActiveCategory>,
     },
-    /// The oldest version goes.
+    /// The oldest version goes, with its recipe and its closed volume; with the only version everything goes.
     Expire,
-    /// The newest closed volume gets these rows, and these extents behind its own.
+    /// The newest closed volume gets these rows, and these extents behind its own. What is kept of each category that was
+    /// split stands in its place, every other open category stays, and the store is settled.
     Arrange {
         volume: ClosedVolume,
         splits: Splits,
