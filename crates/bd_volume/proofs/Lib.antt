@@ -1,4 +1,5 @@
 pub mod ChunkCounts
+pub mod Copying
 pub mod Held
 pub mod HeldRows
 pub mod HeldWalk
