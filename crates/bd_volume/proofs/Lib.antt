@@ -1,3 +1,4 @@
+pub mod Appended
 pub mod ChunkCounts
 pub mod Copying
 pub mod Held
@@ -7,6 +8,8 @@ pub mod MappedLists
 pub mod NamedPlaces
 pub mod Naming
 pub mod RowLists
+pub mod RowsMore
 pub mod StoredChunks
+pub mod Taking
 pub mod Unnamed
 pub mod WalkRecords
