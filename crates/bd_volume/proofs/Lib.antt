@@ -1,6 +1,7 @@
 pub mod Appended
 pub mod ChunkCounts
 pub mod Copying
+pub mod Fills
 pub mod Held
 pub mod HeldRows
 pub mod HeldWalk
