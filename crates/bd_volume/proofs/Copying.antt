@@ -16,7 +16,8 @@ use Rattle.bd_extio.specs.Ranges.{InOwner, owner_range}
 use Rattle.bd_extio.proofs.Places.{length-owner_bytes}
 use Rattle.bd_extio.proofs.Ranges.{overwritten-append}
 use Rattle.bd_extio.proofs.Within.{in_wider}
-use Rattle.bd_catalog.proofs.Agreeing.{InExtents, in_extents, owners_apart, same_owner_bytes}
+use Rattle.bd_catalog.specs.Agreement.{InExtents}
+use Rattle.bd_catalog.proofs.Agreeing.{in_extents, owners_apart, same_owner_bytes}
 use Rattle.bd_volume.specs.Copies.{AreApart, IsSection}
 use Rattle.bd_volume.specs.declared.copy.Section.{Section}
 
