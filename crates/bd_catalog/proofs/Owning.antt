@@ -59,7 +59,7 @@ own-with_entries c phase entry volumes actives nothing =
     subst (IsPermutation (all_extents c ++ (entry.extents ++ flat_map active actives))) same
     (put_between (flat_map version c.versions) (flat_map volume c.volumes) (flat_map active c.actives) entry.extents (flat_map active actives))
 
-own-backup : (c : Catalogue) (entry : VersionEntry) (fresh : List OpenEntry) → IsPermutation (all_extents c ++ (entry.extents ++ flat_map (λ (e : OpenEntry). e.extents) fresh)) (all_extents (after_backup c entry fresh))
+pub own-backup : (c : Catalogue) (entry : VersionEntry) (fresh : List OpenEntry) → IsPermutation (all_extents c ++ (entry.extents ++ flat_map (λ (e : OpenEntry). e.extents) fresh)) (all_extents (after_backup c entry fresh))
 own-backup c entry fresh =
     elim (retained_in c == 0)
     as (λ t. IsPermutation (all_extents c ++ (entry.extents ++ flat_map (λ (e : OpenEntry). e.extents) fresh)) (all_extents (cond t (with_entries c Settled entry [] fresh) (with_entries c (Waiting (c.base + 1)) entry (empty_volume ∷ []) fresh)))) [
