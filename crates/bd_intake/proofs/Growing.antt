@@ -1,5 +1,5 @@
 -- What is staged, one chunk after the other.
-use Rattle.std.proofs.Common.{◌≡◌, ℕ, ◌+◌, ◌*◌, ◌^◌, ◌≤◌, Bool, true, false, cond, not, ◌||◌, List, [], ◌∷◌, ◌++◌, length, filter, refl, sym, ◌∙◌, ap, subst, arith, append_assoc, length-append}
+use Rattle.std.proofs.Common.{◌≡◌, ℕ, ◌+◌, ◌*◌, ◌^◌, ◌≤◌, Bool, true, false, cond, not, ◌&&◌, ◌||◌, List, [], ◌∷◌, ◌++◌, length, filter, refl, sym, ◌∙◌, ap, subst, arith, append_assoc, length-append}
 use mir.Val.{bool_byte}
 use Rattle.std.specs.Str.{bytes_eq}
 use Rattle.std.specs.List.{AllByRecursion, concat}
@@ -8,22 +8,26 @@ use Rattle.std.proofs.lemmas.List.{append-nil}
 use Rattle.std.proofs.lemmas.List.Elements.{All-append, All-from_recursion, recursion_from_All}
 use Rattle.std.proofs.lemmas.List.Folds.{concat-append}
 use Rattle.std.proofs.lemmas.List.Sums.{sum_by-append}
-use Rattle.bd_model.specs.declared.shape.Shape.{Shape}
 use Rattle.bd_model.specs.Layout.{record_bytes}
 use Rattle.bd_model.specs.Marks.{mark}
 use Rattle.bd_model.specs.Room.{up}
+use Rattle.bd_model.specs.Recipe.{has_mark}
 use Rattle.bd_model.specs.Sizes.{Sizes, sizes_of}
+use Rattle.bd_model.specs.declared.layout.RecipeEntry.{RecipeEntry}
 use Rattle.bd_model.proofs.RoomLemmas.{up-enough}
 use Rattle.bd_space.specs.Allotment.{Allotment, free_count}
 use Rattle.bd_space.specs.Holding.{Holding}
 use Rattle.bd_extio.proofs.Places.{range_small}
 use Rattle.bd_catalog.specs.Standing.{BeginWith}
 use Rattle.bd_intake.specs.declared.staging.Staging.{Staging}
-use Rattle.bd_intake.specs.Firsts.{first_by_mark, knows, with_new, extents_of}
+use Rattle.bd_intake.specs.declared.terms.Terms.{Terms}
+use Rattle.bd_intake.specs.Firsts.{first_by_mark, new_by_mark, is_marked, knows, with_new, extents_of}
+use Rattle.bd_intake.specs.Given.{Given, given}
 use Rattle.bd_intake.specs.Places.{AreApart}
+use Rattle.bd_intake.specs.Seen.{AreUsed}
 use Rattle.bd_intake.specs.Spaces.{Adds, Owns}
 use Rattle.bd_intake.specs.Staging.{HasTaken, HasExtents, IsStaging, Grows}
-use Rattle.bd_intake.proofs.Firsts.{first_by_mark-push, is_marked-push}
+use Rattle.bd_intake.proofs.Firsts.{new_by_mark-push, is_marked-push}
 use Rattle.bd_intake.proofs.Owning.{owns_fresh, owns_recipe, owns_apart}
 use Rattle.bd_intake.proofs.Writing.{begins_longer}
 
@@ -82,6 +86,9 @@ pub firsts-few : (cs : List (List ℕ)) → length (first_by_mark cs) ≤ length
 firsts-few [] = omega arith
 firsts-few (c ∷ cs) = omega (arith, firsts-few cs, filter-few (λ d. not (bytes_eq (mark c) (mark d))) (first_by_mark cs))
 
+pub news-few : (old : List RecipeEntry) (cs : List (List ℕ)) → length (new_by_mark old cs) ≤ length cs
+news-few old cs = omega (arith, firsts-few cs, filter-few (λ c. not (has_mark old (mark c))) (first_by_mark cs))
+
 -- what is staged is small
 pub record IsSmall (staging : Staging) : Type 0 where
   pub entries : 40 * staging.chunks ≤ 2 ^ 40
@@ -89,38 +96,38 @@ pub record IsSmall (staging : Staging) : Type 0 where
   pub stream : staging.length ≤ 65536 * staging.chunks
   pub few : staging.fresh_chunks ≤ staging.chunks
 
-module _ (shape : Shape) (staging : Staging) where
+module _ (terms : Terms) (staging : Staging) where
   abbrev s : Sizes
-  s = sizes_of shape
+  s = sizes_of terms.shape
 
   pub some_extent : 1 ≤ s.extent
-  some_extent = omega (arith, shape.in_range.extent_low)
+  some_extent = omega (arith, terms.shape.in_range.extent_low)
 
-  pub staging_small : (taken : List (List ℕ)) → HasTaken s taken staging → HasExtents s staging → AreApart s staging.recipe.numbers staging.fresh.numbers → IsSmall staging
+  pub staging_small : (taken : List (List ℕ)) → HasTaken (given terms) taken staging → HasExtents s staging → AreApart s staging.recipe.numbers staging.fresh.numbers → IsSmall staging
   staging_small taken has long apart =
       let all = recursion_from_All (IsShort s.max) taken has.each in
-      let most = mul-le-mul_right {m = s.max} {n = 65536} (length taken) (omega (arith, shape.in_range.max_high)) in
+      let most = mul-le-mul_right {m = s.max} {n = 65536} (length taken) (omega (arith, terms.shape.in_range.max_high)) in
       record {
         entries = omega (
           arith,
           up-enough s.extent (40 * staging.chunks) (length staging.recipe.numbers) some_extent long.recipe,
-          range_small s staging.recipe.numbers apart.recipe_extents (omega (arith, shape.in_range.extents_high)) (omega (arith, shape.in_range.extent_high)),
+          range_small s staging.recipe.numbers apart.recipe_extents (omega (arith, terms.shape.in_range.extents_high)) (omega (arith, terms.shape.in_range.extent_high)),
         );
         records = omega (
           arith,
           up-enough s.extent staging.fresh_bytes (length staging.fresh.numbers) some_extent long.fresh,
-          range_small s staging.fresh.numbers apart.fresh_extents (omega (arith, shape.in_range.extents_high)) (omega (arith, shape.in_range.extent_high)),
+          range_small s staging.fresh.numbers apart.fresh_extents (omega (arith, terms.shape.in_range.extents_high)) (omega (arith, terms.shape.in_range.extent_high)),
         );
         stream = omega (arith, has.stream_bytes, has.chunk_count, stream-high s.max taken all, most);
-        few = omega (arith, has.fresh_count, has.chunk_count, firsts-few taken);
+        few = omega (arith, has.fresh_count, has.chunk_count, news-few (given terms).old taken);
       }
 
-  pub staging_is_small : (free : ℕ) (space : Allotment) → IsStaging s free space staging → IsSmall staging
-  staging_is_small free space is =
+  pub staging_is_small : (space : Allotment) → IsStaging (given terms) space staging → IsSmall staging
+  staging_is_small space is =
       staging_small is.taken is.has is.extents (owns_apart s is.base is.first space staging.recipe.numbers staging.fresh.numbers is.count is.owns)
 
-  pub staging_left : (free : ℕ) (space : Allotment) → IsStaging s free space staging → free_count space + (length staging.recipe.numbers + length staging.fresh.numbers) ≡ free
-  staging_left free space is = is.owns.counted ∙ is.left
+  pub staging_left : (space : Allotment) → IsStaging (given terms) space staging → free_count space + (length staging.recipe.numbers + length staging.fresh.numbers) ≡ (given terms).free
+  staging_left space is = is.owns.counted ∙ is.left
 
 -- ---- one chunk more
 
@@ -132,35 +139,61 @@ bytes-with_new : (b : Bool) (c : List ℕ) (cs : List (List ℕ)) → record_byt
 bytes-with_new true c cs = omega (arith, sum_by-append (λ d. 36 + length d) cs (c ∷ []))
 bytes-with_new false c cs = omega arith
 
-pub new_is : (s : Sizes) (taken : List (List ℕ)) (old : Staging) (body : List ℕ) (is_new : Bool) → HasTaken s taken old → is_new ≡ not (knows old.seen (mark body)) →
-    first_by_mark (taken ++ body ∷ []) ≡ with_new is_new body (first_by_mark taken)
-new_is s taken old body is_new has is =
-    first_by_mark-push taken body ∙ ap (λ b. with_new b body (first_by_mark taken)) (sym (is ∙ ap not (has.known (mark body))))
+pub new_is : (t : Given) (taken : List (List ℕ)) (old : Staging) (body : List ℕ) (is_new : Bool) → HasTaken t taken old → is_new ≡ not (has_mark t.old (mark body) || knows old.seen.marks (mark body)) →
+    new_by_mark t.old (taken ++ body ∷ []) ≡ with_new is_new body (new_by_mark t.old taken)
+new_is t taken old body is_new has is =
+    new_by_mark-push t.old taken body
+    ∙ ap (λ b. with_new b body (new_by_mark t.old taken)) (sym (is ∙ ap (λ b. not (has_mark t.old (mark body) || b)) (has.known (mark body)) ∙ ap not (but_known (has_mark t.old (mark body)) (is_marked taken (mark body)))))
+  where
+    but_known : (known came : Bool) → (known || (came && not known)) ≡ (known || came)
+    but_known true came = refl
+    but_known false true = refl
+    but_known false false = refl
 
-pub took : (s : Sizes) (taken : List (List ℕ)) (old new : Staging) (body : List ℕ) (is_new : Bool) → HasTaken s taken old → 1 ≤ length body → length body ≤ s.max →
-    is_new ≡ not (knows old.seen (mark body)) → ((m : List ℕ) → knows new.seen m ≡ (knows old.seen m || bytes_eq m (mark body))) →
+-- the flags after one chunk more
+flags_more : (old : List RecipeEntry) (taken : List (List ℕ)) (body : List ℕ) (used : List Bool) → AreUsed old (λ m. is_marked taken m || bytes_eq m (mark body)) used → AreUsed old (is_marked (taken ++ body ∷ [])) used
+flags_more old taken body used are = record { count = are.count; firsts = λ m k at. are.firsts m k at ∙ sym (is_marked-push taken body m) }
+
+one_known : (came same known : Bool) → ((came && not known) || (same && not known)) ≡ ((came || same) && not known)
+one_known true same true = (λ k. and-no same k)
+  where
+    and-no : (b : Bool) → (b && false) ≡ false
+    and-no true = refl
+    and-no false = refl
+one_known true same false = refl
+one_known false same known = refl
+
+pub took : (t : Given) (taken : List (List ℕ)) (old new : Staging) (body : List ℕ) (is_new : Bool) → HasTaken t taken old → 1 ≤ length body → length body ≤ t.sizes.max →
+    is_new ≡ not (has_mark t.old (mark body) || knows old.seen.marks (mark body)) →
+    ((m : List ℕ) → knows new.seen.marks m ≡ (knows old.seen.marks m || (bytes_eq m (mark body) && not (has_mark t.old m)))) →
+    AreUsed t.old (λ m. is_marked taken m || bytes_eq m (mark body)) new.seen.used →
     new.fresh_bytes ≡ old.fresh_bytes + cond is_new (36 + length body) 0 → new.fresh_chunks ≡ old.fresh_chunks + cond is_new 1 0 →
-    new.chunks ≡ old.chunks + 1 → new.length ≡ old.length + length body → HasTaken s (taken ++ body ∷ []) new
-took s taken old new body is_new has some short is known bytes count chunks size =
-    let firsts = new_is s taken old body is_new has is in
+    new.chunks ≡ old.chunks + 1 → new.length ≡ old.length + length body → HasTaken t (taken ++ body ∷ []) new
+took t taken old new body is_new has some short is known used bytes count chunks size =
+    let news = new_is t taken old body is_new has is in
     record {
-      each = All-append (IsShort s.max) taken (body ∷ []) has.each (All-from_recursion (IsShort s.max) (body ∷ []) ((some, short), tt));
-      known = λ m. known m ∙ ap (λ t. t || bytes_eq m (mark body)) (has.known m) ∙ sym (is_marked-push taken body m);
+      each = All-append (IsShort t.sizes.max) taken (body ∷ []) has.each (All-from_recursion (IsShort t.sizes.max) (body ∷ []) ((some, short), tt));
+      known = λ m.
+          known m
+          ∙ ap (λ b. b || (bytes_eq m (mark body) && not (has_mark t.old m))) (has.known m)
+          ∙ one_known (is_marked taken m) (bytes_eq m (mark body)) (has_mark t.old m)
+          ∙ ap (λ b. b && not (has_mark t.old m)) (sym (is_marked-push taken body m));
+      used = flags_more t.old taken body new.seen.used used;
       chunk_count = omega (arith, chunks, has.chunk_count, length-append taken (body ∷ []));
       stream_bytes = omega (arith, size, has.stream_bytes, ap length (concat-append taken (body ∷ [])), length-append (concat taken) (concat (body ∷ [])), ap length (append-nil body));
-      fresh_count = omega (arith, count, has.fresh_count, ap length firsts, length-with_new is_new body (first_by_mark taken));
-      record_bytes_is = omega (arith, bytes, has.record_bytes_is, ap record_bytes firsts, bytes-with_new is_new body (first_by_mark taken));
+      fresh_count = omega (arith, count, has.fresh_count, ap length news, length-with_new is_new body (new_by_mark t.old taken));
+      record_bytes_is = omega (arith, bytes, has.record_bytes_is, ap record_bytes news, bytes-with_new is_new body (new_by_mark t.old taken));
     }
 
 -- what the chunks so far and one more take
-pub extents-after : (extent : ℕ) (s : Sizes) (taken : List (List ℕ)) (old : Staging) (body : List ℕ) (is_new : Bool) → HasTaken s taken old → is_new ≡ not (knows old.seen (mark body)) →
-    up extent (old.fresh_bytes + cond is_new (36 + length body) 0) + up extent (40 * (old.chunks + 1)) ≡ extents_of extent (taken ++ body ∷ [])
-extents-after extent s taken old body is_new has is =
-    let firsts = new_is s taken old body is_new has is in
-    let bytes : old.fresh_bytes + cond is_new (36 + length body) 0 ≡ record_bytes (first_by_mark (taken ++ body ∷ [])) =
-    omega (arith, has.record_bytes_is, ap record_bytes firsts, bytes-with_new is_new body (first_by_mark taken)) in
+pub extents-after : (t : Given) (taken : List (List ℕ)) (old : Staging) (body : List ℕ) (is_new : Bool) → HasTaken t taken old → is_new ≡ not (has_mark t.old (mark body) || knows old.seen.marks (mark body)) →
+    up t.sizes.extent (old.fresh_bytes + cond is_new (36 + length body) 0) + up t.sizes.extent (40 * (old.chunks + 1)) ≡ extents_of t.sizes.extent t.old (taken ++ body ∷ [])
+extents-after t taken old body is_new has is =
+    let news = new_is t taken old body is_new has is in
+    let bytes : old.fresh_bytes + cond is_new (36 + length body) 0 ≡ record_bytes (new_by_mark t.old (taken ++ body ∷ [])) =
+    omega (arith, has.record_bytes_is, ap record_bytes news, bytes-with_new is_new body (new_by_mark t.old taken)) in
     let count : old.chunks + 1 ≡ length (taken ++ body ∷ []) = omega (arith, has.chunk_count, length-append taken (body ∷ [])) in
-    λ k. up extent (bytes k) + up extent (40 * count k)
+    λ k. up t.sizes.extent (bytes k) + up t.sizes.extent (40 * count k)
 
 -- what was written before stays in longer lists of extents
 pub longer : (s : Sizes) (more before after bytes image : List ℕ) → after ≡ before ++ more → BeginWith s before bytes image → BeginWith s after bytes image

@@ -1,8 +1,13 @@
-pub mod Filling
 pub mod Firsts
-pub mod Fitting
 pub mod Owning
-pub mod Draining
-pub mod Ending
 pub mod Growing
 pub mod Writing
+pub mod Meeting
+pub mod Draining
+pub mod Filling
+pub mod Tallying
+pub mod Indexing
+pub mod Totals
+pub mod Knowing
+pub mod Needing
+pub mod Ending

@@ -112,8 +112,9 @@ last_once space kept last exact = distinct_right kept last exact.once
 pub owns_last : (base : List ℕ) (first space : Allotment) (recipe fresh : List ℕ) → Owns base first space recipe fresh → TakenExactly space (base ++ (recipe ++ fresh))
 owns_last base first space recipe fresh owns = subst (TakenExactly space) (append_assoc base recipe fresh) owns.exact
 
-pub owns_below : (s : Sizes) (base : List ℕ) (first space : Allotment) (recipe fresh : List ℕ) → extent_count first ≡ s.extents → Owns base first space recipe fresh → All (λ n. n < s.extents) (recipe ++ fresh)
-owns_below s base first space recipe fresh count owns =
-    All-weaker (IsTaken space) (λ n. n < s.extents)
-    (λ n taken. let within : n < extent_count space = slice_get_within space.uses n Taken taken in omega (arith, within, owns.size, count))
-    (recipe ++ fresh) (last_taken space base (recipe ++ fresh) (owns_last base first space recipe fresh owns))
+-- the numbers that are taken are among those that there are
+pub taken_below : (space : Allotment) (numbers : List ℕ) {top : ℕ} → extent_count space ≡ top → TakenExactly space numbers → All (λ n. n < top) numbers
+taken_below space numbers {top} count exact =
+    All-weaker (IsTaken space) (λ n. n < top)
+    (λ n taken. let within : n < extent_count space = slice_get_within space.uses n Taken taken in omega (arith, within, count))
+    numbers exact.taken

@@ -4,11 +4,13 @@ use Rattle.std.specs.Prelude.{Contains}
 use Rattle.std.proofs.lemmas.List.{append-nil, take-append-le, map-append}
 use Rattle.std.proofs.lemmas.Grind.{flat_map-append}
 use Rattle.std.proofs.lemmas.List.Elements.{Contains-append_left, Contains-append_right}
-use Rattle.bd_disk.specs.History.{History, contents}
+use Rattle.bd_disk.specs.History.{contents}
 use Rattle.bd_disk.specs.Images.{overwritten}
-use Rattle.bd_disk.specs.Made.{WritesOnly}
+use Rattle.bd_disk.specs.Runs.{Writes}
+use Rattle.bd_disk.specs.declared.disk.Disk.{Ghosts}
 use Rattle.bd_disk.proofs.Agreeing.{agree_fewer}
-use Rattle.bd_disk.proofs.Frames.{writes_wider, same_contents}
+use Rattle.bd_disk.proofs.Frames.{same_contents}
+use Rattle.bd_disk.proofs.RunLemmas.{wider_writes, written}
 use Rattle.bd_model.specs.Extents.{owner_bytes, extent_bytes}
 use Rattle.bd_model.specs.Laws.{entries_in}
 use Rattle.bd_model.specs.Marks.{mark}
@@ -23,7 +25,7 @@ use Rattle.bd_extio.proofs.Places.{length-owner_bytes}
 use Rattle.bd_catalog.specs.Standing.{BeginWith}
 use Rattle.bd_catalog.specs.Agreement.{InExtents}
 use Rattle.bd_catalog.proofs.Agreeing.{in_extents, owners_apart, begin_with_agrees, begin_with_more}
-use Rattle.bd_intake.specs.Places.{InOneOf}
+use Rattle.bd_intake.specs.Places.{BeginsOn, InOneOf}
 use Rattle.bd_intake.proofs.Firsts.{entry}
 
 -- ---- the bytes of chunks
@@ -31,15 +33,17 @@ use Rattle.bd_intake.proofs.Firsts.{entry}
 records-push : (cs : List (List ℕ)) (c : List ℕ) → records_of (cs ++ c ∷ []) ≡ records_of cs ++ record_of c
 records-push cs c = flat_map-append record_of cs (c ∷ []) ∙ ap (λ xs. records_of cs ++ xs) (append-nil (record_of c))
 
-pub length-entries : (v : ℕ) (cs : List (List ℕ)) → length (spelled_recipe (entries_in [] v cs)) ≡ 40 * length cs
-length-entries v [] = refl
-length-entries v (c ∷ cs) = omega (arith, length-append (spelled_entry (entry v c)) (spelled_recipe (entries_in [] v cs)), length-spelled_entry (entry v c) (length-mark c), length-entries v cs)
+pub length-entries : (old : List RecipeEntry) (v : ℕ) (cs : List (List ℕ)) → length (spelled_recipe (entries_in old v cs)) ≡ 40 * length cs
+length-entries old v [] = refl
+length-entries old v (c ∷ cs) =
+    omega (arith, length-append (spelled_entry (entry old v c)) (spelled_recipe (entries_in old v cs)), length-spelled_entry (entry old v c) (length-mark c), length-entries old v cs)
 
-entries-push : (v : ℕ) (cs : List (List ℕ)) (c : List ℕ) → spelled_recipe (entries_in [] v (cs ++ c ∷ [])) ≡ spelled_recipe (entries_in [] v cs) ++ spelled_entry (entry v c)
-entries-push v cs c =
-    ap spelled_recipe (map-append (entry v) cs (c ∷ []))
-    ∙ flat_map-append spelled_entry (entries_in [] v cs) (entry v c ∷ [])
-    ∙ ap (λ xs. spelled_recipe (entries_in [] v cs) ++ xs) (append-nil (spelled_entry (entry v c)))
+entries-push : (es : List RecipeEntry) (e : RecipeEntry) → spelled_recipe (es ++ e ∷ []) ≡ spelled_recipe es ++ spelled_entry e
+entries-push es e = flat_map-append spelled_entry es (e ∷ []) ∙ ap (λ xs. spelled_recipe es ++ xs) (append-nil (spelled_entry e))
+
+-- the recipe of one chunk more
+pub entries-more : (old : List RecipeEntry) (v : ℕ) (cs : List (List ℕ)) (c : List ℕ) → entries_in old v (cs ++ c ∷ []) ≡ entries_in old v cs ++ entry old v c ∷ []
+entries-more old v cs c = map-append (entry old v) cs (c ∷ [])
 
 -- ---- one owner
 
@@ -50,8 +54,8 @@ module _ (s : Sizes) (extents : List ℕ) (some : 1 ≤ s.extent) where
       let inside : InExtents s extents (extent_place s (get_or extents (i / s.extent) 0) + i % s.extent) = in_extents s extents some i (omega (arith, r.within, fits)) in
       subst (InOneOf s extents) (sym r.so) (record { extent = inside.extent; among = inside.among; within = inside.within })
 
-  pub owner_writes : (at n : ℕ) → at + n ≤ length extents * s.extent → {a b : History} → WritesOnly (InOwner s extents at n) a b → WritesOnly (InOneOf s extents) a b
-  owner_writes at n fits writes = writes_wider _ (λ place r. in_one_of at n fits place r) writes
+  pub owner_writes : (at n : ℕ) → at + n ≤ length extents * s.extent → {D : Type 0} {g : Ghosts D} {a b : D} → Writes g (InOwner s extents at n) a b → Writes g (InOneOf s extents) a b
+  owner_writes at n fits writes = wider_writes _ (λ place r. in_one_of at n fits place r) writes
 
   module _ (are : AreExtents s extents) (old new : List ℕ) (room : disk_bytes s ≤ length old) where
     sized : length (owner_bytes s extents old) ≡ length extents * s.extent
@@ -60,39 +64,37 @@ module _ (s : Sizes) (extents : List ℕ) (some : 1 ≤ s.extent) where
     pub record_written : (firsts : List (List ℕ)) (own : Mark) (body : List ℕ) (at : ℕ) → own.0 ≡ mark body → length (records_of firsts) ≡ at → at + (36 + length body) ≤ length extents * s.extent →
         owner_bytes s extents new ≡ overwritten (owner_bytes s extents old) at (record_with own body) →
         BeginWith s extents (records_of firsts) old → BeginWith s extents (records_of (firsts ++ body ∷ [])) new
-    record_written firsts own body at marked long fits written begins =
+    record_written firsts own body at marked long fits is begins =
         let whole : owner_bytes s extents new ≡ overwritten (owner_bytes s extents old) (length (records_of firsts)) (record_of body) =
-        written ∙ (λ k. overwritten (owner_bytes s extents old) (sym long k) (four (length body) ++ marked k ++ body)) in
+        is ∙ (λ k. overwritten (owner_bytes s extents old) (sym long k) (four (length body) ++ marked k ++ body)) in
         subst (λ bytes. BeginWith s extents bytes new) (sym (records-push firsts body))
         (begin_with_more s extents (records_of firsts) (record_of body) old new begins (omega (arith, long, length-record body, fits, sized)) whole)
 
-    pub entry_written : (v : ℕ) (taken : List (List ℕ)) (e : RecipeEntry) (body : List ℕ) (at : ℕ) → e ≡ entry v body → 40 * length taken ≡ at → at + 40 ≤ length extents * s.extent →
+    pub entry_written : (es : List RecipeEntry) (e : RecipeEntry) (at : ℕ) → length e.mark.0 ≡ 32 → length (spelled_recipe es) ≡ at → at + 40 ≤ length extents * s.extent →
         owner_bytes s extents new ≡ overwritten (owner_bytes s extents old) at (spelled_entry e) →
-        BeginWith s extents (spelled_recipe (entries_in [] v taken)) old → BeginWith s extents (spelled_recipe (entries_in [] v (taken ++ body ∷ []))) new
-    entry_written v taken e body at is long fits written begins =
-        let front = spelled_recipe (entries_in [] v taken) in
-        let place : at ≡ length front = sym long ∙ sym (length-entries v taken) in
-        let whole : owner_bytes s extents new ≡ overwritten (owner_bytes s extents old) (length front) (spelled_entry (entry v body)) =
-        written ∙ (λ k. overwritten (owner_bytes s extents old) (place k) (spelled_entry (is k))) in
-        subst (λ bytes. BeginWith s extents bytes new) (sym (entries-push v taken body))
-        (begin_with_more s extents front (spelled_entry (entry v body)) old new begins (omega (arith, place, length-spelled_entry (entry v body) (length-mark body), fits, sized)) whole)
+        BeginWith s extents (spelled_recipe es) old → BeginWith s extents (spelled_recipe (es ++ e ∷ [])) new
+    entry_written es e at marked long fits is begins =
+        let front = spelled_recipe es in
+        let whole : owner_bytes s extents new ≡ overwritten (owner_bytes s extents old) (length front) (spelled_entry e) = is ∙ (λ k. overwritten (owner_bytes s extents old) (sym long k) (spelled_entry e)) in
+        subst (λ bytes. BeginWith s extents bytes new) (sym (entries-push es e))
+        (begin_with_more s extents front (spelled_entry e) old new begins (omega (arith, long, length-spelled_entry e marked, fits, sized)) whole)
 
 -- ---- two owners
 
-pub one_writes : (s : Sizes) (extents more : List ℕ) {a b : History} → WritesOnly (InOneOf s extents) a b → WritesOnly (InOneOf s (extents ++ more)) a b
-one_writes s extents more writes = writes_wider _ (λ place r. record { extent = r.extent; among = Contains-append_left extents more r.extent r.among; within = r.within }) writes
+pub one_writes : (s : Sizes) (extents more : List ℕ) {D : Type 0} {g : Ghosts D} {a b : D} → Writes g (InOneOf s extents) a b → Writes g (InOneOf s (extents ++ more)) a b
+one_writes s extents more writes = wider_writes _ (λ place r. record { extent = r.extent; among = Contains-append_left extents more r.extent r.among; within = r.within }) writes
 
-pub other_writes : (s : Sizes) (extents more : List ℕ) {a b : History} → WritesOnly (InOneOf s more) a b → WritesOnly (InOneOf s (extents ++ more)) a b
-other_writes s extents more writes = writes_wider _ (λ place r. record { extent = r.extent; among = Contains-append_right extents more r.extent r.among; within = r.within }) writes
+pub other_writes : (s : Sizes) (extents more : List ℕ) {D : Type 0} {g : Ghosts D} {a b : D} → Writes g (InOneOf s more) a b → Writes g (InOneOf s (extents ++ more)) a b
+other_writes s extents more writes = wider_writes _ (λ place r. record { extent = r.extent; among = Contains-append_right extents more r.extent r.among; within = r.within }) writes
 
 -- what one owner's bytes begin with stays while another's are written
-pub still_begins : (s : Sizes) (extents others bytes : List ℕ) → ((e : ℕ) → Contains extents e → Contains others e → ⊥) → {a b : History} → WritesOnly (InOneOf s others) a b →
-    BeginWith s extents bytes (contents a) → BeginWith s extents bytes (contents b)
-still_begins s extents others bytes apart {a} {b} writes begins =
-    begin_with_agrees s extents bytes (contents a) (contents b)
-    (agree_fewer (λ place. InOneOf s others place → ⊥) (InExtents s extents) (contents a) (contents b)
+pub still_begins : (s : Sizes) (extents others bytes : List ℕ) → ((e : ℕ) → Contains extents e → Contains others e → ⊥) → {D : Type 0} {g : Ghosts D} {a b : D} → Writes g (InOneOf s others) a b → g.tells →
+    BeginsOn g s extents bytes a → BeginsOn g s extents bytes b
+still_begins s extents others bytes apart {D} {g} {a} {b} writes told begins =
+    begin_with_agrees s extents bytes (contents (g.history a)) (contents (g.history b))
+    (agree_fewer (λ place. InOneOf s others place → ⊥) (InExtents s extents) (contents (g.history a)) (contents (g.history b))
     (λ place inside other. owners_apart s extents others apart place inside (record { extent = other.extent; among = other.among; within = other.within }))
-    (same_contents writes))
+    (same_contents (written writes told)))
     begins
 
 -- and while more extents follow

@@ -6,7 +6,9 @@ use Rattle.bd_model.specs.Sizes.{Sizes}
 use Rattle.bd_model.specs.Chunks.{Cut}
 use Rattle.bd_model.specs.Marks.{mark}
 use Rattle.bd_model.specs.Layout.{record_bytes}
+use Rattle.bd_model.specs.Recipe.{has_mark}
 use Rattle.bd_model.specs.Room.{up}
+use Rattle.bd_model.specs.declared.layout.RecipeEntry.{RecipeEntry}
 
 -- where chunks end in a store of these sizes
 abbrev pub cut_in : Sizes → Cut
@@ -17,6 +19,10 @@ abbrev pub first_by_mark : List (List ℕ) → List (List ℕ)
 first_by_mark [] = []
 first_by_mark (c ∷ chunks) = c ∷ filter (λ d. not (bytes_eq (mark c) (mark d))) (first_by_mark chunks)
 
+-- those of them whose mark the recipe lacks
+abbrev pub new_by_mark : List RecipeEntry → List (List ℕ) → List (List ℕ)
+new_by_mark old chunks = filter (λ c. not (has_mark old (mark c))) (first_by_mark chunks)
+
 -- whether one of the chunks has the mark
 abbrev pub is_marked : List (List ℕ) → List ℕ → Bool
 is_marked chunks m = list_any (λ d. bytes_eq m (mark d)) chunks
@@ -25,9 +31,9 @@ is_marked chunks m = list_any (λ d. bytes_eq m (mark d)) chunks
 abbrev pub with_new : Bool → List ℕ → List (List ℕ) → List (List ℕ)
 with_new is_new c chunks = if is_new then chunks ++ c ∷ [] else chunks
 
--- the extents that these chunks take as the first version: for their records and for their entries
-abbrev pub extents_of : ℕ → List (List ℕ) → ℕ
-extents_of extent chunks = up extent (record_bytes (first_by_mark chunks)) + up extent (40 * length chunks)
+-- the extents that a version of these chunks takes beside that recipe: for its new records and for its entries
+abbrev pub extents_of : ℕ → List RecipeEntry → List (List ℕ) → ℕ
+extents_of extent old chunks = up extent (record_bytes (new_by_mark old chunks)) + up extent (40 * length chunks)
 
 -- whether one of these marks is this one
 abbrev pub knows : List (List ℕ) → List ℕ → Bool

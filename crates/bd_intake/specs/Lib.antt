@@ -2,6 +2,10 @@ pub mod Answers
 pub mod Causes
 pub mod Filling
 pub mod Firsts
+pub mod Given
+pub mod Needs
 pub mod Places
+pub mod Seen
 pub mod Spaces
 pub mod Staging
+pub mod Tallies

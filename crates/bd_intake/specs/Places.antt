@@ -1,8 +1,11 @@
 -- Places on the disk, by the extents in which they lie.
 use Rattle.std.specs.Prelude.{ℕ, List, Contains}
+use Rattle.bd_disk.specs.History.{contents}
 use Rattle.bd_disk.specs.Images.{InRange}
+use Rattle.bd_disk.specs.declared.disk.Disk.{Ghosts}
 use Rattle.bd_model.specs.Sizes.{Sizes, extent_place}
 use Rattle.bd_space.specs.Allotment.{Allotment, IsFree}
+use Rattle.bd_catalog.specs.Standing.{BeginWith}
 use Rattle.bd_extio.specs.Ranges.{AreExtents}
 
 -- a place in one of these extents
@@ -22,3 +25,7 @@ pub record AreApart (s : Sizes) (recipe fresh : List ℕ) : Type 0 where
   pub recipe_extents : AreExtents s recipe
   pub fresh_extents : AreExtents s fresh
   pub apart : (e : ℕ) → Contains recipe e → Contains fresh e → ⊥
+
+-- an owner's bytes begin with these, where the disk tells them
+abbrev pub BeginsOn : {D : Type 0} → Ghosts D → Sizes → List ℕ → List ℕ → D → Type 0
+BeginsOn g s extents bytes disk = BeginWith s extents bytes (contents (g.history disk))

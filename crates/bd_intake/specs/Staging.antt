@@ -1,9 +1,12 @@
 -- What is staged of a version while its chunks come.
-use Rattle.std.specs.Prelude.{◌≡◌, ℕ, ◌*◌, ◌≤◌, List, [], ◌++◌, length, All}
+use Rattle.std.specs.Prelude.{◌≡◌, ℕ, ◌*◌, ◌≤◌, List, [], ◌∷◌, ◌++◌, length, All, ◌&&◌, not}
 use Rattle.std.specs.List.{concat}
+use Rattle.bd_disk.specs.History.{contents}
+use Rattle.bd_disk.specs.declared.disk.Disk.{Ghosts}
 use Rattle.bd_model.specs.Chunks.{chunks}
 use Rattle.bd_model.specs.Laws.{entries_in}
 use Rattle.bd_model.specs.Layout.{record_bytes}
+use Rattle.bd_model.specs.Recipe.{has_mark}
 use Rattle.bd_model.specs.Records.{records_of, spelled_recipe}
 use Rattle.bd_model.specs.Room.{up}
 use Rattle.bd_model.specs.Sizes.{Sizes}
@@ -12,17 +15,20 @@ use Rattle.bd_gear.specs.Chunking.{Chunking}
 use Rattle.bd_gear.specs.Feeding.{HasFed}
 use Rattle.bd_catalog.specs.Standing.{BeginWith}
 use Rattle.bd_intake.specs.declared.staging.Staging.{Staging}
-use Rattle.bd_intake.specs.Firsts.{cut_in, first_by_mark, is_marked, knows}
+use Rattle.bd_intake.specs.Firsts.{cut_in, new_by_mark, is_marked, knows}
+use Rattle.bd_intake.specs.Given.{Given}
+use Rattle.bd_intake.specs.Seen.{AreUsed}
 use Rattle.bd_intake.specs.Spaces.{Owns}
 
--- the numbers and the marks are those of these chunks
-pub record HasTaken (s : Sizes) (taken : List (List ℕ)) (staging : Staging) : Type 0 where
-  pub each : All (λ c. (1 ≤ length c) × (length c ≤ s.max)) taken
-  pub known : (m : List ℕ) → knows staging.seen m ≡ is_marked taken m
+-- the numbers, the marks and the flags are those of these chunks
+pub record HasTaken (t : Given) (taken : List (List ℕ)) (staging : Staging) : Type 0 where
+  pub each : All (λ c. (1 ≤ length c) × (length c ≤ t.sizes.max)) taken
+  pub known : (m : List ℕ) → knows staging.seen.marks m ≡ (is_marked taken m && not (has_mark t.old m))
+  pub used : AreUsed t.old (is_marked taken) staging.seen.used
   pub chunk_count : staging.chunks ≡ length taken
   pub stream_bytes : staging.length ≡ length (concat taken)
-  pub fresh_count : staging.fresh_chunks ≡ length (first_by_mark taken)
-  pub record_bytes_is : staging.fresh_bytes ≡ record_bytes (first_by_mark taken)
+  pub fresh_count : staging.fresh_chunks ≡ length (new_by_mark t.old taken)
+  pub record_bytes_is : staging.fresh_bytes ≡ record_bytes (new_by_mark t.old taken)
 
 -- each owner has the extents that its bytes take
 pub record HasExtents (s : Sizes) (staging : Staging) : Type 0 where
@@ -30,20 +36,25 @@ pub record HasExtents (s : Sizes) (staging : Staging) : Type 0 where
   pub fresh : length staging.fresh.numbers ≡ up s.extent staging.fresh_bytes
 
 -- some chunks are staged in extents of this space, of which so many were free before
-pub record IsStaging (s : Sizes) (free : ℕ) (space : Allotment) (staging : Staging) : Type 0 where
+pub record IsStaging (t : Given) (space : Allotment) (staging : Staging) : Type 0 where
   pub taken : List (List ℕ)
-  pub has : HasTaken s taken staging
-  pub extents : HasExtents s staging
+  pub has : HasTaken t taken staging
+  pub extents : HasExtents t.sizes staging
   pub base : List ℕ
   pub first : Allotment
   pub owns : Owns base first space staging.recipe.numbers staging.fresh.numbers
-  pub count : extent_count first ≡ s.extents
-  pub left : free_count first ≡ free
+  pub count : extent_count first ≡ t.sizes.extents
+  pub left : free_count first ≡ t.free
 
--- the extents begin with the entries and the records of these chunks
-pub record HasWritten (s : Sizes) (v : ℕ) (taken : List (List ℕ)) (staging : Staging) (image : List ℕ) : Type 0 where
-  pub recipe : BeginWith s staging.recipe.numbers (spelled_recipe (entries_in [] v taken)) image
-  pub fresh : BeginWith s staging.fresh.numbers (records_of (first_by_mark taken)) image
+-- the extents begin with the entries of these chunks, and with the records of those that the version before lacks
+pub record HasWritten (t : Given) (taken : List (List ℕ)) (staging : Staging) (image : List ℕ) : Type 0 where
+  pub recipe : BeginWith t.sizes staging.recipe.numbers (spelled_recipe (entries_in t.old t.version taken)) image
+  pub fresh : BeginWith t.sizes staging.fresh.numbers (records_of (new_by_mark t.old taken)) image
+
+-- where the disk tells, what is written of some chunks goes on with this one
+abbrev pub WritesChunk : {D : Type 0} → Ghosts D → Given → List ℕ → Staging → Staging → D → D → Type 0
+WritesChunk g t body before after old new =
+    g.tells → (taken : List (List ℕ)) → HasTaken t taken before → HasWritten t taken before (contents (g.history old)) → HasWritten t (taken ++ body ∷ []) after (contents (g.history new))
 
 -- the numbers of all extents that are staged
 abbrev pub staged_extents : Staging → List ℕ
@@ -63,9 +74,9 @@ pub record IsFed (s : Sizes) (c : Chunking) : Type 0 where
 
 -- The chunker was fed this stream and gave these chunks, with those before among them, and they are all taken and written.
 -- They are all chunks of the stream once it is over.
-pub record Goes (over : Type 0) (s : Sizes) (v : ℕ) (stream : List ℕ) (taken : List (List ℕ)) (c : Chunking) (before after : Staging) (told : Type 0) (old new : List ℕ) : Type 0 where
+pub record Goes (over : Type 0) (t : Given) (stream : List ℕ) (taken : List (List ℕ)) (c : Chunking) (before after : Staging) (told : Type 0) (old new : List ℕ) : Type 0 where
   pub all : List (List ℕ)
-  pub fed : HasFed (cut_in s) stream all c
-  pub has : HasTaken s all after
-  pub written : told → HasWritten s v taken before old → HasWritten s v all after new
-  pub ended : over → all ≡ chunks (cut_in s) stream
+  pub fed : HasFed (cut_in t.sizes) stream all c
+  pub has : HasTaken t all after
+  pub written : told → HasWritten t taken before old → HasWritten t all after new
+  pub ended : over → all ≡ chunks (cut_in t.sizes) stream

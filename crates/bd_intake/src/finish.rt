@@ -1,10 +1,10 @@
 //! The ends of what is staged: a version, or nothing.
-ghost use Rattle.std.specs.Prelude.{◌≡◌, ℕ, ◌+◌, ◌<◌, ◌^◌, List, [], ◌∷◌, ◌++◌, length, nat_lt, if◌then◌else◌};
+ghost use Rattle.std.specs.Prelude.{◌≡◌, ℕ, ◌+◌, ◌<◌, ◌^◌, List, [], ◌∷◌, ◌++◌, length, nat_lt, IfOk, if◌then◌else◌};
 ghost use Rattle.bd_catalog.specs.Shown.{version_entry};
 ghost use Rattle.bd_catalog.specs.Steps.{fresh_entries};
-ghost use Rattle.bd_model.specs.Sizes.{Sizes};
 ghost use Rattle.bd_space.specs.Allotment.{extent_count, held_count, TakenExactly};
 ghost use Rattle.bd_intake.specs.Answers.{fresh_extents};
+ghost use Rattle.bd_intake.specs.Given.{Given};
 ghost use Rattle.bd_intake.specs.Spaces.{IsOwned};
 ghost use Rattle.bd_intake.specs.Staging.{HasTaken};
 
@@ -14,25 +14,23 @@ use crate::staging::Staging;
 use bd_catalog::{ActiveCategory, VersionRow};
 use bd_model::CategoryRow;
 use bd_space::{Owned, Space};
-use std::alloc::Global;
+use std::alloc::{AllocError as OutOfMemory, Global};
 
-/// Nothing is staged.
-pub(crate) fn nothing_staged(alloc: Global) -> Staging
-    ensures taken { (s : Sizes) → HasTaken s [] result }
-    ensures recipe { result.recipe.numbers ≡ [] }
-    ensures fresh { result.fresh.numbers ≡ [] }
-    ensures none { (result.chunks ≡ 0) }
-    ensures empty { (result.fresh_bytes ≡ 0) }
+/// Nothing is staged, beside so many entries of the version before.
+pub(crate) fn nothing_staged(alloc: Global, entries: usize) -> Result<Staging, OutOfMemory>
+    ensures taken { IfOk result (λ staging. (t : Given) → length t.old ≡ entries → HasTaken t [] staging) }
+    ensures recipe { IfOk result (λ staging. staging.recipe.numbers ≡ []) }
+    ensures fresh { IfOk result (λ staging. staging.fresh.numbers ≡ []) }
 {
-    Staging {
-        seen: Seen::none(alloc),
+    Ok(Staging {
+        seen: Seen::none(alloc, entries)?,
         fresh: Owned::none(alloc),
         fresh_bytes: 0,
         fresh_chunks: 0,
         recipe: Owned::none(alloc),
         chunks: 0,
         length: 0,
-    }
+    })
 }
 
 // The open category that begins with this version, where it has chunks.
@@ -54,17 +52,15 @@ fn category_of(version: u32, chunks: u64, bytes: u64, extents: Owned) -> Option<
     None
 }
 
-/// The version that is staged.
-pub(crate) fn finished(staging: Staging, version: u32) -> Staged
+/// The version that is staged, which needs so many extents.
+pub(crate) fn finished(staging: Staging, version: u32, need: u64) -> Staged
     requires none { staging.fresh_chunks ≡ 0 → staging.fresh.numbers ≡ [] }
-    requires small { length staging.recipe.numbers + length staging.fresh.numbers < 2 ^ 64 }
     ensures version { version_entry result.version ≡ record { length = staging.length; chunks = staging.chunks; fresh = staging.fresh_chunks; extents = staging.recipe.numbers } }
     ensures entries { fresh_entries result.fresh ≡ (if nat_lt 0 staging.fresh_chunks
         then record { row = record { start = version; chunks = staging.fresh_chunks; bytes = staging.fresh_bytes }; extents = staging.fresh.numbers } ∷ [] else []) }
     ensures extents { fresh_extents result.fresh ≡ staging.fresh.numbers }
-    ensures need { result.need ≡ length staging.recipe.numbers + length staging.fresh.numbers }
+    ensures need { result.need ≡ need }
 {
-    let need = staging.recipe.len() as u64 + staging.fresh.len() as u64;
     let Staging {
         seen: _,
         fresh,

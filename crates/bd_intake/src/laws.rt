@@ -1,10 +1,13 @@
 //! What holds of the definitions. Each law is the contract of a function with nothing to do.
-ghost use Rattle.std.specs.Prelude.{◌≡◌, ℕ, List};
-ghost use Rattle.bd_model.specs.History.{distinct};
+ghost use Rattle.std.specs.Prelude.{◌≡◌, ℕ, List, ◌++◌};
+ghost use Rattle.bd_model.specs.History.{History, newest, version};
 ghost use Rattle.bd_model.specs.Marks.{Distinct};
-ghost use Rattle.bd_intake.specs.Firsts.{first_by_mark};
+ghost use Rattle.bd_model.specs.Recipe.{recipe};
+ghost use Rattle.bd_model.specs.Room.{fresh};
+ghost use Rattle.bd_intake.specs.Firsts.{new_by_mark};
 
-/// Where marks tell the chunks apart, those with different marks are the different ones.
-pub fn first_chunks_are_the_different_ones()
-    ensures { (chunks : List (List ℕ)) → Distinct chunks → first_by_mark chunks ≡ distinct chunks }
+/// Where marks tell the chunks of the newest version and of a new one apart, those that are new by their marks are the
+/// fresh ones.
+pub fn new_chunks_are_the_fresh_ones()
+    ensures { (h : History) (chunks : List (List ℕ)) → Distinct (version h (newest h) ++ chunks) → new_by_mark (recipe h (newest h)) chunks ≡ fresh h chunks }
 {}

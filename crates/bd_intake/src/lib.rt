@@ -2,9 +2,11 @@
 //! ones and the recipe are written into free extents.
 #![tactic(auto)]
 
+mod extents;
 mod fault;
 mod finish;
 mod laws;
+mod need;
 mod record;
 mod room;
 mod seen;
@@ -13,9 +15,11 @@ mod staged;
 mod staging;
 mod stream;
 mod take_in;
+mod tally;
+mod terms;
 
 pub use fault::IntakeFault;
-pub use laws::first_chunks_are_the_different_ones;
+pub use laws::new_chunks_are_the_fresh_ones;
 pub use staged::Staged;
 pub use take_in::intake;
 

@@ -1,17 +1,14 @@
 //! The bytes of one chunk: its record, where it is new, and its entry.
 ghost use Rattle.std.specs.Prelude.{◌≡◌, ℕ, ◌+◌, ◌*◌, ◌≤◌, List, [], ◌++◌, ◌∷◌, length, OnOk, IsTrue};
 ghost use Rattle.bd_disk.specs.Calls.{HasCause};
-ghost use Rattle.bd_disk.specs.History.{contents};
-ghost use Rattle.bd_disk.specs.Made.{WritesOnly};
-ghost use Rattle.bd_disk.specs.Trace.{ReadsOnly};
-ghost use Rattle.bd_model.specs.Laws.{entries_in};
+ghost use Rattle.bd_disk.specs.Runs.{Writes};
 ghost use Rattle.bd_model.specs.Marks.{mark};
 ghost use Rattle.bd_model.specs.Records.{records_of, spelled_recipe};
 ghost use Rattle.bd_model.specs.Sizes.{sizes_of, disk_bytes};
-ghost use Rattle.bd_catalog.specs.Standing.{BeginWith};
+ghost use Rattle.bd_model.specs.declared.layout.RecipeEntry.{RecipeEntry};
 ghost use Rattle.bd_extio.specs.Ranges.{AreExtents, IsWithin};
 ghost use Rattle.bd_intake.specs.Firsts.{with_new};
-ghost use Rattle.bd_intake.specs.Places.{AreApart, InOneOf};
+ghost use Rattle.bd_intake.specs.Places.{AreApart, BeginsOn, InOneOf};
 ghost use Rattle.bd_intake.specs.Staging.{staged_extents};
 
 use crate::staging::Staging;
@@ -35,13 +32,11 @@ fn write_record<D: Disk>(
     requires some { 1 ≤ length body.now }
     requires short { length body.now ≤ shape.now.max }
     requires marked { own.now.0 ≡ mark body.now }
-    ensures bytes { D.bytes disk.new ≡ D.bytes disk.old }
+    ensures disk { Writes D.Disk (InOneOf (sizes_of shape.now) staging.now.fresh.numbers) disk.old disk.new }
     ensures cause { HasCause (D.faults disk.old) (D.faults disk.new) result }
-    ensures writes { D.tells → WritesOnly (InOneOf (sizes_of shape.now) staging.now.fresh.numbers) (D.history disk.old) (D.history disk.new) }
     ensures written { OnOk result (D.tells → (firsts : List (List ℕ)) → length (records_of firsts) ≡ staging.now.fresh_bytes
-        → BeginWith (sizes_of shape.now) staging.now.fresh.numbers (records_of firsts) (contents (D.history disk.old))
-        → BeginWith (sizes_of shape.now) staging.now.fresh.numbers (records_of (with_new is_new body.now firsts)) (contents (D.history disk.new))) }
-    ensures places { D.tells → ReadsOnly [] (D.history disk.old) (D.history disk.new) }
+        → BeginsOn D.Disk (sizes_of shape.now) staging.now.fresh.numbers (records_of firsts) disk.old
+        → BeginsOn D.Disk (sizes_of shape.now) staging.now.fresh.numbers (records_of (with_new is_new body.now firsts)) disk.new) }
 {
     if !is_new {
         return Ok(());
@@ -61,45 +56,28 @@ fn write_own_entry<D: Disk>(
     disk: &mut D,
     shape: &Shape,
     staging: &Staging,
-    version: u32,
-    own: &Mark,
-    body: &[u8],
+    entry: &RecipeEntry,
 ) -> Result<(), Failed>
     requires room { disk_bytes (sizes_of shape.now) ≤ D.bytes disk.old }
     requires numbers { AreExtents (sizes_of shape.now) staging.now.recipe.numbers }
     requires range { IsWithin (sizes_of shape.now) staging.now.recipe.numbers (40 * staging.now.chunks) 40 }
-    requires short { length body.now ≤ shape.now.max }
-    requires marked { own.now.0 ≡ mark body.now }
-    ensures bytes { D.bytes disk.new ≡ D.bytes disk.old }
+    requires marked { length entry.now.mark.0 ≡ 32 }
+    ensures disk { Writes D.Disk (InOneOf (sizes_of shape.now) staging.now.recipe.numbers) disk.old disk.new }
     ensures cause { HasCause (D.faults disk.old) (D.faults disk.new) result }
-    ensures writes { D.tells → WritesOnly (InOneOf (sizes_of shape.now) staging.now.recipe.numbers) (D.history disk.old) (D.history disk.new) }
-    ensures written { OnOk result (D.tells → (taken : List (List ℕ)) → length taken ≡ staging.now.chunks
-        → BeginWith (sizes_of shape.now) staging.now.recipe.numbers (spelled_recipe (entries_in [] version taken)) (contents (D.history disk.old))
-        → BeginWith (sizes_of shape.now) staging.now.recipe.numbers (spelled_recipe (entries_in [] version (taken ++ body.now ∷ []))) (contents (D.history disk.new))) }
-    ensures places { D.tells → ReadsOnly [] (D.history disk.old) (D.history disk.new) }
+    ensures written { OnOk result (D.tells → (entries : List RecipeEntry) → length (spelled_recipe entries) ≡ 40 * staging.now.chunks
+        → BeginsOn D.Disk (sizes_of shape.now) staging.now.recipe.numbers (spelled_recipe entries) disk.old
+        → BeginsOn D.Disk (sizes_of shape.now) staging.now.recipe.numbers (spelled_recipe (entries ++ entry.now ∷ [])) disk.new) }
 {
-    let entry = RecipeEntry {
-        mark: *own,
-        length: body.len() as u32,
-        start: version,
-    };
-    write_entry(
-        disk,
-        shape,
-        staging.recipe.numbers(),
-        staging.chunks,
-        &entry,
-    )
+    write_entry(disk, shape, staging.recipe.numbers(), staging.chunks, entry)
 }
 
-// Writes what a chunk brings.
+/// Writes what a chunk brings: its record where it is new, and its entry.
 pub(crate) fn write_parts<D: Disk>(
     disk: &mut D,
     shape: &Shape,
     staging: &Staging,
-    version: u32,
     is_new: bool,
-    own: &Mark,
+    entry: &RecipeEntry,
     body: &[u8],
 ) -> Result<(), Failed>
     requires room { disk_bytes (sizes_of shape.now) ≤ D.bytes disk.old }
@@ -108,19 +86,17 @@ pub(crate) fn write_parts<D: Disk>(
     requires entry_range { IsWithin (sizes_of shape.now) staging.now.recipe.numbers (40 * staging.now.chunks) 40 }
     requires some { 1 ≤ length body.now }
     requires short { length body.now ≤ shape.now.max }
-    requires marked { own.now.0 ≡ mark body.now }
-    ensures bytes { D.bytes disk.new ≡ D.bytes disk.old }
+    requires marked { entry.now.mark.0 ≡ mark body.now }
+    ensures disk { Writes D.Disk (InOneOf (sizes_of shape.now) (staged_extents staging.now)) disk.old disk.new }
     ensures cause { HasCause (D.faults disk.old) (D.faults disk.new) result }
-    ensures writes { D.tells → WritesOnly (InOneOf (sizes_of shape.now) (staged_extents staging.now)) (D.history disk.old) (D.history disk.new) }
     ensures records { OnOk result (D.tells → (firsts : List (List ℕ)) → length (records_of firsts) ≡ staging.now.fresh_bytes
-        → BeginWith (sizes_of shape.now) staging.now.fresh.numbers (records_of firsts) (contents (D.history disk.old))
-        → BeginWith (sizes_of shape.now) staging.now.fresh.numbers (records_of (with_new is_new body.now firsts)) (contents (D.history disk.new))) }
-    ensures entries { OnOk result (D.tells → (taken : List (List ℕ)) → length taken ≡ staging.now.chunks
-        → BeginWith (sizes_of shape.now) staging.now.recipe.numbers (spelled_recipe (entries_in [] version taken)) (contents (D.history disk.old))
-        → BeginWith (sizes_of shape.now) staging.now.recipe.numbers (spelled_recipe (entries_in [] version (taken ++ body.now ∷ []))) (contents (D.history disk.new))) }
-    ensures places { D.tells → ReadsOnly [] (D.history disk.old) (D.history disk.new) }
+        → BeginsOn D.Disk (sizes_of shape.now) staging.now.fresh.numbers (records_of firsts) disk.old
+        → BeginsOn D.Disk (sizes_of shape.now) staging.now.fresh.numbers (records_of (with_new is_new body.now firsts)) disk.new) }
+    ensures entries { OnOk result (D.tells → (entries : List RecipeEntry) → length (spelled_recipe entries) ≡ 40 * staging.now.chunks
+        → BeginsOn D.Disk (sizes_of shape.now) staging.now.recipe.numbers (spelled_recipe entries) disk.old
+        → BeginsOn D.Disk (sizes_of shape.now) staging.now.recipe.numbers (spelled_recipe (entries ++ entry.now ∷ [])) disk.new) }
 {
-    write_record(disk, shape, staging, is_new, own, body)?;
-    write_own_entry(disk, shape, staging, version, own, body)?;
+    write_record(disk, shape, staging, is_new, &entry.mark, body)?;
+    write_own_entry(disk, shape, staging, entry)?;
     Ok(())
 }

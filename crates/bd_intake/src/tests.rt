@@ -6,6 +6,7 @@ use bd_files::MemFiles;
 use bd_gear::Gear;
 use bd_marks::mark_of;
 use bd_model::{Name, Shape};
+use bd_recipe::{Neighbour, Recipe};
 use bd_space::Space;
 use std::alloc::Global;
 use std::test::Fail;
@@ -24,6 +25,7 @@ fn take_in(
 ) -> Result<Option<(Answer, u32)>, Fail> {
     let catalog = Catalog::empty(alloc, shape)?;
     let mut space = Space::new(alloc, shape.extents())?;
+    let neighbour = Neighbour::of(alloc, Recipe::new(alloc))?;
     let mut files = MemFiles::new(alloc);
     files.add(&Name::new(alloc, "photos")?, source)?;
     let name = Name::new(alloc, name)?;
@@ -36,6 +38,7 @@ fn take_in(
         &catalog,
         &mut space,
         &Gear::new(),
+        &neighbour,
         &mut files,
         &name,
     ) {

@@ -1,9 +1,9 @@
 use Rattle.std.proofs.Common.{◌≡◌, ◌+◌, ◌*◌, ◌≤◌, subst, sym, arith, length}
 use Rattle.std.proofs.lemmas.Result.{on_ok_weaker}
 use Rattle.bd_disk.specs.History.{contents}
-use Rattle.bd_disk.specs.Made.{WritesOnly}
 use Rattle.bd_disk.specs.Images.{overwritten}
-use Rattle.bd_disk.proofs.RunLemmas.{nothing_read, written}
+use Rattle.bd_disk.specs.Runs.{Writes}
+use Rattle.bd_disk.proofs.RunLemmas.{no_writes}
 use Rattle.bd_model.specs.Extents.{owner_bytes}
 use Rattle.bd_model.specs.Records.{records_of}
 use Rattle.bd_model.specs.Sizes.{sizes_of, disk_bytes}
@@ -14,18 +14,18 @@ use Rattle.bd_intake.specs.Places.{InOneOf}
 use Rattle.bd_intake.proofs.Writing.{owner_writes, record_written}
 use Rattle.bd_intake.proofs.record.write_record.Goals as goal
 
-pub returns-clause-writes : goal.returns-clause-writes
-returns-clause-writes g c = λ told.
+pub returns-then-not-is_new-clause-disk : goal.returns-then-not-is_new-clause-disk
+returns-then-not-is_new-clause-disk g c = no_writes
+
+pub returns-clause-disk : goal.returns-clause-disk
+returns-clause-disk g c =
     let s = sizes_of c.args.shape.now in
     let fits = c.requires.range c.if-not-is_new.false in
     let same = c.numbers.ensures in
-    subst (λ xs. WritesOnly (InOneOf s xs) (g.D.Disk.history c.args.disk.now) (g.D.Disk.history c.write_chunk.new.disk)) same
+    subst (λ xs. Writes g.D.Disk (InOneOf s xs) c.args.disk.now c.write_chunk.new.disk) same
     (owner_writes s c.numbers.result.now (omega (arith, c.args.shape.now.in_range.extent_low)) c.args.staging.now.fresh_bytes (36 + length c.args.body.now)
     (subst (λ xs. c.args.staging.now.fresh_bytes + (36 + length c.args.body.now) ≤ length xs * s.extent) (sym same) fits)
-    (written c.write_chunk.ensures.disk told))
-
-pub returns-clause-places : goal.returns-clause-places
-returns-clause-places g c = λ told. nothing_read c.write_chunk.ensures.disk told
+    c.write_chunk.ensures.disk)
 
 pub returns-clause-written : goal.returns-clause-written
 returns-clause-written g c =

@@ -1,28 +1,26 @@
-use Rattle.std.proofs.Common.{◌≡◌, ◌-◌, ◌^◌, ◌<◌, false, [], length}
+use Rattle.std.proofs.Common.{◌≡◌, ◌-◌, ◌^◌, ◌<◌, false, length}
 use Rattle.bd_disk.specs.History.{contents}
-use Rattle.bd_disk.specs.Made.{WritesOnly}
-use Rattle.bd_disk.specs.Trace.{ReadsOnly}
+use Rattle.bd_disk.specs.Runs.{Writes}
 use Rattle.bd_model.specs.Sizes.{sizes_of}
 use Rattle.bd_intake.specs.Filling.{CountsMissing, Fills}
+use Rattle.bd_intake.specs.Given.{given}
 use Rattle.bd_intake.specs.Places.{InOneOf}
 use Rattle.bd_intake.specs.Staging.{Grows, IsStaging, staged_extents}
 use Rattle.bd_intake.proofs.source.fill.Given as goal
 
 abbrev pub invariant-loop-count : goal.invariant-loop-count
 invariant-loop-count g l = record {
-  bytes : g.D.Disk.bytes l.disk ≡ g.D.Disk.bytes l.initial.disk;
+  disk : Writes g.D.Disk (InOneOf (sizes_of l.terms.shape) (staged_extents l.staging)) l.initial.disk l.disk;
   faults : g.D.Disk.faults l.disk ≡ g.D.Disk.faults l.initial.disk;
   sources : g.F.Files.source_faults l.files ≡ g.F.Files.source_faults l.initial.files;
   targets : g.F.Files.target_faults l.files ≡ g.F.Files.target_faults l.initial.files;
   strays : g.F.Files.tells → CountsMissing (g.F.Files.files l.initial.files) l.name (g.F.Files.strays l.initial.files) (g.F.Files.strays l.files);
   same : g.F.Files.tells → g.F.Files.files l.files ≡ g.F.Files.files l.initial.files;
-  staging : IsStaging (sizes_of l.shape) l.free l.space l.staging;
+  staging : IsStaging (given l.terms) l.space l.staging;
   still_open : l.chunker.finished ≡ false;
   short : length l.chunker.held < 65536;
   grows : Grows l.initial.space l.space l.initial.staging l.staging;
-  writes : g.D.Disk.tells → WritesOnly (InOneOf (sizes_of l.shape) (staged_extents l.staging)) (g.D.Disk.history l.initial.disk) (g.D.Disk.history l.disk);
-  reads : g.D.Disk.tells → ReadsOnly [] (g.D.Disk.history l.initial.disk) (g.D.Disk.history l.disk);
-  fills : Fills (sizes_of l.shape) l.version l.at l.chunker l.staging g.D.Disk.tells (contents (g.D.Disk.history l.disk)) g.F.Files.tells (g.F.Files.files l.initial.files) l.name;
+  fills : Fills (given l.terms) l.at l.chunker l.staging g.D.Disk.tells (contents (g.D.Disk.history l.disk)) g.F.Files.tells (g.F.Files.files l.initial.files) l.name;
 }
 
 abbrev pub decreases-loop-count : goal.decreases-loop-count
