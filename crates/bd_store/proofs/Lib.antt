@@ -1,11 +1,9 @@
-pub mod FirstImages
-pub mod FirstStops
-pub mod FirstCall
-pub mod FirstSteps
 pub mod LineLemmas
 pub mod Listed
 pub mod Making
 pub mod Meeting
+pub mod OneBackup
+pub mod OneCall
 pub mod Quiet
 pub mod Refusing
 pub mod Restoring

@@ -49,7 +49,7 @@ writes_none found Scrub h = made_none _ h
 writes_none found Listing h = made_none _ h
 
 looks_none : (command other : Command) (result : Result Answer StoreFault) (s : Scene) → LooksByCommand (attempt other result s s) command
-looks_none (Backup name) other result s = tt
+looks_none (Backup name) other result s = made_none _ s.disk
 looks_none (Restore version name) other result s = made_none _ s.disk
 looks_none Expire other result s = tt
 looks_none Reorganise other result s = tt

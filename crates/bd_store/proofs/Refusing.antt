@@ -64,18 +64,19 @@ versions_refuse held h files name found count agrees below used same shape st ph
     full_versions shape held st files name (subst (λ n. n < last_number) shows.numbers.newest below) (sym shows.numbers.retained ∙ used ∙ most)
     ∙ ap (λ n. Some (unchanged st files (FullVersions n))) (sym most ∙ sym used ∙ same)
 
--- a backup that is refused by no number is still to come where something is retained
-pub backup_unbuilt : (found : Found) → (found.catalogue.newest ≡ last_number → ⊥) → (retained_in found.catalogue ≡ found.sizes.retain → ⊥) → 0 < retained_in found.catalogue → is_unbuilt found ≡ true
+-- a backup that is refused by no number is still to come where more than one version is retained
+pub backup_unbuilt : (found : Found) → (found.catalogue.newest ≡ last_number → ⊥) → (retained_in found.catalogue ≡ found.sizes.retain → ⊥) → 1 < retained_in found.catalogue → is_unbuilt found ≡ true
 backup_unbuilt found numbers versions some =
     let numbers_left : numbers_used_up found ≡ false = ne_eqb found.catalogue.newest last_number numbers in
     let versions_left : versions_used_up found ≡ false = ne_eqb (retained_in found.catalogue) found.sizes.retain versions in
-    let more : nat_lt 0 (retained_in found.catalogue) ≡ true = lt-ltb 0 (retained_in found.catalogue) some in
+    let more : nat_lt 1 (retained_in found.catalogue) ≡ true = lt-ltb 1 (retained_in found.catalogue) some in
     λ k. not (numbers_left k || versions_left k) && more k
 
--- it goes on where nothing is
-pub backup_goes_on : (found : Found) → found.catalogue.newest < last_number → retained_in found.catalogue ≡ 0 → 1 ≤ found.sizes.retain → (numbers_used_up found || versions_used_up found ≡ false) × (is_unbuilt found ≡ false)
-backup_goes_on found below none some =
+-- else it goes on
+pub backup_goes_on : (found : Found) → found.catalogue.newest < last_number → retained_in found.catalogue < found.sizes.retain → retained_in found.catalogue ≤ 1 →
+    (numbers_used_up found || versions_used_up found ≡ false) × (is_unbuilt found ≡ false)
+backup_goes_on found below fewer few =
     let numbers_left : numbers_used_up found ≡ false = ne_eqb found.catalogue.newest last_number (λ e. absurd (omega (arith, e, below))) in
-    let versions_left : versions_used_up found ≡ false = ne_eqb (retained_in found.catalogue) found.sizes.retain (λ e. absurd (omega (arith, e, none, some))) in
-    let nothing : nat_lt 0 (retained_in found.catalogue) ≡ false = le-ltb 0 (retained_in found.catalogue) (omega (arith, none)) in
-    (λ k. numbers_left k || versions_left k, and_right (not (numbers_used_up found || versions_used_up found)) (nat_lt 0 (retained_in found.catalogue)) nothing)
+    let versions_left : versions_used_up found ≡ false = ne_eqb (retained_in found.catalogue) found.sizes.retain (λ e. absurd (omega (arith, e, fewer))) in
+    let nothing : nat_lt 1 (retained_in found.catalogue) ≡ false = le-ltb 1 (retained_in found.catalogue) few in
+    (λ k. numbers_left k || versions_left k, and_right (not (numbers_used_up found || versions_used_up found)) (nat_lt 1 (retained_in found.catalogue)) nothing)

@@ -2,7 +2,7 @@
 -- stopped.
 use Rattle.std.proofs.Common.{◌≡◌, ◌∙◌, ◌↔◌, ◌≤◌, ℕ, Bool, true, false, List, [], inl, inr, refl, sym, ap, subst, arith, Ok, Err, Result}
 use Rattle.bd_disk.specs.Calls.{FailsByCount, Rose}
-use Rattle.bd_disk.specs.History.{History, contents}
+use Rattle.bd_disk.specs.History.{contents}
 use Rattle.bd_disk.specs.Runs.{Reads}
 use Rattle.bd_disk.specs.Trace.{ReadsOnly}
 use Rattle.bd_disk.specs.declared.disk.Disk.{Ghosts as DiskGhosts}

@@ -14,10 +14,11 @@ use Rattle.bd_model.specs.declared.answer.Answer.TheVariants.{BackedUp, Expired,
 use Rattle.bd_model.specs.declared.command.Command.{Command}
 use Rattle.bd_model.specs.declared.command.Command.TheVariants.{Backup, Restore, List as Listing}
 use Rattle.bd_model.specs.declared.damage.Damage.{Damage}
+use Rattle.bd_model.specs.declared.layout.RecipeEntry.{RecipeEntry}
 use Rattle.bd_model.specs.Step.{without_room}
 use Rattle.bd_gate.specs.Halves.{InHalf}
 use Rattle.bd_catalog.specs.Agreement.{Agrees, InExtents}
-use Rattle.bd_catalog.specs.Catalogue.{all_extents, oldest_in}
+use Rattle.bd_catalog.specs.Catalogue.{all_extents, oldest_in, retained_in}
 use Rattle.bd_catalog.specs.Standing.{lines_from}
 use Rattle.bd_catalog.specs.Opening.{Found}
 use Rattle.bd_catalog.specs.Rows.{walk}
@@ -26,11 +27,11 @@ use Rattle.bd_recipe.specs.Reading.{recipe_found}
 use Rattle.bd_restore.specs.Target.{held, HasChunks}
 use Rattle.bd_restore.specs.Walk.{HasGoodHeaders}
 use Rattle.bd_store.specs.Causes.{Counts, counts, FailsOnlyByCount, StraysOnlyBy}
-use Rattle.bd_store.specs.Naming.{NamesDamage}
+use Rattle.bd_store.specs.Naming.{NamesDamage, NamesNewest}
 use Rattle.bd_store.specs.Shown.{Shown, SameVersions}
 use Rattle.bd_store.specs.Steps.{IsOneStep, KeepsFiles}
 use Rattle.bd_store.specs.Stops.{IsSafeAtStops}
-use Rattle.bd_store.specs.Touches.{AnswersByNumbers, AnswersByVersion, BackupReads, InRestore, IsByVersion, WalksTo}
+use Rattle.bd_store.specs.Touches.{AnswersByNumbers, AnswersByVersion, BackupReads, InNewest, InRestore, IsByNumbers, WalksTo}
 use Rattle.bd_store.specs.declared.fault.StoreFault.{StoreFault}
 use Rattle.bd_store.specs.declared.fault.StoreFault.TheVariants.{DiskFault, Damaged, OutOfMemory, Unbuilt}
 
@@ -118,29 +119,38 @@ RestoreReads a v (Err fault) = Unit {0}
 
 -- which places are read, at every answer
 abbrev pub ReadsByCommand : Attempt → Command → Type 0
-ReadsByCommand a (Backup name) = BackupReads a.before.disk a.after.disk a.result
+ReadsByCommand a (Backup name) = BackupReads a.before.store.found a.before.disk a.after.disk a.result
 ReadsByCommand a (Restore v name) = RestoreReads a v a.result
 ReadsByCommand a command = TouchesNothing a.before.disk a.after.disk
 
--- a restore reads its recipe and the rows on its walk, whatever image it is and however it ends
+-- whatever image it is, and at every answer: a backup reads the newest recipe, and a restore its recipe and the rows on its walk
 abbrev pub LooksByCommand : Attempt → Command → Type 0
+LooksByCommand a (Backup name) = LooksOnlyAt (InNewest a.before.store.found) a.before.disk a.after.disk
 LooksByCommand a (Restore v name) = LooksOnlyAt (InRestore a.before.store.found v) a.before.disk a.after.disk
 LooksByCommand a command = Unit {0}
 
 -- A damage is one that the command looks for, its bytes were read, and they break its rule.
 abbrev pub DamageByCommand : Attempt → Command → Type 0
+DamageByCommand a (Backup name) = NamesNewest a.before.store.found a.before.disk a.after.disk a.result
 DamageByCommand a (Restore v name) = NamesDamage a.before.store.found v a.before.disk a.after.disk a.result
 DamageByCommand a command = Unit {0}
 
--- a recipe that doesn't hold ends in its damage, but for a fault of the disk and want of memory before it
+-- what the recipe of a version is found to be
+abbrev pub recipe_before : Attempt → ℕ → Result (List RecipeEntry) Damage
+recipe_before a v = recipe_found a.before.store.found.sizes a.before.store.found.catalogue (contents a.before.disk) v
+
+-- a recipe that doesn't hold ends in its damage, but for a fault of the disk and want of memory before it, and where the
+-- catalogue refuses alone
 abbrev pub EndsInDamage : Damage → Result Answer StoreFault → Type 0
 EndsInDamage damage (Err (Damaged found)) = found ≡ damage
 EndsInDamage damage (Err DiskFault) = Unit {0}
 EndsInDamage damage (Err OutOfMemory) = Unit {0}
-EndsInDamage damage result = IsByVersion result
+EndsInDamage damage (Err Unbuilt) = Unit {0}
+EndsInDamage damage result = IsByNumbers result
 
 abbrev pub RecipeByCommand : Attempt → Command → Type 0
-RecipeByCommand a (Restore v name) = (damage : Damage) → recipe_found a.before.store.found.sizes a.before.store.found.catalogue (contents a.before.disk) v ≡ Err damage → EndsInDamage damage a.result
+RecipeByCommand a (Backup name) = (damage : Damage) → 1 ≤ retained_in a.before.store.found.catalogue → recipe_before a a.before.store.found.catalogue.newest ≡ Err damage → EndsInDamage damage a.result
+RecipeByCommand a (Restore v name) = (damage : Damage) → recipe_before a v ≡ Err damage → EndsInDamage damage a.result
 RecipeByCommand a command = Unit {0}
 
 -- over every image

@@ -2,6 +2,7 @@ pub mod Attempts
 pub mod Causes
 pub mod Kept
 pub mod Naming
+pub mod Newest
 pub mod Openings
 pub mod Shown
 pub mod Steps

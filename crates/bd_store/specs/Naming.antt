@@ -1,11 +1,12 @@
 -- What the faults of the crates below are answered with, what is said of a named damage, and what holds but where the disk
 -- failed.
-use Rattle.std.specs.Prelude.{◌≡◌, ℕ, List, Result, Ok, Err}
+use Rattle.std.specs.Prelude.{◌≡◌, ℕ, List, [], Result, Ok, Err}
 use Rattle.bd_disk.specs.History.{History, contents}
 use Rattle.bd_catalog.specs.Damages.{IsOfVersion, IsSeen}
 use Rattle.bd_catalog.specs.Opening.{Found}
 use Rattle.bd_catalog.specs.Rows.{walk}
 use Rattle.bd_catalog.specs.Sound.{recipe_of}
+use Rattle.bd_recipe.specs.Reading.{recipe_found}
 use Rattle.bd_recipe.specs.declared.fault.ReadFault.{ReadFault}
 use Rattle.bd_recipe.specs.declared.fault.ReadFault.TheVariants.{DiskFault as ReadDisk, Damaged as ReadDamaged, OutOfMemory as ReadMemory}
 use Rattle.bd_restore.specs.Met.{ComesTo, IsNeeded}
@@ -60,3 +61,13 @@ pub record IsDamageOf (found : Found) (v : ℕ) (damage : Damage) (old new : His
 abbrev pub NamesDamage : Found → ℕ → History → History → Result Answer StoreFault → Type 0
 NamesDamage found v old new (Err (DamageFound damage)) = IsDamageOf found v damage old new
 NamesDamage found v old new result = Unit {0}
+
+-- the damage is one of the newest recipe, which a backup reads: an entry or its sum; the bytes that it names were read
+-- between these moments, and break its rule
+pub record IsDamageOfNewest (found : Found) (damage : Damage) (old new : History) : Type 0 where
+  pub part : recipe_found found.sizes found.catalogue (contents old) found.catalogue.newest ≡ Err damage
+  pub seen : IsSeen found.sizes found.catalogue (contents old) [] damage old new
+
+abbrev pub NamesNewest : Found → History → History → Result Answer StoreFault → Type 0
+NamesNewest found old new (Err (DamageFound damage)) = IsDamageOfNewest found damage old new
+NamesNewest found old new result = Unit {0}

@@ -4,6 +4,7 @@
 mod fault;
 mod listing;
 mod naming;
+mod newest;
 mod store;
 
 pub use bd_recover::{FormatFault, OpenFault};

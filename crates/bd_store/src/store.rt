@@ -35,6 +35,7 @@ ghost use Rattle.bd_store.specs.Stops.{IsSafeAtStops};
 use crate::fault::{StoreFault, fault_of_reading, fault_of_restore, is_disk_fault, refusal_of};
 use crate::listing::lines_of;
 use crate::naming::name_version;
+use crate::newest::newest_recipe;
 use bd_catalog::Catalog;
 use bd_disk::Disk;
 use bd_files::Files;
@@ -127,22 +128,23 @@ impl Store {
         if retained == shape.retain() {
             return Ok(Answer::FullVersions { retained });
         }
-        if retained > 0 {
+        if retained > 1 {
             return Err(StoreFault::Unbuilt);
         }
-        self.back_up_first(disk, files, name)
+        self.back_up(disk, files, name)
     }
 
-    // Stores the named source as the one version of a store that retains none.
-    fn back_up_first<D: Disk, F: Files>(
+    // Stores the named source as the next version of a settled store.
+    fn back_up<D: Disk, F: Files>(
         &mut self,
         disk: &mut D,
         files: &mut F,
         name: &Name,
     ) -> Result<Answer, StoreFault>
         requires number { self.old.found.catalogue.newest < last_number }
-        requires nothing { retained_in self.old.found.catalogue ≡ 0 }
-        requires limit { 1 ≤ self.old.found.sizes.retain }
+        requires few { retained_in self.old.found.catalogue ≤ 1 }
+        requires settled { self.old.found.catalogue.phase ≡ Settled }
+        requires limit { retained_in self.old.found.catalogue < self.old.found.sizes.retain }
         requires room { disk_bytes self.old.found.sizes ≤ D.bytes disk.old }
         requires agrees { D.tells → Agrees self.old.found (D.history disk.old) }
         requires sound { self.old.worn ≡ false }
@@ -151,6 +153,14 @@ impl Store {
         if self.catalog.reserve().is_err() {
             return Err(StoreFault::OutOfMemory);
         }
+        let neighbour = match newest_recipe(self.alloc, disk, &self.catalog) {
+            Ok(neighbour) => neighbour,
+            Err(fault) => {
+                let unread = Err(fault_of_reading(fault));
+                self.worn = is_disk_fault(&unread);
+                return unread;
+            }
+        };
         let gear = Gear::new();
         match intake(
             self.alloc,
@@ -158,6 +168,7 @@ impl Store {
             &self.catalog,
             &mut self.space,
             &gear,
+            &neighbour,
             files,
             name,
         ) {

@@ -1,11 +1,8 @@
-use Rattle.std.proofs.Common.{◌≡◌, ◌-◌, ◌<◌, ◌∙◌, ⊎_elim, nat_lt, inl, inr, refl, sym, ap, arith}
-use Rattle.std.proofs.lemmas.Bool.{and_from, lt-ltb}
+use Rattle.std.proofs.Common.{◌≡◌, ◌-◌, ◌<◌, ◌∙◌, ⊎_elim, inl, inr, refl, sym, ap, arith}
 use Rattle.bd_catalog.specs.Catalogue.{oldest_in, retained_in}
 use Rattle.bd_store.specs.Shown.{Shown}
-use Rattle.bd_store.specs.Touches.{is_retained}
-use Rattle.bd_store.proofs.Asking.{none_beside, nothing_refuses, number_refuses, retained_is}
-use Rattle.bd_store.proofs.Meeting.{meets_untouched, unbuilt_step}
-use Rattle.bd_store.proofs.Quiet.{safe_untouched}
+use Rattle.bd_store.proofs.Asking.{none_beside, nothing_refuses, number_refuses}
+use Rattle.bd_store.proofs.Meeting.{meets_untouched}
 use Rattle.bd_store.proofs.Refusing.{refused_step, refused_stops}
 use Rattle.bd_store.proofs.store.Store.restore.Goals as goal
 
