@@ -19,7 +19,7 @@ use Rattle.bd_catalog.specs.Catalogue.{oldest_in}
 use Rattle.bd_catalog.specs.Damages.{IsSeen}
 use Rattle.bd_catalog.specs.Opening.{Found}
 use Rattle.bd_catalog.specs.Rows.{walk}
-use Rattle.bd_recipe.specs.Reading.{IfDamaged, InRecipe, is_disk_fault, recipe_found, recipe_places, total}
+use Rattle.bd_recipe.specs.Reading.{IfDamaged, InRecipe, IsRecipe, is_disk_fault, recipe_found, recipe_places, total}
 use Rattle.bd_recipe.specs.declared.fault.ReadFault.{ReadFault}
 use Rattle.bd_recipe.specs.declared.fault.ReadFault.TheVariants.{DiskFault as ReadDisk, Damaged as ReadDamaged, OutOfMemory as ReadMemory}
 use Rattle.bd_recipe.proofs.Holding.{holds-found}
@@ -131,6 +131,7 @@ module _ {D F : Type 0} (d : DiskGhosts D) (f : FilesGhosts F) (found : Found) (
     pub disk : Reads d (InRecipe found.sizes found.catalogue v) disk0 disk1
     pub faults : d.faults disk1 ≡ d.faults disk0
     pub made : IsPlanOf found.sizes found.catalogue v plan
+    pub recipe : IsRecipe found.sizes found.catalogue v plan.entries
     pub entries : d.tells → recipe_found found.sizes found.catalogue (contents (d.history disk0)) v ≡ Ok plan.entries
     pub places : d.tells → ReadsOnly (recipe_places found.sizes found.catalogue v) (d.history disk0) (d.history disk1)
 
@@ -165,7 +166,7 @@ module _ {D F : Type 0} (d : DiskGhosts D) (f : FilesGhosts F) (found : Found) (
         later = record { disk = omega (arith, ran.cause.disk.later, read.faults); sources = omega (arith, ran.files.sources); targets = ran.cause.target.later };
         cause = λ k. counts ((ran.cause.disk.cause ∙ read.faults) k) (ran.files.sources k) (ran.cause.target.cause k);
       };
-      answer = (omega (arith, from, to), retained, refl, gave.length ∙ read.made.recipe.sum);
+      answer = (omega (arith, from, to), retained, refl, gave.length ∙ read.recipe.sum);
       store = store_kept (Ok (Restored v given)) false disk2 files2 (λ e. let no : false ≡ true = e in absurd (cc), λ e. let no : ◌≡◌ {A = Result Answer StoreFault} (Ok (Restored v given)) (Err DiskFault) = e in absurd (cc));
       on_disk = λ told. record {
         agrees = λ _. agrees_quiet found (nothing_written (reads (Ok given) ran) told) (agrees told);

@@ -48,7 +48,7 @@ returns-in-Ok-run_plan g c =
           (λ told. subst (λ (f : Found). Agrees f (g.D.Disk.history c.args.disk.now)) (sym same) (c.requires.agrees told))
           (subst (λ (f : Found). oldest_in f.catalogue ≤ c.args.version) (sym same) c.requires.oldest) (subst (λ (f : Found). c.args.version ≤ f.catalogue.newest) (sym same) c.requires.newest)
           c.in-Ok.plan c.plan_for.new.disk
-          (record { disk = c.plan_for.ensures.disk; faults = c.in-Ok.ensures.cause.cause; made = c.in-Ok.ensures.plan; entries = c.in-Ok.ensures.entries; places = c.in-Ok.ensures.places })
+          (record { disk = c.plan_for.ensures.disk; faults = c.in-Ok.ensures.cause.cause; made = c.in-Ok.ensures.plan; recipe = c.in-Ok.ensures.recipe; entries = c.in-Ok.ensures.entries; places = c.in-Ok.ensures.places })
           c.run_plan.new.disk c.run_plan.new.files c.in-Ok-run_plan.bytes
           (record { disk = c.run_plan.ensures.disk; files = c.run_plan.ensures.files; cause = c.in-Ok-run_plan.ensures.cause })
           (record { length = c.in-Ok-run_plan.ensures.length; file = c.in-Ok-run_plan.ensures.file; finished = c.in-Ok-run_plan.ensures.finished; walked = c.in-Ok-run_plan.ensures.read }));
@@ -70,7 +70,7 @@ returns-in-Err-run_plan g c =
     (λ told. subst (λ (f : Found). Agrees f (g.D.Disk.history c.args.disk.now)) (sym same) (c.requires.agrees told))
     (subst (λ (f : Found). oldest_in f.catalogue ≤ c.args.version) (sym same) c.requires.oldest) (subst (λ (f : Found). c.args.version ≤ f.catalogue.newest) (sym same) c.requires.newest)
     c.in-Ok.plan c.plan_for.new.disk
-    (record { disk = c.plan_for.ensures.disk; faults = c.in-Ok.ensures.cause.cause; made = c.in-Ok.ensures.plan; entries = c.in-Ok.ensures.entries; places = c.in-Ok.ensures.places })
+    (record { disk = c.plan_for.ensures.disk; faults = c.in-Ok.ensures.cause.cause; made = c.in-Ok.ensures.plan; recipe = c.in-Ok.ensures.recipe; entries = c.in-Ok.ensures.entries; places = c.in-Ok.ensures.places })
     c.run_plan.new.disk c.run_plan.new.files c.in-Err-run_plan.fault worn
     (record { disk = c.run_plan.ensures.disk; files = c.run_plan.ensures.files; cause = c.in-Err-run_plan.ensures.cause })
     c.in-Err-run_plan.ensures.damage
