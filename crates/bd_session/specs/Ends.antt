@@ -1,5 +1,5 @@
 -- Which end comes of what.
-use Rattle.std.specs.Prelude.{◌≡◌, ℕ, ◌≤◌, List, true, Option, Some, Result, Ok, Err}
+use Rattle.std.specs.Prelude.{◌≡◌, ◌⊎◌, ℕ, ◌≤◌, List, true, Option, Some, Result, Ok, Err}
 use Rattle.bd_disk.specs.Calls.{Rose}
 use Rattle.bd_files.specs.Sinks.{HandsPart}
 use Rattle.bd_model.specs.Texts.{answer_text}
@@ -75,11 +75,11 @@ pub record EndsOnlyByCount (ending : SessionEnd) (before now : Around) : Type 0 
 
 -- ---- by which command
 
--- A source that fails belongs to a backup, a target that fails and damage to a restore. A command that is still to come is
+-- A source that fails belongs to a backup, a target that fails to a restore, and damage to either. A command that is still to come is
 -- one by what the store found.
 abbrev pub IsMetBy : Option Command → SessionEnd → Type 0
 IsMetBy next SourceFault = (name : List ℕ) × (next ≡ Some (Backup name))
 IsMetBy next TargetFault = (v : ℕ) × (name : List ℕ) × (next ≡ Some (Restore v name))
-IsMetBy next (Damaged damage) = (v : ℕ) × (name : List ℕ) × (next ≡ Some (Restore v name))
+IsMetBy next (Damaged damage) = ((name : List ℕ) × (next ≡ Some (Backup name))) ⊎ ((v : ℕ) × (name : List ℕ) × (next ≡ Some (Restore v name)))
 IsMetBy next Unbuilt = (found : Found) × (command : Command) × (next ≡ Some command) × IsAnswerOf found command (Err StoreUnbuilt)
 IsMetBy next ending = Unit {0}
