@@ -108,7 +108,8 @@ impl Store {
         })
     }
 
-    /// Stores the named source as the next version.
+    /// Stores the named source as the next version. The newest recipe is read before it, and one that doesn't hold is
+    /// answered as its damage. Where more than one version is retained this is still to come.
     pub fn backup<D: Disk, F: Files>(
         &mut self,
         disk: &mut D,
@@ -185,7 +186,8 @@ impl Store {
         }
     }
 
-    /// Gives a retained version back: the named target has its stream afterwards. It changes nothing on the disk.
+    /// Gives a retained version back: the named target has its stream afterwards, and is finished. It changes nothing on the
+    /// disk. A damage that it comes to is answered, and the target may be half written then.
     pub fn restore<D: Disk, F: Files>(
         &mut self,
         disk: &mut D,
