@@ -195,9 +195,9 @@ impl Catalog {
     }
 
     /// Makes the step, in memory and on the disk: writes the catalogue after it into the half that isn't the newest, with
-    /// four or six calls of the disk and no other. Takes no memory.
+    /// four or six calls of the disk. Takes no memory. Once it answered Ok, what the step gave up is free in the space.
     ///
-    /// Once it answered Ok, what the step gave up is free in the space. A stop at any moment leaves the old catalogue or the new one. After `Failed` the catalogue isn't used again.
+    /// A stop at any moment leaves the old catalogue or the new one. After `Failed` the catalogue isn't used again.
     pub fn commit<D: Disk>(
         &mut self,
         disk: &mut D,

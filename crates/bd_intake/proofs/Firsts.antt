@@ -32,7 +32,7 @@ one_more true false c d others = ap (λ xs. d ∷ xs) (append-nil others)
 one_more false true c d others = refl
 one_more false false c d others = refl
 
-filter-cond : (p : List ℕ → Bool) (b : Bool) (xs ys : List (List ℕ)) → filter p (cond b xs ys) ≡ cond b (filter p xs) (filter p ys)
+pub filter-cond : {X : Type 0} (p : X → Bool) (b : Bool) (xs ys : List X) → filter p (cond b xs ys) ≡ cond b (filter p xs) (filter p ys)
 filter-cond p true xs ys = refl
 filter-cond p false xs ys = refl
 

@@ -15,7 +15,7 @@ use Rattle.bd_model.specs.Recipe.{has_mark}
 use Rattle.bd_model.specs.Sizes.{Sizes, sizes_of}
 use Rattle.bd_model.specs.declared.layout.RecipeEntry.{RecipeEntry}
 use Rattle.bd_model.proofs.RoomLemmas.{up-enough}
-use Rattle.bd_space.specs.Allotment.{Allotment, free_count}
+use Rattle.bd_space.specs.Allotment.{Allotment}
 use Rattle.bd_space.specs.Holding.{Holding}
 use Rattle.bd_extio.proofs.Places.{range_small}
 use Rattle.bd_catalog.specs.Standing.{BeginWith}
@@ -125,9 +125,6 @@ module _ (terms : Terms) (staging : Staging) where
   pub staging_is_small : (space : Allotment) → IsStaging (given terms) space staging → IsSmall staging
   staging_is_small space is =
       staging_small is.taken is.has is.extents (owns_apart s is.base is.first space staging.recipe.numbers staging.fresh.numbers is.count is.owns)
-
-  pub staging_left : (space : Allotment) → IsStaging (given terms) space staging → free_count space + (length staging.recipe.numbers + length staging.fresh.numbers) ≡ (given terms).free
-  staging_left space is = is.owns.counted ∙ is.left
 
 -- ---- one chunk more
 

@@ -15,6 +15,7 @@ use Rattle.bd_model.specs.declared.layout.RecipeEntry.{RecipeEntry}
 use Rattle.bd_model.proofs.ChunkListLemmas.{bytes_eq-sym}
 use Rattle.bd_intake.specs.declared.tally.Share.{Share}
 use Rattle.bd_intake.specs.declared.tally.Tally.{Tally}
+use Rattle.bd_intake.proofs.Firsts.{filter-cond}
 use Rattle.bd_intake.specs.Tallies.{Counts, gone_with, no_share, share_at, share_of, share_with, some_from}
 
 -- ---- one entry more at the end
@@ -24,15 +25,8 @@ module _ (es : List RecipeEntry) (e : RecipeEntry) where
   or-false true = refl
   or-false false = refl
 
-  pub has_mark-push : (m : List ℕ) → has_mark (es ++ e ∷ []) m ≡ (has_mark es m || bytes_eq m e.mark.0)
-  has_mark-push m = list_any-append (λ f. bytes_eq m f.mark.0) es (e ∷ []) ∙ ap (λ b. has_mark es m || b) (or-false (bytes_eq m e.mark.0))
-
   pub some_from-push : (i : ℕ) → some_from i (es ++ e ∷ []) ≡ (some_from i es || nat_eq e.start i)
   some_from-push i = list_any-append (λ f. nat_eq f.start i) es (e ∷ []) ∙ ap (λ b. some_from i es || b) (or-false (nat_eq e.start i))
-
-filter-cond : {X : Type 0} (p : X → Bool) (b : Bool) (xs ys : List X) → filter p (cond b xs ys) ≡ cond b (filter p xs) (filter p ys)
-filter-cond p true xs ys = refl
-filter-cond p false xs ys = refl
 
 -- the first of a list, and one more behind
 one_more : {X : Type 0} (same known : Bool) (d e : X) (others : List X) →

@@ -8,4 +8,5 @@ pub mod Places
 pub mod Seen
 pub mod Spaces
 pub mod Staging
+pub mod Taking
 pub mod Tallies

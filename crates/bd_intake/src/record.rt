@@ -8,7 +8,7 @@ ghost use Rattle.bd_model.specs.Sizes.{sizes_of, disk_bytes};
 ghost use Rattle.bd_model.specs.declared.layout.RecipeEntry.{RecipeEntry};
 ghost use Rattle.bd_extio.specs.Ranges.{AreExtents, IsWithin};
 ghost use Rattle.bd_intake.specs.Firsts.{with_new};
-ghost use Rattle.bd_intake.specs.Places.{AreApart, BeginsOn, InOneOf};
+ghost use Rattle.bd_intake.specs.Places.{AddsEntry, AddsRecord, AreApart, InOneOf};
 ghost use Rattle.bd_intake.specs.Staging.{staged_extents};
 
 use crate::staging::Staging;
@@ -34,9 +34,7 @@ fn write_record<D: Disk>(
     requires marked { own.now.0 ≡ mark body.now }
     ensures disk { Writes D.Disk (InOneOf (sizes_of shape.now) staging.now.fresh.numbers) disk.old disk.new }
     ensures cause { HasCause (D.faults disk.old) (D.faults disk.new) result }
-    ensures written { OnOk result (D.tells → (firsts : List (List ℕ)) → length (records_of firsts) ≡ staging.now.fresh_bytes
-        → BeginsOn D.Disk (sizes_of shape.now) staging.now.fresh.numbers (records_of firsts) disk.old
-        → BeginsOn D.Disk (sizes_of shape.now) staging.now.fresh.numbers (records_of (with_new is_new body.now firsts)) disk.new) }
+    ensures written { OnOk result (AddsRecord D.Disk (sizes_of shape.now) staging.now.fresh.numbers staging.now.fresh_bytes is_new body.now disk.old disk.new) }
 {
     if !is_new {
         return Ok(());
@@ -64,9 +62,7 @@ fn write_own_entry<D: Disk>(
     requires marked { length entry.now.mark.0 ≡ 32 }
     ensures disk { Writes D.Disk (InOneOf (sizes_of shape.now) staging.now.recipe.numbers) disk.old disk.new }
     ensures cause { HasCause (D.faults disk.old) (D.faults disk.new) result }
-    ensures written { OnOk result (D.tells → (entries : List RecipeEntry) → length (spelled_recipe entries) ≡ 40 * staging.now.chunks
-        → BeginsOn D.Disk (sizes_of shape.now) staging.now.recipe.numbers (spelled_recipe entries) disk.old
-        → BeginsOn D.Disk (sizes_of shape.now) staging.now.recipe.numbers (spelled_recipe (entries ++ entry.now ∷ [])) disk.new) }
+    ensures written { OnOk result (AddsEntry D.Disk (sizes_of shape.now) staging.now.recipe.numbers staging.now.chunks entry.now disk.old disk.new) }
 {
     write_entry(disk, shape, staging.recipe.numbers(), staging.chunks, entry)
 }
@@ -89,12 +85,8 @@ pub(crate) fn write_parts<D: Disk>(
     requires marked { entry.now.mark.0 ≡ mark body.now }
     ensures disk { Writes D.Disk (InOneOf (sizes_of shape.now) (staged_extents staging.now)) disk.old disk.new }
     ensures cause { HasCause (D.faults disk.old) (D.faults disk.new) result }
-    ensures records { OnOk result (D.tells → (firsts : List (List ℕ)) → length (records_of firsts) ≡ staging.now.fresh_bytes
-        → BeginsOn D.Disk (sizes_of shape.now) staging.now.fresh.numbers (records_of firsts) disk.old
-        → BeginsOn D.Disk (sizes_of shape.now) staging.now.fresh.numbers (records_of (with_new is_new body.now firsts)) disk.new) }
-    ensures entries { OnOk result (D.tells → (entries : List RecipeEntry) → length (spelled_recipe entries) ≡ 40 * staging.now.chunks
-        → BeginsOn D.Disk (sizes_of shape.now) staging.now.recipe.numbers (spelled_recipe entries) disk.old
-        → BeginsOn D.Disk (sizes_of shape.now) staging.now.recipe.numbers (spelled_recipe (entries ++ entry.now ∷ [])) disk.new) }
+    ensures records { OnOk result (AddsRecord D.Disk (sizes_of shape.now) staging.now.fresh.numbers staging.now.fresh_bytes is_new body.now disk.old disk.new) }
+    ensures entries { OnOk result (AddsEntry D.Disk (sizes_of shape.now) staging.now.recipe.numbers staging.now.chunks entry.now disk.old disk.new) }
 {
     write_record(disk, shape, staging, is_new, &entry.mark, body)?;
     write_own_entry(disk, shape, staging, entry)?;

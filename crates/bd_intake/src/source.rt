@@ -1,19 +1,16 @@
 //! A source, piece after piece.
-ghost use Rattle.std.specs.Prelude.{◌≡◌, ℕ, ◌<◌, ◌≤◌, List, ◌++◌, length, OnOk, IfOk, IfErr, IsFalse};
+ghost use Rattle.std.specs.Prelude.{◌<◌, ◌≤◌, length, OnOk, IfOk, IsFalse};
 ghost use Rattle.bd_disk.specs.History.{contents};
 ghost use Rattle.bd_disk.specs.Runs.{Writes};
-ghost use Rattle.bd_files.specs.Files.{Fetches, Holds};
-ghost use Rattle.bd_gear.specs.Feeding.{HasFed};
-ghost use Rattle.bd_model.specs.Chunks.{chunks};
+ghost use Rattle.bd_files.specs.Files.{Fetches};
 ghost use Rattle.bd_model.specs.Sizes.{sizes_of, disk_bytes};
 ghost use Rattle.bd_space.specs.Allotment.{held_count};
 ghost use Rattle.bd_intake.specs.Causes.{FailsByCount, FailsByDisk, FailsBySource};
 ghost use Rattle.bd_intake.specs.Filling.{Filled, Fills, LeavesFiles};
-ghost use Rattle.bd_intake.specs.Firsts.{cut_in};
 ghost use Rattle.bd_intake.specs.Given.{given};
-ghost use Rattle.bd_intake.specs.Needs.{RefusesChunks};
 ghost use Rattle.bd_intake.specs.Places.{InOneOf};
-ghost use Rattle.bd_intake.specs.Staging.{Goes, Grows, HasTaken, IsFed, IsStaging, staged_extents};
+ghost use Rattle.bd_intake.specs.Staging.{Grows, IsFed, IsStaging, staged_extents};
+ghost use Rattle.bd_intake.specs.Taking.{RefusesPiece, RefusesSource, TakesPiece};
 
 use crate::fault::IntakeFault;
 use crate::staging::Staging;
@@ -67,10 +64,8 @@ fn take_piece<D: Disk>(
     ensures staging { OnOk result (IsStaging (given terms.now) space.new staging.new) }
     ensures open { OnOk result (IsFalse chunker.new.finished) }
     ensures short { OnOk result (length chunker.new.held < 65536) }
-    ensures taken { OnOk result ((stream : List ℕ) (taken : List (List ℕ)) → HasFed (cut_in (sizes_of terms.now.shape)) stream taken chunker.old → HasTaken (given terms.now) taken staging.old
-        → Goes ⊥ (given terms.now) (stream ++ piece.now) taken chunker.new staging.old staging.new D.tells (contents (D.history disk.old)) (contents (D.history disk.new))) }
-    ensures refused { (stream more : List ℕ) (taken : List (List ℕ)) → HasFed (cut_in (sizes_of terms.now.shape)) stream taken chunker.old → HasTaken (given terms.now) taken staging.old
-        → IfErr result (RefusesChunks (given terms.now) (chunks (cut_in (sizes_of terms.now.shape)) ((stream ++ piece.now) ++ more)) (held_count space.old)) }
+    ensures taken { OnOk result (TakesPiece D.Disk (given terms.now) piece.now chunker.old chunker.new staging.old staging.new disk.old disk.new) }
+    ensures refused { RefusesPiece (given terms.now) piece.now chunker.old staging.old (held_count space.old) result }
 {
     chunker.feed(piece);
     take_chunks(staging, chunker, disk, space, terms)
@@ -97,8 +92,7 @@ pub(crate) fn fill<D: Disk, F: Files>(
     ensures grows { Grows space.old space.new staging.old staging.new }
     ensures staging { OnOk result (IsStaging (given terms.now) space.new staging.new) }
     ensures filled { OnOk result (Filled (given terms.now) chunker.new staging.new D.tells (contents (D.history disk.new)) F.tells (F.files files.old) name.now) }
-    ensures refused { F.tells → (stream : List ℕ) → Holds (F.files files.old) name.now stream
-        → IfErr result (RefusesChunks (given terms.now) (chunks (cut_in (sizes_of terms.now.shape)) stream) (held_count space.old)) }
+    ensures refused { RefusesSource F.Files name.now files.old (given terms.now) (held_count space.old) result }
 {
     let mut buffer = [0u8; PIECE];
     let mut at = 0u64;

@@ -3,12 +3,11 @@ ghost use Rattle.std.specs.Prelude.{◌≡◌, ℕ, ◌+◌, ◌≤◌, List, []
 ghost use Rattle.bd_disk.specs.Runs.{Writes};
 ghost use Rattle.bd_model.specs.Sizes.{sizes_of, disk_bytes};
 ghost use Rattle.bd_space.specs.Allotment.{held_count};
-ghost use Rattle.bd_intake.specs.Answers.{RefusesRoom};
 ghost use Rattle.bd_intake.specs.Causes.{FailsByDisk};
-ghost use Rattle.bd_intake.specs.Firsts.{extents_of};
 ghost use Rattle.bd_intake.specs.Given.{given};
 ghost use Rattle.bd_intake.specs.Places.{InOneOf};
-ghost use Rattle.bd_intake.specs.Staging.{Grows, HasTaken, IsStaging, WritesChunk, staged_extents};
+ghost use Rattle.bd_intake.specs.Staging.{Grows, IsStaging, WritesChunk, staged_extents};
+ghost use Rattle.bd_intake.specs.Taking.{RefusesChunk, TakesChunk};
 
 use crate::fault::IntakeFault;
 use crate::record::write_parts;
@@ -59,10 +58,9 @@ pub(crate) fn take_chunk<D: Disk>(
     ensures cause { FailsByDisk (D.faults disk.old) (D.faults disk.new) result }
     ensures grows { Grows space.old space.new staging.old staging.new }
     ensures staging { OnOk result (IsStaging (given terms.now) space.new staging.new) }
-    ensures taken { OnOk result ((taken : List (List ℕ)) → HasTaken (given terms.now) taken staging.old → HasTaken (given terms.now) (taken ++ body.now ∷ []) staging.new) }
+    ensures taken { OnOk result (TakesChunk (given terms.now) body.now staging.old staging.new) }
     ensures written { OnOk result (WritesChunk D.Disk (given terms.now) body.now staging.old staging.new disk.old disk.new) }
-    ensures refused { (taken : List (List ℕ)) → HasTaken (given terms.now) taken staging.old →
-        IfErr result (RefusesRoom (extents_of terms.now.shape.extent terms.now.neighbour.now.entries (taken ++ body.now ∷ [])) terms.now.free (held_count space.old)) }
+    ensures refused { RefusesChunk (given terms.now) body.now staging.old (held_count space.old) result }
 {
     let own = mark_of(body);
     let met = staging.seen.meet(terms.neighbour, terms.version, &own)?;

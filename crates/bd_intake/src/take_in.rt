@@ -1,21 +1,17 @@
 //! A source taken in, from its first byte to its last.
 ghost use Rattle.std.specs.Prelude.{◌≡◌, ℕ, ◌+◌, ◌<◌, ◌≤◌, List, [], OnOk, IfOk, IfErr};
-ghost use Rattle.bd_disk.specs.History.{contents};
 ghost use Rattle.bd_disk.specs.Runs.{Writes};
-ghost use Rattle.bd_files.specs.Files.{Holds};
-ghost use Rattle.bd_model.specs.Chunks.{chunks};
 ghost use Rattle.bd_model.specs.Sizes.{sizes_of, disk_bytes};
 ghost use Rattle.bd_model.specs.declared.layout.Phase.TheVariants.{Settled};
 ghost use Rattle.bd_space.specs.Allotment.{extent_count, held_count, TakenExactly};
 ghost use Rattle.bd_catalog.specs.Catalogue.{all_extents};
 ghost use Rattle.bd_intake.specs.Answers.{CountsSource, FitsStaged, LeavesSpace, StoresSource};
 ghost use Rattle.bd_intake.specs.Causes.{FailsByCount};
-ghost use Rattle.bd_intake.specs.Filling.{HasStream, LeavesFiles};
-ghost use Rattle.bd_intake.specs.Firsts.{cut_in};
+ghost use Rattle.bd_intake.specs.Filling.{LeavesFiles};
 ghost use Rattle.bd_intake.specs.Given.{FitsSums, given, IsRecipeOrNone};
-ghost use Rattle.bd_intake.specs.Needs.{Needs, RefusesChunks};
 ghost use Rattle.bd_intake.specs.Places.{InFree, InOneOf};
 ghost use Rattle.bd_intake.specs.Staging.{Grows, HasTaken, IsStaging, staged_extents};
+ghost use Rattle.bd_intake.specs.Taking.{RefusesSource, StagesSource};
 
 use crate::fault::IntakeFault;
 use crate::finish::{finished, give_back, nothing_staged};
@@ -53,10 +49,8 @@ fn stage<D: Disk, F: Files>(
     ensures files { LeavesFiles F.Files name.now files.old files.new result }
     ensures grows { Grows space.old space.new staging.old staging.new }
     ensures staging { OnOk result (IsStaging (given terms.now) space.new staging.new) }
-    ensures whole { IfOk result (λ need. F.tells → (stream : List ℕ) → Holds (F.files files.old) name.now stream
-        → Needs (given terms.now) (chunks (cut_in (sizes_of terms.now.shape)) stream) need × HasStream (given terms.now) stream staging.new D.tells (contents (D.history disk.new))) }
-    ensures refused { F.tells → (stream : List ℕ) → Holds (F.files files.old) name.now stream
-        → IfErr result (RefusesChunks (given terms.now) (chunks (cut_in (sizes_of terms.now.shape)) stream) (held_count space.old)) }
+    ensures whole { IfOk result (StagesSource D.Disk disk.new F.Files name.now files.old (given terms.now) staging.new) }
+    ensures refused { RefusesSource F.Files name.now files.old (given terms.now) (held_count space.old) result }
 {
     let mut chunker = Chunker::new(alloc, *terms.gear, terms.shape)?;
     fill(staging, &mut chunker, disk, space, terms, files, name)?;

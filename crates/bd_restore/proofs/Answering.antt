@@ -28,12 +28,12 @@ record_damage {T} Q fault (Err e) is met = subst (λ f. IfDamaged {T = T} (Err f
   by RecordFault met = tt
   by (BadRecord damage) met = met damage refl
 
--- and what is known of a damage
-pub same_damage : (U : Type 0) {T : Type 0} (P Q : Damage → Type 0) (fault : RestoreFault) (result : Result T RestoreFault) → IsErrAnd result (λ e. e ≡ fault) → IfDamaged {T = U} (Err fault) P → ((damage : Damage) → P damage → Q damage) → IfDamaged result Q
-same_damage U P Q fault (Ok value) is known step = absurd is
-same_damage U {T} P Q fault (Err e) is known step = subst (λ f. IfDamaged {T = T} (Err f) Q) (sym is) (by fault known) where
+-- and what follows of a damage
+pub damaged_by : (U : Type 0) {T : Type 0} (P Q : Damage → Type 0) (fault : RestoreFault) (result : Result T RestoreFault) → IsErrAnd result (λ e. e ≡ fault) → ((damage : Damage) → P damage → Q damage) → IfDamaged {T = U} (Err fault) P → IfDamaged result Q
+damaged_by U P Q fault (Ok value) is step met = tt
+damaged_by U {T} P Q fault (Err e) is step met = subst (λ f. IfDamaged {T = T} (Err f) Q) (sym is) (by fault met) where
   by : (f : RestoreFault) → IfDamaged {T = U} (Err f) P → IfDamaged {T = T} (Err f) Q
-  by TargetFault known = tt
-  by DiskFault known = tt
-  by (Damaged damage) known = step damage known
-  by OutOfMemory known = tt
+  by TargetFault met = tt
+  by DiskFault met = tt
+  by (Damaged damage) met = step damage met
+  by OutOfMemory met = tt

@@ -1,6 +1,6 @@
 -- Walks that follow each other, what is met on them, and the records and rows that they go over.
 use Rattle.std.proofs.Common.{◌≡◌, ℕ, zero, suc, ◌+◌, ◌<◌, Bool, List, [], ◌∷◌, ◌++◌, length, take, drop, get_or, refl, sym, ◌∙◌, ap, subst, append_assoc}
-use Rattle.std.specs.Prelude.{if◌then◌else◌, ◌&&◌, true, Result, Ok, Err, IsErrAnd, IsTrue}
+use Rattle.std.specs.Prelude.{if◌then◌else◌, ◌&&◌, true, IsTrue}
 use Rattle.std.proofs.lemmas.List.Folds.{list_all-append}
 use Rattle.std.specs.List.{list_all}
 use Rattle.std.proofs.lemmas.List.{append-nil, map-append, take-append-drop, take_more}
@@ -16,9 +16,6 @@ use Rattle.bd_model.specs.declared.damage.Damage.{Damage}
 use Rattle.bd_model.specs.declared.layout.RecipeEntry.{RecipeEntry}
 use Rattle.bd_catalog.specs.Damages.{header_holds}
 use Rattle.bd_catalog.specs.Rows.{row_bytes, spot_in, RowPlace, Spot, first_spots, records_at, row_spots, spots_in, spots_from, past}
-use Rattle.bd_restore.specs.declared.fault.RestoreFault.{RestoreFault}
-use Rattle.bd_restore.specs.declared.fault.RestoreFault.TheVariants.{TargetFault, DiskFault, Damaged, OutOfMemory}
-use Rattle.bd_restore.specs.Faults.{IfDamaged}
 use Rattle.bd_restore.specs.Met.{BreaksAt, MetAt, MetOn}
 use Rattle.bd_restore.specs.Walk.{is_wanted, walk_reads, AreFlags, AreGiven, Gives, HasGoodHeaders, Sought, Walks}
 use Rattle.bd_restore.proofs.Cuts.{spots_split}
@@ -150,15 +147,6 @@ module _ (w : Sought) (image : List ℕ) (damage : Damage) where
             (met.breaks (seen ++ records_at mine) (flags seen are)));
         read = has_read_later met.places made met.read;
       }
-
-pub damaged_by : (U : Type 0) {T : Type 0} (P Q : Damage → Type 0) (fault : RestoreFault) (result : Result T RestoreFault) → IsErrAnd result (λ e. e ≡ fault) → ((damage : Damage) → P damage → Q damage) → IfDamaged {T = U} (Err fault) P → IfDamaged result Q
-damaged_by U P Q fault (Ok value) is step met = tt
-damaged_by U {T} P Q fault (Err e) is step met = subst (λ f. IfDamaged {T = T} (Err f) Q) (sym is) (by fault met) where
-  by : (f : RestoreFault) → IfDamaged {T = U} (Err f) P → IfDamaged {T = T} (Err f) Q
-  by TargetFault met = tt
-  by DiskFault met = tt
-  by (Damaged damage) met = step damage met
-  by OutOfMemory met = tt
 
 -- ---- the records of a row
 

@@ -65,14 +65,14 @@ impl Filling {
         (self.rows, self.added)
     }
 
-    /// The rows, ascending by their starts.
+    /// Its rows.
     pub fn rows(&self) -> &[CategoryRow]
         ensures { result.now ≡ self.now.rows }
     {
         self.rows.as_slice()
     }
 
-    /// The numbers of its extents, those that were added last.
+    /// The numbers of its extents.
     pub fn numbers(&self) -> &[u32]
         ensures { result.now ≡ self.now.numbers }
     {

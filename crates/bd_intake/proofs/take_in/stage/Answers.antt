@@ -17,6 +17,11 @@ use Rattle.bd_intake.proofs.take_in.stage.Goals as goal
 pub returns-in_err-chunker-clause-disk : goal.returns-in_err-chunker-clause-disk
 returns-in_err-chunker-clause-disk g c = no_writes
 
+pub returns-in_err-fill-clause-refused : goal.returns-in_err-fill-clause-refused
+returns-in_err-fill-clause-refused g c = λ t stream holds.
+    let p = err_from_is_err_and c.from_residual-in_err-fill.result c.from_residual-in_err-fill.ensures.1 in
+    rw (p.1, p.2) (c.in_err-fill.ensures.refused t stream holds)
+
 pub take_chunks-requires-clause-fed : goal.take_chunks-requires-clause-fed
 take_chunks-requires-clause-fed g c =
     let filled = c.in_ok-fill.ensures.filled in

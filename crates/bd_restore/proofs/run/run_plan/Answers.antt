@@ -12,11 +12,10 @@ use Rattle.bd_restore.specs.Met.{MetOn}
 use Rattle.bd_restore.specs.Plan.{Planned}
 use Rattle.bd_restore.specs.Restored.{GivesBack, IsMetBy, ReadsWalk}
 use Rattle.bd_restore.specs.Target.{flag_at}
-use Rattle.bd_restore.proofs.Answering.{passed_counts}
+use Rattle.bd_restore.proofs.Answering.{damaged_by, passed_counts}
 use Rattle.bd_restore.proofs.Ending.{gives_back, met_by, missing_by, reads_walk}
 use Rattle.bd_restore.proofs.Finishing.{err_of, ok_of, target_begun}
 use Rattle.bd_restore.proofs.Frames.{same_others, target_both, target_once}
-use Rattle.bd_restore.proofs.Joining.{damaged_by}
 use Rattle.bd_restore.proofs.run.run_plan.Goals as goal
 
 pub returns-then-is_err-clause-disk : goal.returns-then-is_err-clause-disk

@@ -18,7 +18,7 @@ use Rattle.bd_restore.specs.Met.{HasEntry, MetAt}
 use Rattle.bd_restore.specs.Target.{held, Fills, Puts}
 use Rattle.bd_restore.specs.Walk.{is_wanted, AreFlags, Walks}
 use Rattle.bd_restore.specs.Went.{placed_row, sizes_at, sought_by}
-use Rattle.bd_restore.proofs.Answering.{record_damage, same_damage}
+use Rattle.bd_restore.proofs.Answering.{damaged_by, record_damage}
 use Rattle.bd_restore.proofs.Meeting.{body_met, good_header, header_met, length_met}
 use Rattle.bd_restore.proofs.Reading.{header_read, header_within, is_stored, written_back}
 use Rattle.bd_restore.proofs.Walking.{walks_unwanted, gives_unwanted, walks_wanted, gives_wanted}
@@ -120,12 +120,12 @@ returns-in_err-put_everywhere-clause-damage g c =
     let kept = written_back c.args.progress.now.buffer.len read_now c.args.progress.now.buffer.items c.deref_mut.result.now c.read_front.auto.buffer c.deref_mut.ensures.len in
     let whole : length c.deref-2.result.now ≡ s.max = ap length (c.deref-2.ensures.value ∙ kept) ∙ c.read_front.auto.buffer ∙ ap length c.deref_mut.ensures.value ∙ c.requires.ready.buffer in
     let size : length body ≡ h.length = length-take-le h.length c.deref-2.result.now (omega (arith, whole, c.in_ok-header.ensures.short)) in
-    same_damage (Unit {0}) (λ damage. (e : ℕ) × (m : Mark) × (damage ≡ BadLength c.args.self.now.version m e (length body)) × (m.0 ≡ h.mark.0) × (length body ≢ e) × HasEntry entries h.mark.0 e)
-    (λ damage. g.D.Disk.tells → MetAt w filled p (spot_in s image p at) damage before now) c.in_err-put_everywhere.field-0.0 c.from_residual-in_err-put_everywhere.result c.from_residual-in_err-put_everywhere.ensures.1 c.in_err-put_everywhere.ensures.damage (λ damage is told.
+    damaged_by (Unit {0}) (λ damage. (e : ℕ) × (m : Mark) × (damage ≡ BadLength c.args.self.now.version m e (length body)) × (m.0 ≡ h.mark.0) × (length body ≢ e) × HasEntry entries h.mark.0 e)
+    (λ damage. g.D.Disk.tells → MetAt w filled p (spot_in s image p at) damage before now) c.in_err-put_everywhere.field-0.0 c.from_residual-in_err-put_everywhere.result c.from_residual-in_err-put_everywhere.ensures.1 (λ damage is told.
     let header = header_read s p.extents at (row_end p) h c.in_ok-header.ensures.within (c.in_ok-header.ensures.places told) in
     let rest = c.in_ok-read_front.ensures.places told in
     length_met w image p at filled h (c.in_ok-header.ensures.header told) c.in_ok-header.ensures.within (λ seen flags. sym c.if-not-wants.false ∙ c.wants.ensures seen (subst (AreFlags entries seen) (sym c.deref.ensures.value) flags)) damage is.1 is.0 (length body)
-    is.2 is.3 size is.4 is.5 (reads_both header rest))
+    is.2 is.3 size is.4 is.5 (reads_both header rest)) c.in_err-put_everywhere.ensures.damage
 
 -- ---- a record that was walked over
 

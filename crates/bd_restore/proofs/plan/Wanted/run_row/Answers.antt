@@ -8,9 +8,10 @@ use Rattle.bd_catalog.specs.Damages.{header_holds}
 use Rattle.bd_catalog.specs.Rows.{first_spots, past, row_bytes, spot_in}
 use Rattle.bd_restore.specs.Met.{MetAt, MetOn}
 use Rattle.bd_restore.specs.Went.{aim_of, moment, placed_row, sizes_at, sought_by, Went}
+use Rattle.bd_restore.proofs.Answering.{damaged_by}
 use Rattle.bd_restore.proofs.Frames.{target_both, target_none}
 use Rattle.bd_restore.proofs.Going.{over_row, went_both, went_none}
-use Rattle.bd_restore.proofs.Joining.{damaged_by, met_here, past-more, spots-more}
+use Rattle.bd_restore.proofs.Joining.{met_here, past-more, spots-more}
 use Rattle.bd_restore.proofs.plan.Wanted.run_row.Goals as goal
 
 pub loop-done-init : goal.loop-done-init

@@ -14,9 +14,10 @@ use Rattle.bd_volume.specs.declared.piece.Piece.{Piece}
 use Rattle.bd_restore.specs.Met.{MeetsOn}
 use Rattle.bd_restore.specs.Walk.{InRow, InRows}
 use Rattle.bd_restore.specs.Went.{aim_of, moment}
+use Rattle.bd_restore.proofs.Answering.{damaged_by}
 use Rattle.bd_restore.proofs.Frames.{target_both, target_none}
 use Rattle.bd_restore.proofs.Going.{meets_behind, over_both, over_none}
-use Rattle.bd_restore.proofs.Joining.{damaged_by, row_next, row_rest}
+use Rattle.bd_restore.proofs.Joining.{row_next, row_rest}
 use Rattle.bd_restore.proofs.plan.Wanted.walk.Goals as goal
 
 abbrev none : Piece
