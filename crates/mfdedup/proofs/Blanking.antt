@@ -72,18 +72,18 @@ module _ {disk files sink : Type 0} (count : ℕ) (name : List ℕ) (p : Progres
   untargeted_works none e disk_same sources low rose faults handed later =
       unblanked_works none (subst EndsBlank (sym e) tt) (λ done. undone (subst IsCarriedOut e done)) (subst (λ x. AnswersAlone (Blanked count) x p.answers.items) (sym e) none.answers)
       (subst (λ x. EndsOnlyByCount x o now) (sym e) cause) handed later (λ told other. let clash : TargetFault ≡ OutOfMemory = sym e ∙ other in absurd (cc clash)) where
-    undone : IsCarriedOut TargetFault → ⊥
-    undone (inl is) = cc is
-    undone (inr is) = cc is
+        undone : IsCarriedOut TargetFault → ⊥
+        undone (inl is) = cc is
+        undone (inr is) = cc is
 
-    cause : EndsOnlyByCount TargetFault o now
-    cause = record { later = record { disk = omega (arith, disk_same); sources = omega (arith, sources); targets = low }; sink = omega (arith, faults); cause = record { risen = (rose, disk_same, sources); sink = faults } }
+        cause : EndsOnlyByCount TargetFault o now
+        cause = record { later = record { disk = omega (arith, disk_same); sources = omega (arith, sources); targets = low }; sink = omega (arith, faults); cause = record { risen = (rose, disk_same, sources); sink = faults } }
 
 -- no memory was there
 pub memory_works : {disk files sink : Type 0} (count : ℕ) (name : List ℕ) (p : Progress) (o : Outside) → NothingNoted p → p.end ≡ OutOfMemory → Works disk files sink (ToBlank count name) p o o
 memory_works {disk} {files} {sink} count name p o none e =
     unblanked_works {disk = disk} {files = files} {sink = sink} count name p o o refl refl (λ told. refl) (λ told. record { others = λ other not_it. refl }) none (subst EndsBlank (sym e) tt) (λ done. undone (subst IsCarriedOut e done))
     (subst (λ x. AnswersAlone (Blanked count) x p.answers.items) (sym e) none.answers) (subst (λ x. EndsOnlyByCount x o o) (sym e) (untouched_cause OutOfMemory o (λ nothing. nothing))) refl (λ told. omega arith) (λ told _. refl) where
-  undone : IsCarriedOut OutOfMemory → ⊥
-  undone (inl is) = cc is
-  undone (inr is) = cc is
+      undone : IsCarriedOut OutOfMemory → ⊥
+      undone (inl is) = cc is
+      undone (inr is) = cc is

@@ -28,6 +28,6 @@ returns-in-Ok g c = record {
 pub returns-in-Err : goal.returns-in-Err
 returns-in-Err g c = record {
   runs = inl (no_store c.none.result c.in-Err.fault (outside g.D.Disk g.F.Files g.O.Sink c.args.disk.now c.args.files.now c.args.out.now) _ _ _
-  (record { commands = c.none.ensures.commands; answers = c.none.ensures.answers; clocks = c.none.ensures.clocks }) (c.none.ensures.end ∙ c.end_of_opening.ensures) c.in-Err.ensures.opened c.in-Err.ensures.cause
-  (λ told. record { writes = nothing_written c.in-Err.ensures.disk told; looks = looked c.in-Err.ensures.disk told }) c.in-Err.ensures.disk.bytes);
+      (record { commands = c.none.ensures.commands; answers = c.none.ensures.answers; clocks = c.none.ensures.clocks }) (c.none.ensures.end ∙ c.end_of_opening.ensures) c.in-Err.ensures.opened c.in-Err.ensures.cause
+      (λ told. record { writes = nothing_written c.in-Err.ensures.disk told; looks = looked c.in-Err.ensures.disk told }) c.in-Err.ensures.disk.bytes);
 }
