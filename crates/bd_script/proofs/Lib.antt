@@ -3,6 +3,6 @@ mod Decimals
 mod Digits
 mod Lines
 mod Plain
-mod ReadBack
+pub mod ReadBack
 mod Reading
 mod Spelled

@@ -1,7 +1,5 @@
 -- What comes of words that ask for nothing that is built, and of a request by the words that ask for it.
-use Rattle.std.proofs.Common.{◌≡◌, ◌⊎◌, ◌∙◌, ℕ, List, [], ◌∷◌, sym, subst, ap, refl, arith, cond, true, false, Bool, MatchBool, None, Some, inl, inr, append-nil}
-use Rattle.bd_disk.specs.History.{History, clock}
-use Rattle.bd_disk.specs.Looks.{LooksOnlyAt}
+use Rattle.std.proofs.Common.{IsTrue, ◌≡◌, ◌⊎◌, ◌∙◌, ℕ, List, [], ◌∷◌, sym, subst, ap, refl, arith, true, false, Bool, MatchBool, Some, inl, inr, append-nil}
 use Rattle.bd_disk.proofs.Frames.{made_none}
 use Rattle.bd_disk.proofs.Looking.{looks_from}
 use Rattle.bd_model.specs.Roomy.{Roomy}
@@ -11,30 +9,29 @@ use Rattle.bd_model.specs.declared.shape.Shape.{Shape}
 use Rattle.mfdedup.specs.Built.{is_built}
 use Rattle.mfdedup.specs.Commands.{EndsUnopened, OpensNone, RunsCommands}
 use Rattle.mfdedup.specs.Counts.{EndsByCount, EndsOnlyByCount, NoneFailed}
-use Rattle.mfdedup.specs.Headline.{commands_asked}
+use Rattle.mfdedup.specs.Headline.{Asks}
 use Rattle.mfdedup.specs.Noted.{NothingNoted}
 use Rattle.mfdedup.specs.Outside.{Outside}
 use Rattle.mfdedup.specs.Requests.{EndsAtOnce}
-use Rattle.mfdedup.specs.Words.{AsksFor, IsOfWords, Reading, ToFormat, ToRun, ToScript, ToBlank, ToSoak, Refused}
+use Rattle.mfdedup.specs.Words.{AsksFor, IsOfWords, Reading, ToFormat, ToRun, ToScript, ToSoak, Refused}
 use Rattle.mfdedup.specs.Works.{Works, WorksByWords}
 use Rattle.mfdedup.specs.declared.progress.Progress.{Progress}
 use Rattle.mfdedup.specs.declared.report.End.{End}
 use Rattle.mfdedup.specs.declared.report.End.TheVariants.{BadWords, BadNumber, BadName, BadShape, OutOfMemory, Unbuilt}
-use Rattle.mfdedup.specs.declared.report.Request.{Request}
 use Rattle.mfdedup.specs.declared.report.Request.TheVariants.{Format, Run, Script, Soak}
 use Rattle.mfdedup.proofs.Causes.{untouched_cause}
 use Rattle.mfdedup.proofs.Noting.{no_clocks, no_texts}
 
 -- ---- at once
 
-pub at_once : {disk files sink : Type 0} (reading : Reading) (p : Progress) (o : Outside) → NothingNoted p → (NoneFailed o o → EndsByCount p.end o o) → WorksByWords disk files sink reading p o o → commands_asked reading ≡ None → Works disk files sink reading p o o
+pub at_once : {disk files sink : Type 0} (reading : Reading) (p : Progress) (o : Outside) → NothingNoted p → (NoneFailed o o → EndsByCount p.end o o) → WorksByWords disk files sink reading p o o → ((commands : List Command) → Asks reading o.files commands → ⊥) → Works disk files sink reading p o o
 at_once {disk} {files} {sink} reading p o none cause words nothing = record {
   bytes = refl;
   cause = untouched_cause p.end o cause;
   clocks = no_clocks none (λ told. omega arith);
   written = λ told. no_texts none refl;
   words = words;
-  headline = λ told _. record { each = λ shape st phase commands asked promised. let clash : None ≡ Some commands = sym nothing ∙ asked in absurd (cc clash) };
+  headline = λ told _. record { each = λ shape st phase commands asked promised. absurd (nothing commands asked) };
 }
 
 -- a command that is still to come
@@ -43,13 +40,13 @@ module _ (disk files sink : Type 0) (command : Command) (p : Progress) (o : Outs
   unbuilt true is_false = absurd (cc is_false)
   unbuilt false is_false = ends
 
-  asks_none : (b : Bool) → b ≡ false → cond b (Some (command ∷ [])) None ≡ None
-  asks_none true is_false = absurd (cc is_false)
-  asks_none false is_false = refl
+  asks_none : (b : Bool) → b ≡ false → IsTrue b → ⊥
+  asks_none true is_false is = cc is_false
+  asks_none false is_false is = cc is
 
   pub asked_unbuilt : is_built command ≡ false → Works disk files sink (ToRun command) p o o
   asked_unbuilt is_false =
-      at_once (ToRun command) p o ends.nothing (subst (λ x. NoneFailed o o → EndsByCount x o o) (sym ends.ends) (λ nothing. nothing)) (unbuilt (is_built command) is_false) (asks_none (is_built command) is_false)
+      at_once (ToRun command) p o ends.nothing (subst (λ x. NoneFailed o o → EndsByCount x o o) (sym ends.ends) (λ nothing. nothing)) (unbuilt (is_built command) is_false) (λ commands asks. asks_none (is_built command) is_false asks.0)
 
 -- no memory was there before the opening
 pub unopened_memory : {disk : Type 0} (p : Progress) (o : Outside) → NothingNoted p → p.end ≡ OutOfMemory → OpensNone disk p o o
@@ -73,12 +70,12 @@ pub run_asks : {disk files sink : Type 0} (reading : Reading) (commands : Roomy 
 run_asks (ToRun command) commands p before now only works = works command only
 run_asks _ commands p before now asks works = absurd asks
 
-pub script_asks : {disk files sink : Type 0} (reading : Reading) (name : List ℕ) (p : Progress) (o : Outside) → AsksFor reading (Some (Script name)) → NothingNoted p → p.end ≡ Unbuilt → Works disk files sink reading p o o
-script_asks (ToScript given) name p o asks none e = at_once (ToScript given) p o none (subst (λ x. NoneFailed o o → EndsByCount x o o) (sym e) (λ nothing. nothing)) (record { ends = e; nothing = none; untouched = refl }) refl
-script_asks _ name p o asks none e = absurd asks
+pub script_asks : {disk files sink : Type 0} (reading : Reading) (name : List ℕ) (p : Progress) (before now : Outside) → AsksFor reading (Some (Script name)) → Works disk files sink (ToScript name) p before now → Works disk files sink reading p before now
+script_asks {disk} {files} {sink} (ToScript given) name p before now asks w = subst (λ n. Works disk files sink (ToScript n) p before now) asks w
+script_asks _ name p before now asks w = absurd asks
 
 pub soak_asks : {disk files sink : Type 0} (reading : Reading) (seed count : ℕ) (p : Progress) (o : Outside) → AsksFor reading (Some (Soak seed count)) → NothingNoted p → p.end ≡ Unbuilt → Works disk files sink reading p o o
-soak_asks (ToSoak s n) seed count p o asks none e = at_once (ToSoak s n) p o none (subst (λ x. NoneFailed o o → EndsByCount x o o) (sym e) (λ nothing. nothing)) (record { ends = e; nothing = none; untouched = refl }) refl
+soak_asks (ToSoak s n) seed count p o asks none e = at_once (ToSoak s n) p o none (subst (λ x. NoneFailed o o → EndsByCount x o o) (sym e) (λ nothing. nothing)) (record { ends = e; nothing = none; untouched = refl }) (λ commands asks. asks)
 soak_asks _ seed count p o asks none e = absurd asks
 
 -- ---- refused
@@ -93,7 +90,7 @@ of_words _ before now kind none = absurd kind
 
 pub refused_works : {disk files sink : Type 0} (reading : Reading) (p : Progress) (o : Outside) → reading ≡ Refused p.end → IsOfWords p.end → NothingNoted p → Works disk files sink reading p o o
 refused_works {disk} {files} {sink} reading p o is kind none =
-    subst (λ r. Works disk files sink r p o o) (sym is) (at_once (Refused p.end) p o none (of_words p.end o o kind) (record { ends = refl; nothing = none; untouched = refl }) refl)
+    subst (λ r. Works disk files sink r p o o) (sym is) (at_once (Refused p.end) p o none (of_words p.end o o kind) (record { ends = refl; nothing = none; untouched = refl }) (λ commands asks. asks))
 
 pub ends_early : {disk files sink : Type 0} (reading : Reading) (e : End) (p : Progress) (o : Outside) → p.end ≡ e → NothingNoted p → IsOfWords e → (reading ≡ Refused e) ⊎ (e ≡ OutOfMemory) → Works disk files sink reading p o o ⊎ EndsAtOnce OutOfMemory p o o
 ends_early reading e p o ends none kind (inl is) = inl (refused_works reading p o (is ∙ ap Refused (sym ends)) (subst IsOfWords (sym ends) kind) none)

@@ -1,15 +1,14 @@
 -- What a blank file leaves.
-use Rattle.std.proofs.Common.{◌≡◌, ◌⊎◌, ◌∙◌, ℕ, ◌≤◌, List, [], ◌∷◌, length, replicate, inl, inr, ⊎_elim, refl, sym, subst, ap, arith}
+use Rattle.std.proofs.Common.{◌≡◌, ◌∙◌, ℕ, ◌≤◌, List, replicate, inl, inr, refl, sym, subst, arith}
 use Rattle.std.specs.FinMap as map
 use Rattle.bd_disk.specs.Calls.{Rose}
 use Rattle.bd_disk.specs.History.{clock}
 use Rattle.bd_files.specs.Files.{ChangesOnly, IsFinished}
 use Rattle.bd_model.specs.declared.answer.Answer.TheVariants.{Blanked}
-use Rattle.bd_store.specs.Causes.{Counts, NoneFell}
 use Rattle.mfdedup.specs.Counts.{EndsOnlyByCount}
 use Rattle.mfdedup.specs.Noted.{AnswersAlone, HandsAnswers, NotesAlone, NothingNoted}
 use Rattle.mfdedup.specs.Outside.{Outside}
-use Rattle.mfdedup.specs.Requests.{Blanks, EndsBlank, IsCarriedOut}
+use Rattle.mfdedup.specs.Requests.{EndsBlank, IsCarriedOut}
 use Rattle.mfdedup.specs.Words.{ToBlank}
 use Rattle.mfdedup.specs.Works.{Works}
 use Rattle.mfdedup.specs.declared.progress.Progress.{Progress}
@@ -44,7 +43,7 @@ module _ {disk files sink : Type 0} (count : ℕ) (name : List ℕ) (p : Progres
           disk = same;
           strays = strays;
         };
-        headline = λ told _. record { each = λ s st phase commands asked. absurd (cc asked) };
+        headline = λ told _. record { each = λ s st phase commands asked. absurd asked };
       }
 
   -- nothing was answered: the target failed, or no memory was there
@@ -63,7 +62,7 @@ module _ {disk files sink : Type 0} (count : ℕ) (name : List ℕ) (p : Progres
       disk = same;
       strays = strays;
     };
-    headline = λ told _. record { each = λ s st phase commands asked. absurd (cc asked) };
+    headline = λ told _. record { each = λ s st phase commands asked. absurd asked };
   }
 
   -- the target failed

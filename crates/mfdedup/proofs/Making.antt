@@ -1,8 +1,8 @@
 -- What a format leaves.
-use Rattle.std.proofs.Common.{◌≡◌, ◌⊎◌, ◌∙◌, ℕ, zero, suc, ◌<◌, ◌≤◌, false, List, [], ◌∷◌, length, inl, inr, ⊎_elim, refl, sym, subst, ap, arith, get_or, None, Some, Option, Result, Ok, Err, MatchBool}
-use Rattle.bd_disk.specs.Calls.{Rose, FailsByCount}
+use Rattle.std.proofs.Common.{◌≡◌, ◌∙◌, ℕ, ◌<◌, List, [], length, inl, inr, ⊎_elim, refl, sym, subst, ap, arith, get_or, None, Some, Err}
+use Rattle.bd_disk.specs.Calls.{FailsByCount}
 use Rattle.bd_disk.specs.History.{History, clock, contents, Since}
-use Rattle.bd_disk.specs.Made.{IsSettled, LeavesSince, WritesNothing, WritesOnly}
+use Rattle.bd_disk.specs.Made.{IsSettled, WritesNothing, WritesOnly}
 use Rattle.bd_disk.proofs.Frames.{later, since_now}
 use Rattle.bd_model.specs.Sizes.{sizes_of, extent_place}
 use Rattle.bd_model.specs.State.{empty}
@@ -14,14 +14,13 @@ use Rattle.bd_catalog.specs.Standing.{StandsFor}
 use Rattle.bd_recover.specs.Answers.{format_refusal, AnswersFormat, is_disk_fault}
 use Rattle.bd_recover.specs.declared.fault.FormatFault.{FormatFault}
 use Rattle.bd_recover.specs.declared.fault.FormatFault.TheVariants.{AlreadyAStore as FormatMarked, TooSmall as FormatSmall, DiskFault as FormatDisk, OutOfMemory as FormatMemory}
-use Rattle.bd_store.specs.Causes.{Counts}
 use Rattle.bd_store.specs.Openings.{MakingStops}
 use Rattle.bd_store.specs.Shown.{Shown}
 use Rattle.mfdedup.specs.Counts.{EndsOnlyByCount}
 use Rattle.mfdedup.specs.Failing.{end_of_format}
-use Rattle.mfdedup.specs.Noted.{AnswersAlone, HandsAnswers, NotesAlone, NotesByEnd, NothingNoted}
+use Rattle.mfdedup.specs.Noted.{AnswersAlone, HandsAnswers, NotesAlone, NothingNoted}
 use Rattle.mfdedup.specs.Outside.{Outside}
-use Rattle.mfdedup.specs.Requests.{EndsFormat, EndsMaking, Formats, FormatsStore, IsCarriedOut}
+use Rattle.mfdedup.specs.Requests.{EndsFormat, EndsMaking, Formats, IsCarriedOut}
 use Rattle.mfdedup.specs.Words.{ToFormat}
 use Rattle.mfdedup.specs.Works.{Works}
 use Rattle.mfdedup.specs.declared.progress.Progress.{Progress}
@@ -84,7 +83,7 @@ formatted_works {disk} {sink} shape p o mid now alone bytes counts faults handed
         unfinished = unfinished;
         strays = strays;
       };
-      headline = λ told _. record { each = λ s st phase commands asked. absurd (cc asked) };
+      headline = λ told _. record { each = λ s st phase commands asked. absurd asked };
     }
 
 -- ---- not made
@@ -148,5 +147,5 @@ unformatted_works {disk} {sink} shape p fault o bytes faults now none e same fai
     unfinished = refl;
     strays = refl;
   };
-  headline = λ told _. record { each = λ s st phase commands asked. absurd (cc asked) };
+  headline = λ told _. record { each = λ s st phase commands asked. absurd asked };
 }

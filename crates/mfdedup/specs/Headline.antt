@@ -1,8 +1,9 @@
 -- The headline of a call that runs commands.
-use Rattle.std.specs.Prelude.{◌≡◌, ◌⊎◌, ℕ, ◌+◌, ◌<◌, ◌≤◌, List, [], ◌∷◌, All, length, take, Option, Some, None, if◌then◌else◌}
+use Rattle.std.specs.Prelude.{◌≡◌, ◌⊎◌, ℕ, ◌+◌, ◌<◌, ◌≤◌, List, [], ◌∷◌, All, length, take, IsTrue}
 use Rattle.bd_disk.specs.History.{History, contents, clock}
 use Rattle.bd_disk.specs.Made.{LeavesSince, WritesNothing}
 use Rattle.bd_disk.specs.Trace.{reads_between}
+use Rattle.bd_model.specs.FileMap.{FileMap}
 use Rattle.bd_model.specs.Folds.{given, unheld}
 use Rattle.bd_model.specs.Marks.{Distinct}
 use Rattle.bd_model.specs.State.{VersionState}
@@ -20,15 +21,17 @@ use Rattle.mfdedup.specs.Commands.{course_of}
 use Rattle.mfdedup.specs.Failing.{end_of_session}
 use Rattle.mfdedup.specs.Noted.{NothingNoted}
 use Rattle.mfdedup.specs.Outside.{Outside, with_store}
-use Rattle.mfdedup.specs.Words.{Reading, ToFormat, ToRun, ToScript, ToBlank, ToSoak, Refused}
+use Rattle.mfdedup.specs.Script.{HasScript}
+use Rattle.mfdedup.specs.Words.{Reading, ToRun, ToScript}
 use Rattle.mfdedup.specs.declared.progress.Progress.{Progress}
 use Rattle.mfdedup.specs.declared.report.End.{End}
-use Rattle.mfdedup.specs.declared.report.End.TheVariants.{DiskFault, OutOfMemory}
+use Rattle.mfdedup.specs.declared.report.End.TheVariants.{DiskFault, OutOfMemory, SourceFault}
 
--- the commands that the words ask for; none where they ask for something else
-abbrev pub commands_asked : Reading → Option (List Command)
-commands_asked (ToRun command) = if is_built command then Some (command ∷ []) else None
-commands_asked reading = None
+-- the words ask for these commands, over these files: for one that is built, or for those of a script
+abbrev pub Asks : Reading → FileMap → List Command → Type 0
+Asks (ToRun command) files commands = IsTrue (is_built command) × (commands ≡ command ∷ [])
+Asks (ToScript name) files commands = HasScript files name commands
+Asks reading files commands = ⊥
 
 -- where the commands begin: a state of the version machine, with what lies round it
 abbrev pub start_at : Shape → VersionState → Phase → Outside → Start
@@ -55,14 +58,19 @@ pub record Ran (s : Start) (asked : List Command) (p : Progress) (before now : O
   pub headline : MeetsTheHeadline s begun (course_of p ending) now.disk now.files
   pub well : (old new : Shown) → EndsWell (course_of p ending) (with_store old before) (with_store new now)
 
+-- an end at the opening
+abbrev pub IsOpeningFault : End → Type 0
+IsOpeningFault ending = (ending ≡ DiskFault) ⊎ (ending ≡ OutOfMemory)
+
 -- an end before the first command
-abbrev pub IsEarlyFault : End → Type 0
-IsEarlyFault ending = (ending ≡ DiskFault) ⊎ (ending ≡ OutOfMemory)
+abbrev pub IsEarlyFault : Reading → End → Type 0
+IsEarlyFault (ToScript name) ending = (ending ≡ SourceFault) ⊎ IsOpeningFault ending
+IsEarlyFault reading ending = IsOpeningFault ending
 
 -- no command was begun, and everything is as it was
-pub record DidNotRun (s : Start) (p : Progress) (before now : Outside) : Type 0 where
+pub record DidNotRun (reading : Reading) (s : Start) (p : Progress) (before now : Outside) : Type 0 where
   pub nothing : NothingNoted p
-  pub ends : IsEarlyFault p.end
+  pub ends : IsEarlyFault reading p.end
   pub writes : WritesNothing before.disk now.disk
   pub stands : StandsFor s.shape s.state s.phase 0 (contents now.disk)
   pub stops : LeavesSince (Stands s.shape 0 s.state) before.disk now.disk
@@ -71,5 +79,5 @@ pub record DidNotRun (s : Start) (p : Progress) (before now : Outside) : Type 0 
 
 -- Whatever state the disk stood for, honestly: the commands that the words ask for met the headline.
 pub record IsTheHeadline (reading : Reading) (p : Progress) (before now : Outside) : Type 0 where
-  pub each : (shape : Shape) → (st : VersionState) → (phase : Phase) → (commands : List Command) → commands_asked reading ≡ Some commands → IsPromised (start_at shape st phase before) commands (length p.answers.items) →
-      Ran (start_at shape st phase before) commands p before now ⊎ DidNotRun (start_at shape st phase before) p before now
+  pub each : (shape : Shape) → (st : VersionState) → (phase : Phase) → (commands : List Command) → Asks reading before.files commands → IsPromised (start_at shape st phase before) commands (length p.answers.items) →
+      Ran (start_at shape st phase before) commands p before now ⊎ DidNotRun reading (start_at shape st phase before) p before now

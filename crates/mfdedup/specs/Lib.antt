@@ -7,6 +7,8 @@ pub mod Lines
 pub mod Noted
 pub mod Outside
 pub mod Requests
+pub mod Script
+pub mod ScriptRuns
 pub mod Statuses
 pub mod Words
 pub mod Works

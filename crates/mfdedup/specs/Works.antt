@@ -1,6 +1,5 @@
 -- What comes of words.
-use Rattle.std.specs.Prelude.{◌≡◌, ◌⊎◌, List, [], ◌∷◌, MatchBool}
-use Rattle.bd_model.specs.declared.command.Command.{Command}
+use Rattle.std.specs.Prelude.{◌≡◌, ◌⊎◌, [], ◌∷◌, MatchBool}
 use Rattle.mfdedup.specs.Built.{is_built}
 use Rattle.mfdedup.specs.Commands.{RunsCommands}
 use Rattle.mfdedup.specs.Counts.{EndsOnlyByCount}
@@ -8,10 +7,10 @@ use Rattle.mfdedup.specs.Headline.{IsTheHeadline}
 use Rattle.mfdedup.specs.Noted.{ClocksRise, HandsAnswers, TellsEnd}
 use Rattle.mfdedup.specs.Outside.{Outside}
 use Rattle.mfdedup.specs.Requests.{BlanksFile, EndsAtOnce, FormatsStore}
+use Rattle.mfdedup.specs.ScriptRuns.{RunsScript}
 use Rattle.mfdedup.specs.Statuses.{end_text}
 use Rattle.mfdedup.specs.Words.{Reading, ToFormat, ToRun, ToScript, ToBlank, ToSoak, Refused}
 use Rattle.mfdedup.specs.declared.progress.Progress.{Progress}
-use Rattle.mfdedup.specs.declared.report.End.{End}
 use Rattle.mfdedup.specs.declared.report.End.TheVariants.{OutOfMemory, Unbuilt}
 use Rattle.mfdedup.specs.declared.report.Report.{Report}
 
@@ -19,7 +18,7 @@ use Rattle.mfdedup.specs.declared.report.Report.{Report}
 abbrev pub WorksByWords : Type 0 → Type 0 → Type 0 → Reading → Progress → Outside → Outside → Type 0
 WorksByWords disk files sink (ToFormat sizes) p before now = FormatsStore disk sizes p before now
 WorksByWords disk files sink (ToRun command) p before now = MatchBool (is_built command) (RunsCommands disk files sink (command ∷ []) p before now) (EndsAtOnce Unbuilt p before now)
-WorksByWords disk files sink (ToScript name) p before now = EndsAtOnce Unbuilt p before now
+WorksByWords disk files sink (ToScript name) p before now = RunsScript disk files sink name p before now
 WorksByWords disk files sink (ToBlank count name) p before now = BlanksFile files count name p before now
 WorksByWords disk files sink (ToSoak seed count) p before now = EndsAtOnce Unbuilt p before now
 WorksByWords disk files sink (Refused ending) p before now = EndsAtOnce ending p before now

@@ -6,6 +6,7 @@ mod once;
 mod progress;
 mod report;
 mod run;
+mod script;
 mod status;
 mod telling;
 mod values;

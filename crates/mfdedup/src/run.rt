@@ -3,6 +3,7 @@ ghost use Rattle.std.specs.Prelude.{◌≡◌, ◌⊎◌, [], ◌∷◌, map, st
 ghost use Rattle.bd_model.specs.declared.command.Command.{Command as Asked};
 ghost use Rattle.mfdedup.specs.Noted.{TellsEnd};
 ghost use Rattle.mfdedup.specs.Outside.{Outside, outside, with_disk};
+ghost use Rattle.mfdedup.specs.ScriptRuns.{RunsScript};
 ghost use Rattle.mfdedup.specs.Statuses.{end_text, status_of};
 ghost use Rattle.mfdedup.specs.Words.{AsksFor, Reading, ToRun, reading};
 ghost use Rattle.mfdedup.specs.Works.{Did, Works, progress_of};
@@ -12,12 +13,13 @@ use crate::command::{is_built, run_commands};
 use crate::once::{blank, format};
 use crate::progress::{Progress, copy_of};
 use crate::report::{End, Report, Request};
+use crate::script::script_under;
 use crate::status::status_of;
 use crate::telling::put_end;
 use crate::words::read;
 use bd_disk::Disk;
 use bd_files::{Files, Sink};
-use bd_model::Commands;
+use bd_model::{Commands, Name};
 use std::alloc::Global;
 
 // Carries out the command that is asked for, where it is built.
@@ -46,6 +48,23 @@ fn run_asked<D: Disk, F: Files, O: Sink>(
     }
 }
 
+// Reads the script under a name, and carries out its commands.
+fn run_script<D: Disk, F: Files, O: Sink>(
+    alloc: Global,
+    name: &Name,
+    disk: &mut D,
+    files: &mut F,
+    out: &mut O,
+) -> Progress
+    requires takes { O.tells → D.tells → O.takes D D.history }
+    ensures runs { RunsScript D.tells F.tells O.tells name.now result (outside D.Disk F.Files O.Sink disk.old files.old out.old) (outside D.Disk F.Files O.Sink disk.new files.new out.new) }
+{
+    match script_under(alloc, files, name) {
+        Ok(commands) => run_commands(alloc, commands, disk, files, out),
+        Err(end) => Progress::none(alloc, end),
+    }
+}
+
 // Does what is asked for.
 fn act<D: Disk, F: Files, O: Sink>(
     alloc: Global,
@@ -61,7 +80,7 @@ fn act<D: Disk, F: Files, O: Sink>(
         Request::Format { shape } => format(alloc, *shape, disk, out),
         Request::Run { commands } => run_asked(alloc, commands, disk, files, out),
         Request::Blank { length, name } => blank(alloc, *length, name, disk, files, out),
-        Request::Script { .. } => Progress::none(alloc, End::Unbuilt),
+        Request::Script { name } => run_script(alloc, name, disk, files, out),
         Request::Soak { .. } => Progress::none(alloc, End::Unbuilt),
     }
 }

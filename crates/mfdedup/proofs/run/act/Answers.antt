@@ -1,7 +1,9 @@
 use Rattle.std.proofs.Common.{Some, subst}
+use Rattle.bd_session.proofs.Apart.{distinct_marks_tell_apart}
 use Rattle.mfdedup.specs.Outside.{outside}
 use Rattle.mfdedup.specs.Words.{AsksFor}
 use Rattle.mfdedup.proofs.Asking.{format_asks, run_asks, script_asks, soak_asks}
+use Rattle.mfdedup.proofs.Scripting.{script_works}
 use Rattle.mfdedup.proofs.run.act.Goals as goal
 
 pub returns-in-Format : goal.returns-in-Format
@@ -16,10 +18,10 @@ returns-in-Run g c = record { works = λ reading asks. run_asks reading _ c.run_
 
 pub returns-in-Script : goal.returns-in-Script
 returns-in-Script g c = record {
-  works = λ reading asks. script_asks reading _ c.none.result _ (subst (λ r. AsksFor reading (Some r)) c.in-Script.is asks) (record { commands = c.none.ensures.commands; answers = c.none.ensures.answers; clocks = c.none.ensures.clocks }) c.none.ensures.end;
+  works = λ reading asks. script_asks reading _ c.run_script.result _ _ (subst (λ r. AsksFor reading (Some r)) c.in-Script.is asks) (script_works distinct_marks_tell_apart _ c.run_script.result _ _ c.run_script.ensures.runs);
 }
 
 pub returns-in-Soak : goal.returns-in-Soak
 returns-in-Soak g c = record {
-  works = λ reading asks. soak_asks reading _ _ c.none-in-Soak.result _ (subst (λ r. AsksFor reading (Some r)) c.in-Soak.is asks) (record { commands = c.none-in-Soak.ensures.commands; answers = c.none-in-Soak.ensures.answers; clocks = c.none-in-Soak.ensures.clocks }) c.none-in-Soak.ensures.end;
+  works = λ reading asks. soak_asks reading _ _ c.none.result _ (subst (λ r. AsksFor reading (Some r)) c.in-Soak.is asks) (record { commands = c.none.ensures.commands; answers = c.none.ensures.answers; clocks = c.none.ensures.clocks }) c.none.ensures.end;
 }
