@@ -1,7 +1,7 @@
 -- A catalogue obeys its rules after its oldest version is given up.
-use Rattle.std.proofs.Common.{◌≡◌, ⊎_elim, ℕ, ◌+◌, ◌-◌, ◌*◌, ◌^◌, ◌<◌, ◌≤◌, Bool, true, false, cond, not, ◌&&◌, ◌||◌, ◌==◌, List, [], ◌∷◌, ◌++◌, length, map, drop, max, sum_by, flat_map, nat_eq, nat_le, nat_lt, eq-eqb, lt-ltb, refl, sym, ◌∙◌, ap, arith, subst, length-append, ◌⊎◌, inl, inr}
+use Rattle.std.proofs.Common.{◌≡◌, ⊎_elim, ℕ, ◌+◌, ◌-◌, ◌*◌, ◌^◌, ◌<◌, ◌≤◌, Bool, true, false, cond, ◌&&◌, ◌||◌, ◌==◌, List, [], ◌∷◌, ◌++◌, length, map, drop, max, sum_by, flat_map, nat_eq, nat_le, nat_lt, eq-eqb, lt-ltb, refl, sym, ◌∙◌, ap, arith, subst, length-append, ◌⊎◌, inl, inr}
 use Rattle.std.specs.Prelude.{All, Contains, IsPermutation}
-use Rattle.std.specs.List.{IsDistinct, list_all, list_any}
+use Rattle.std.specs.List.{list_all}
 use Rattle.std.proofs.Math.Nat.{mul-le-mul_right}
 use Rattle.std.proofs.lemmas.Bool.{cases_lt, eqb-true, le-leb, leb-true, ne_eqb}
 use Rattle.std.proofs.lemmas.List.{append-nil, length-map}
@@ -17,10 +17,11 @@ use Rattle.bd_model.specs.declared.layout.Phase.{Phase}
 use Rattle.bd_model.specs.declared.layout.Phase.TheVariants.{Settled, Waiting}
 use Rattle.bd_model.proofs.ListLemmas.{left_and, right_and}
 use Rattle.bd_model.proofs.RoomLemmas.{up-enough}
-use Rattle.bd_space.proofs.Distinct.{distinct_head, distinct_left, distinct_tail}
+use Rattle.bd_space.proofs.Distinct.{distinct_left}
 use Rattle.bd_catalog.specs.Catalogue.{Catalogue, VersionEntry, VolumeEntry, OpenEntry, all_extents, bytes_of_rows, empty_catalogue, oldest_in, retained_in, starts_of}
 use Rattle.bd_catalog.specs.Rules.{actives_hold, all_differ, ascends, extents_hold, fits_eight, numbers_hold, obeys, phase_holds, row_holds, starts_hold, version_holds, volume_holds}
 use Rattle.bd_catalog.specs.Splitting.{FitsExpire, after_expire, begun_from, expired}
+use Rattle.bd_catalog.proofs.Fitting.{all_differ-once, flips}
 use Rattle.bd_catalog.proofs.InPlace.{first, later, same_or_not}
 use Rattle.bd_catalog.proofs.Obeying.{All-from_list_all, IsBounded, NumbersHold, RowHolds, Rules, numbers_of, distinct_of, owned_of, row_of, rules_of}
 use Rattle.bd_catalog.proofs.Owning.{own-expire}
@@ -176,23 +177,6 @@ module _ (s : Sizes) (bounded : IsBounded s) where
 
 -- ---- numbers of which some went
 
-flips : (x y : ℕ) → nat_eq x y ≡ nat_eq y x
-flips x y = ⊎_elim (λ same. eq-eqb x y same ∙ sym (eq-eqb y x (sym same))) (λ other. ne_eqb x y other ∙ sym (ne_eqb y x (λ e. other (sym e)))) (same_or_not x y)
-
-none_equal : (n : ℕ) (ns : List ℕ) → (Contains ns n → ⊥) → list_any (nat_eq n) ns ≡ false
-none_equal n [] none = refl
-none_equal n (x ∷ ns) none =
-    let other : nat_eq n x ≡ false = ne_eqb n x (λ e. none (first x ns n (sym e))) in
-    let rest : list_any (nat_eq n) ns ≡ false = none_equal n ns (λ has. none (later x ns n has)) in
-    λ k. other k || rest k
-
-differ_by_distinct : (ns : List ℕ) → IsDistinct nat_eq ns → all_differ ns ≡ true
-differ_by_distinct [] distinct = refl
-differ_by_distinct (n ∷ ns) distinct =
-    let none : list_any (nat_eq n) ns ≡ false = none_equal n ns (distinct_head n ns distinct) in
-    let rest : all_differ ns ≡ true = differ_by_distinct ns (distinct_tail n ns distinct) in
-    λ k. not (none k) && rest k
-
 pub all_by_each : (p : ℕ → Bool) (ns : List ℕ) → ((n : ℕ) → Contains ns n → p n ≡ true) → list_all p ns ≡ true
 all_by_each p [] each = refl
 all_by_each p (n ∷ ns) each =
@@ -208,7 +192,7 @@ fewer_hold top all kept gone moved h =
     let extents : list_all test kept ≡ true =
     all_by_each test kept (λ n has. All-contains (λ m. test m ≡ true) all n below (Contains-permutation (kept ++ gone) all n (IsPermutation-sym all (kept ++ gone) moved) (Contains-append_left kept gone n has))) in
     let once : all_differ kept ≡ true =
-    differ_by_distinct kept (distinct_left kept gone (IsDistinct-IsPermutation nat_eq flips all (kept ++ gone) moved (distinct_of all (right_and (list_all test all) (all_differ all) h)))) in
+    all_differ-once kept (distinct_left kept gone (IsDistinct-IsPermutation nat_eq flips all (kept ++ gone) moved (distinct_of all (right_and (list_all test all) (all_differ all) h)))) in
     λ k. extents k && once k
 
 -- ---- the whole catalogue

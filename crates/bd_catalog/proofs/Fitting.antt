@@ -143,7 +143,7 @@ pub record AreApart (top : ℕ) (numbers : List ℕ) : Type 0 where
   pub below : All (λ n. n < top) numbers
   pub once : IsDistinct nat_eq numbers
 
-flips : (a b : ℕ) → nat_eq a b ≡ nat_eq b a
+pub flips : (a b : ℕ) → nat_eq a b ≡ nat_eq b a
 flips a b = grind arith
 
 module _ (s : Sizes) (some : 1 ≤ s.extent) (c : Catalogue) (rules : obeys s c ≡ true) (room : retained_in c < s.retain) (number : c.newest < 4294967295) (entry : VersionEntry) (fresh : List OpenEntry)

@@ -1,26 +1,21 @@
 -- Images in which nothing is retained, and the first version.
-use Rattle.std.proofs.Common.{◌≡◌, inr, ⊎_elim, ℕ, suc, ◌+◌, ◌-◌, ◌≤◌, true, false, not, List, [], length, refl, sym, ◌∙◌, ap, arith, filter, map}
+use Rattle.std.proofs.Common.{◌≡◌, inr, ⊎_elim, ℕ, ◌+◌, ◌-◌, ◌≤◌, List, [], refl, sym, ◌∙◌, ap, arith, map}
 use Rattle.std.specs.Prelude.{Ok}
 use Rattle.bd_model.specs.declared.shape.Shape.{Shape}
 use Rattle.bd_model.specs.declared.layout.Phase.{Phase}
 use Rattle.bd_model.specs.declared.layout.Phase.TheVariants.{Settled}
 use Rattle.bd_model.specs.Sizes.{sizes_of}
-use Rattle.bd_model.specs.History.{History, version, newest, retained, distinct, contains}
+use Rattle.bd_model.specs.History.{History, retained}
 use Rattle.bd_model.specs.Layout.{open_category, rows}
-use Rattle.bd_model.specs.Laws.{grown, entries_in}
-use Rattle.bd_model.specs.Marks.{mark}
-use Rattle.bd_model.specs.Recipe.{recipe, start_of}
-use Rattle.bd_model.specs.Room.{fresh, reserve_left}
+use Rattle.bd_model.specs.Room.{reserve_left}
 use Rattle.bd_model.specs.State.{VersionState, IsState, history, last_number}
 use Rattle.bd_model.specs.Step.{version_line, version_lines}
-use Rattle.bd_model.proofs.HistoryLemmas.{version-newest, version-grown, version-base}
-use Rattle.bd_model.proofs.ListLemmas.{numbers-none, filter-all}
+use Rattle.bd_model.proofs.ListLemmas.{numbers-none}
 use Rattle.bd_model.proofs.RowLemmas.{rows_over}
 use Rattle.bd_model.proofs.StepLemmas.{length-history}
 use Rattle.bd_catalog.specs.Catalogue.{Catalogue}
 use Rattle.bd_catalog.specs.Opening.{Found, opened}
 use Rattle.bd_catalog.specs.Standing.{HasNumbers, HasVersions, HasVolumes, HasActives, StandsFor}
-use Rattle.bd_catalog.proofs.StandingFound.{opened-found, obeys-each, nothing-else}
 use Rattle.bd_catalog.proofs.Standing.{Shows, stands-shows, stands_by_parts}
 use Rattle.bd_model.proofs.ExpiryLemmas.{nothing_owned}
 use Rattle.bd_model.specs.State.{empty}
@@ -81,50 +76,10 @@ nothing-state shape st state none =
     (λ all k. record { base = st.base; versions = all.0 k; expired = all.1 k })
     state.some
 
--- a state whose newest number is 0 is the empty one
-pub empty-state : (shape : Shape) (st : VersionState) → IsState st → newest (history shape st) ≡ 0 → st ≡ empty
-empty-state shape st state zero_newest =
-    let from : st.base ≡ 0 = omega arith in
-    nothing-state shape st state (omega arith) ∙ ap nothing_from from
-
 module _ {shape : Shape} {st : VersionState} {phase : Phase} {held : ℕ} {image : List ℕ} {found : Found} (stands : StandsFor shape st phase held image) (opens : opened image ≡ Ok found) where
   shows : Shows shape st phase held found image
   shows = stands-shows stands opens
 
-  -- an image whose newest number is 0 stands for the empty state
-  pub found-empty : found.catalogue.newest ≡ 0 → st ≡ empty
-  found-empty none = empty-state shape st stands.state (sym shows.numbers.newest ∙ none)
-
   -- one that retains no version stands for the state without versions
   pub found-nothing : retained_in found.catalogue ≡ 0 → st ≡ nothing_from found.catalogue.base
   found-nothing none = nothing-state shape st stands.state (sym shows.numbers.retained ∙ none) ∙ ap nothing_from (sym shows.numbers.base)
-
--- where no version is found the catalogue has nothing else
-pub found-catalogue : (image : List ℕ) (found : Found) → opened image ≡ Ok found → retained_in found.catalogue ≡ 0 → found.catalogue ≡ catalogue_from found.catalogue.base
-found-catalogue image found opens none = nothing-else found.sizes found.catalogue (obeys-each found.sizes found.catalogue (opened-found image found opens).obeys) none
-
-module _ (base : ℕ) where
-  abbrev none : History
-  none = record { base = base; versions = []; expired = 0 }
-
-  no_chunks : version none (newest none) ≡ []
-  no_chunks = version-base none (newest none) (omega arith)
-
-  -- each different chunk of a first version is fresh
-  pub fresh-first : (w : List (List ℕ)) → fresh none w ≡ distinct w
-  fresh-first w = ap (λ v. filter (λ c. not (contains v c)) (distinct w)) no_chunks ∙ filter-all _ (λ c. refl) (distinct w)
-
-  -- and each chunk begins there
-  pub recipe-first : (w : List (List ℕ)) → recipe (grown none w) (base + 1) ≡ entries_in [] (base + 1) w
-  recipe-first w = λ k. map (λ c. record { mark = record { 0 = mark c }; length = length c; start = start c k }) (own k)
-    where
-      own : version (grown none w) (base + 1) ≡ w
-      own = let last : base + 1 ≡ newest none + 1 = omega arith in ap (version (grown none w)) last ∙ version-newest none w
-
-      start : (c : List ℕ) → start_of (grown none w) (base + 1) c ≡ base + 1
-      start c =
-          let next : base + 1 ≡ suc base = omega arith in
-          let before : version (grown none w) base ≡ [] = version-grown none w base (omega arith) ∙ version-base none base (omega arith) in
-          ap (λ n. start_of (grown none w) n c) next
-          ∙ ap (λ cs. elim (contains cs c) as (λ _. ℕ) [ true ↦ start_of (grown none w) base c | false ↦ suc base ]) before
-          ∙ sym next
