@@ -1,15 +1,12 @@
 -- What an opening leaves of what lies round it.
-use Rattle.std.proofs.Common.{◌≡◌, ◌⊎◌, ◌∙◌, ℕ, List, inl, inr, refl, sym, subst, ap, arith, Result, Ok, Err, false}
-use Rattle.bd_disk.specs.Calls.{Rose, FailsByCount}
+use Rattle.std.proofs.Common.{◌≡◌, ℕ, refl, sym, subst, arith, Err}
+use Rattle.bd_disk.specs.Calls.{FailsByCount}
 use Rattle.bd_disk.specs.History.{History, contents}
-use Rattle.bd_catalog.specs.Opening.{Found, opened}
-use Rattle.bd_model.specs.declared.place.Place.{Place}
+use Rattle.bd_catalog.specs.Opening.{opened}
 use Rattle.bd_recover.specs.Opens.{is_disk_fault}
 use Rattle.bd_recover.specs.declared.fault.OpenFault.{OpenFault}
 use Rattle.bd_recover.specs.declared.fault.OpenFault.TheVariants.{NotAStore as OpenNotAStore, DiskFault as OpenDisk, OutOfMemory as OpenMemory}
-use Rattle.bd_store.specs.Causes.{Counts}
 use Rattle.bd_store.specs.Openings.{AnswersOpening}
-use Rattle.bd_store.specs.Shown.{Shown}
 use Rattle.mfdedup.specs.Commands.{EndsUnopened, OpensNone, ReadsFront}
 use Rattle.mfdedup.specs.Counts.{EndsOnlyByCount}
 use Rattle.mfdedup.specs.Failing.{end_of_opening}

@@ -1,9 +1,6 @@
 -- By which count the ends of a session, of an opening and of words come.
-use Rattle.std.proofs.Common.{◌≡◌, ◌⊎◌, ◌∙◌, ℕ, ◌<◌, ◌≤◌, inl, inr, refl, sym, subst, ap, arith, MatchBool}
+use Rattle.std.proofs.Common.{◌≡◌, ◌∙◌, ◌≤◌, refl, subst, arith}
 use Rattle.bd_disk.specs.Calls.{Rose}
-use Rattle.bd_recover.specs.Opens.{is_disk_fault}
-use Rattle.bd_recover.specs.declared.fault.OpenFault.{OpenFault}
-use Rattle.bd_recover.specs.declared.fault.OpenFault.TheVariants.{NotAStore as OpenNotAStore, DiskFault as OpenDisk, OutOfMemory as OpenMemory}
 use Rattle.bd_store.specs.Causes.{Counts, HasRisen, NoneFell}
 use Rattle.bd_store.specs.Shown.{Shown}
 use Rattle.bd_store.specs.declared.fault.StoreFault.TheVariants.{SourceFault as StoreSource, TargetFault as StoreTarget, DiskFault as StoreDisk}
@@ -11,11 +8,9 @@ use Rattle.bd_session.specs.Ends.{EndsOnlyByCount as SessionEndsByCount}
 use Rattle.bd_session.specs.declared.report.SessionEnd.{SessionEnd}
 use Rattle.bd_session.specs.declared.report.SessionEnd.TheVariants.{Done, SourceFault, TargetFault, DiskFault, Damaged, OutputFault, OutOfMemory, Unbuilt}
 use Rattle.mfdedup.specs.Counts.{EndsByCount, EndsOnlyByCount, NoneFailed}
-use Rattle.mfdedup.specs.Failing.{end_of_opening, end_of_session}
+use Rattle.mfdedup.specs.Failing.{end_of_session}
 use Rattle.mfdedup.specs.Outside.{Outside, with_store}
-use Rattle.mfdedup.specs.Words.{IsOfWords}
 use Rattle.mfdedup.specs.declared.report.End.{End}
-use Rattle.mfdedup.specs.declared.report.End.TheVariants.{BadWords, BadNumber, BadName, OutOfMemory as MemoryEnd, Unbuilt as UnbuiltEnd, NotAStore, DiskFault as DiskEnd}
 
 pub nothing_failed : (o : Outside) → NoneFailed o o
 nothing_failed o = record { counts = refl; sink = refl }

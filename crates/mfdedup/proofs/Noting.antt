@@ -1,5 +1,5 @@
 -- What is noted where nothing was answered, and where one answer was.
-use Rattle.std.proofs.Common.{◌≡◌, ◌≢◌, ◌⊎◌, ◌∙◌, ◌++◌, ℕ, zero, suc, ◌<◌, ◌≤◌, List, [], ◌∷◌, length, get_or, take, inl, inr, refl, sym, subst, ap, append-nil, arith, true, false, Result, Ok, Err}
+use Rattle.std.proofs.Common.{◌≡◌, ◌≢◌, ◌⊎◌, ◌∙◌, ◌++◌, ℕ, zero, suc, ◌<◌, ◌≤◌, List, [], ◌∷◌, length, get_or, take, inl, inr, refl, sym, subst, ap, append-nil, arith, false, Result, Ok, Err}
 use Rattle.std.specs.Prelude.{IfOk, OnErr, OnOk}
 use Rattle.bd_disk.specs.Calls.{Rose}
 use Rattle.bd_disk.specs.History.{clock}

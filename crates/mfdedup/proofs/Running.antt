@@ -11,6 +11,7 @@ use Rattle.bd_model.specs.declared.layout.Phase.{Phase}
 use Rattle.bd_model.specs.declared.shape.Shape.{Shape}
 use Rattle.bd_store.specs.Causes.{Counts}
 use Rattle.bd_store.specs.Shown.{Shown}
+use Rattle.bd_session.proofs.Opened.{after_opening}
 use Rattle.bd_session.specs.Course.{Course}
 use Rattle.bd_session.specs.Headline.{EndsWell, NoFault}
 use Rattle.bd_session.specs.Promised.{DistinctMarksTellApart, IsHonest, IsPromised as IsPromisedThere, Start}
@@ -32,7 +33,7 @@ use Rattle.mfdedup.specs.declared.report.End.{End}
 use Rattle.mfdedup.specs.declared.report.End.TheVariants.{NotAStore, DiskFault, OutputFault, OutOfMemory, Unbuilt}
 use Rattle.mfdedup.proofs.Causes.{session_cause}
 use Rattle.mfdedup.proofs.Noting.{no_clocks, no_texts}
-use Rattle.mfdedup.proofs.Opening.{after_opening, on_disk, opens_first, still_honest}
+use Rattle.mfdedup.proofs.Opening.{on_disk, opens_first, still_honest}
 
 -- all that comes of commands, whatever words ask for them
 pub record CommandsWork (disk files sink : Type 0) (commands : List Command) (p : Progress) (before now : Outside) : Type 0 where
@@ -145,7 +146,7 @@ module _ (disk files sink : Type 0) (tells_apart : DistinctMarksTellApart) (comm
         opened = opens_first {s = s} did.store.found honest (did.opens.finds told) front made;
         ending = did.ending;
         ends = did.ends;
-        headline = after_opening s did.opened.disk (clock did.opened.disk) (course_of p did.ending) now.disk now.files front.writes made honest (kept.headline shape st phase whole);
+        headline = after_opening s did.opened.disk (clock did.opened.disk) (course_of p did.ending) now.disk now.files front.writes made honest.sure (kept.headline shape st phase whole);
         well = well (course_of p did.ending) (kept.ends shape st phase whole);
       })
 

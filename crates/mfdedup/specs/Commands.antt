@@ -1,13 +1,12 @@
 -- Commands on the store that a disk holds.
-use Rattle.std.specs.Prelude.{◌≡◌, ◌⊎◌, ℕ, false, List, Result, Ok, Err}
+use Rattle.std.specs.Prelude.{◌≡◌, ◌⊎◌, false, List, Ok, Err}
 use Rattle.bd_disk.specs.History.{History, contents}
 use Rattle.bd_disk.specs.Looks.{LooksOnlyAt}
 use Rattle.bd_disk.specs.Made.{WritesNothing}
 use Rattle.bd_model.specs.declared.command.Command.{Command}
-use Rattle.bd_model.specs.declared.place.Place.{Place}
 use Rattle.bd_gate.specs.Halves.{BeforeExtents}
 use Rattle.bd_gate.specs.Superblock.{sizes_at}
-use Rattle.bd_catalog.specs.Opening.{Found, opened}
+use Rattle.bd_catalog.specs.Opening.{opened}
 use Rattle.bd_recover.specs.Opens.{Rests}
 use Rattle.bd_store.specs.Shown.{Shown}
 use Rattle.bd_session.specs.Course.{Course}

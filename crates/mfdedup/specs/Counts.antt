@@ -1,5 +1,5 @@
 -- Which end comes by which count.
-use Rattle.std.specs.Prelude.{◌≡◌, ℕ, ◌≤◌}
+use Rattle.std.specs.Prelude.{◌≡◌, ◌≤◌}
 use Rattle.bd_disk.specs.Calls.{Rose}
 use Rattle.bd_store.specs.Causes.{HasRisen, NoneFell}
 use Rattle.bd_store.specs.declared.fault.StoreFault.{StoreFault}

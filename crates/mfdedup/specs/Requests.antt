@@ -1,5 +1,5 @@
 -- What comes of the requests that need no store.
-use Rattle.std.specs.Prelude.{◌≡◌, ◌⊎◌, ℕ, ◌<◌, ◌≤◌, List, [], ◌∷◌, length, get_or, replicate, false, Option, Some, None}
+use Rattle.std.specs.Prelude.{◌≡◌, ◌⊎◌, ℕ, ◌<◌, List, [], length, get_or, replicate, Option, Some, None}
 use Rattle.std.specs.FinMap as map
 use Rattle.bd_disk.specs.History.{History, contents, Since}
 use Rattle.bd_disk.specs.Made.{WritesNothing, WritesOnly}

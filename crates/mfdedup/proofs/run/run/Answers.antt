@@ -1,11 +1,8 @@
-use Rattle.std.proofs.Common.{◌≡◌, ◌∙◌, ◌⊎◌, ap, inl, inr, map, refl, string_bytes, subst, sym, ⊎_elim}
+use Rattle.std.proofs.Common.{inl, map, string_bytes, subst, sym}
 use Rattle.mfdedup.specs.Outside.{outside}
-use Rattle.mfdedup.specs.Requests.{EndsAtOnce}
-use Rattle.mfdedup.specs.Words.{IsOfWords, Refused, reading}
-use Rattle.mfdedup.specs.Works.{Did, Works}
+use Rattle.mfdedup.specs.Words.{reading}
+use Rattle.mfdedup.specs.Works.{Did}
 use Rattle.mfdedup.specs.declared.progress.Progress.{Progress}
-use Rattle.mfdedup.specs.declared.report.End.{End}
-use Rattle.mfdedup.specs.declared.report.End.TheVariants.{OutOfMemory}
 use Rattle.mfdedup.proofs.Asking.{ends_early}
 use Rattle.mfdedup.proofs.run.run.Goals as goal
 

@@ -1,4 +1,4 @@
-use Rattle.std.proofs.Common.{◌≡◌, ◌∙◌, ◌∷◌, [], List, ap, sym, subst, refl, inl, slice_index_or}
+use Rattle.std.proofs.Common.{◌≡◌, ◌∙◌, List, ap, sym, subst, refl, inl, slice_index_or}
 use Rattle.bd_model.specs.declared.command.Command.{Command}
 use Rattle.bd_session.proofs.Apart.{distinct_marks_tell_apart}
 use Rattle.mfdedup.specs.Commands.{RunsCommands}
