@@ -52,7 +52,7 @@ use Rattle.std.specs.Result.{is_err}
 use Rattle.bd_store.specs.Kept.{IsKept}
 use Rattle.bd_store.specs.Naming.{fault_of_reading, refusal_of, AnswersNaming, NamesNewest}
 use Rattle.bd_store.specs.Newest.{newest_places, AnswersNewest, IsNewestRecipe}
-use Rattle.bd_store.specs.Touches.{AnswersByNumbers, BackupReads, InNewest, is_unbuilt, numbers_used_up, versions_used_up}
+use Rattle.bd_store.specs.Touches.{AnswersByNumbers, BackupReads, InNewest, IsByNumbers, is_unbuilt, numbers_used_up, versions_used_up}
 use Rattle.bd_store.specs.declared.fault.StoreFault.{StoreFault}
 use Rattle.bd_store.specs.declared.fault.StoreFault.TheVariants.{DiskFault}
 use Rattle.bd_store.proofs.Giving.{agrees_quiet}
@@ -164,6 +164,7 @@ module _ {D F : Type 0} (d : DiskGhosts D) (f : FilesGhosts F) (found : Found) (
         held = refl;
         versions = same_kept _ _ (Err (fault_of_reading fault)) (record { sizes = refl; base = refl; newest = refl; versions = refl; held = refl });
       };
+      untouched = λ refused. absurd refused;
       on_disk = λ told. record {
         agrees = λ _. agrees_quiet found (nothing_written is.disk told) (begun.agrees told);
         writes = nothing_within _ (nothing_written is.disk told);
@@ -257,6 +258,12 @@ module _ {D F : Type 0} (d : DiskGhosts D) (f : FilesGhosts F) (found : Found) (
     refused_reads DiskFailed a b only = tt
     refused_reads MemoryFailed a b only = tt
 
+    refused_goes_by_more : {P : Type 0} (fault : IntakeFault) → IsByNumbers (refusal_of fault) → P
+    refused_goes_by_more (Full counted free kept) refused = absurd refused
+    refused_goes_by_more SourceFailed refused = absurd refused
+    refused_goes_by_more DiskFailed refused = absurd refused
+    refused_goes_by_more MemoryFailed refused = absurd refused
+
     refused_names : (fault : IntakeFault) (a b : History) → NamesNewest found a b (refusal_of fault)
     refused_names (Full counted free kept) a b = tt
     refused_names SourceFailed a b = tt
@@ -275,6 +282,7 @@ module _ {D F : Type 0} (d : DiskGhosts D) (f : FilesGhosts F) (found : Found) (
         held = refl;
         versions = same_kept _ _ (refusal_of fault) (record { sizes = refl; base = refl; newest = refl; versions = refl; held = refl });
       };
+      untouched = refused_goes_by_more fault;
       on_disk = λ told. record {
         agrees = λ _. agrees_staged found (InFree found.sizes space) (λ place inside. omega (arith, inside.within.0)) (agrees told) (written took.disk told);
         writes = unnamed told (Err fault) took;
@@ -339,6 +347,7 @@ module _ {D F : Type 0} (d : DiskGhosts D) (f : FilesGhosts F) (found : Found) (
               held = is.held;
               versions = subst (λ a. KeepsVersions (record { found = found; held = held; worn = false }) (record { found = found3; held = held_count space3; worn = worn }) (Ok a)) says tt;
             };
+            untouched = λ refused. absurd (subst (λ a. IsByNumbers (Ok a)) is.answer refused);
             on_disk = λ told. record {
               agrees = λ _. subst (λ (f : Found). Agrees f (d.history disk3)) (sym is.made) (is.done told).agrees;
               writes = within disk3 found3 space3 (Ok answer) told is;
@@ -372,6 +381,7 @@ module _ {D F : Type 0} (d : DiskGhosts D) (f : FilesGhosts F) (found : Found) (
             };
             answer = goes;
             store = record { worn = fails; sizes = λ sound. let no : true ≡ false = sym gone ∙ sound in absurd (cc); held = is.held; versions = tt };
+            untouched = λ refused. absurd refused;
             on_disk = λ told. record {
               agrees = λ sound. let no : true ≡ false = sym gone ∙ sound in absurd (cc);
               writes = within disk3 found3 space3 (Err DiskFault) told is;

@@ -109,6 +109,7 @@ module _ (command : Command) (result : Result Answer StoreFault) (s : Scene) whe
       held = refl;
       versions = same_kept s.store s.store result (record { sizes = refl; base = refl; newest = refl; versions = refl; held = refl });
     };
+    untouched = λ _. refl;
     on_disk = λ told. record {
       agrees = λ _. agrees told;
       writes = writes_none s.store.found command s.disk;

@@ -109,6 +109,7 @@ module _ {D F : Type 0} (d : DiskGhosts D) (f : FilesGhosts F) (found : Found) (
       cause = unread_cause fault is (f.source_faults files0) (f.target_faults files0);
       answer = unread_answer fault;
       store = store_kept (Err (fault_of_reading fault)) worn disk1 files0 fails;
+      untouched = λ refused. absurd refused;
       on_disk = λ told. record {
         agrees = λ _. agrees_quiet found (nothing_written is.disk told) (agrees told);
         writes = nothing_written is.disk told;
@@ -168,6 +169,7 @@ module _ {D F : Type 0} (d : DiskGhosts D) (f : FilesGhosts F) (found : Found) (
       };
       answer = (omega (arith, from, to), retained, refl, gave.length ∙ read.recipe.sum);
       store = store_kept (Ok (Restored v given)) false disk2 files2 (λ e. let no : false ≡ true = e in absurd (cc), λ e. let no : ◌≡◌ {A = Result Answer StoreFault} (Ok (Restored v given)) (Err DiskFault) = e in absurd (cc));
+      untouched = λ refused. absurd refused;
       on_disk = λ told. record {
         agrees = λ _. agrees_quiet found (nothing_written (reads (Ok given) ran) told) (agrees told);
         writes = nothing_written (reads (Ok given) ran) told;
@@ -228,6 +230,7 @@ module _ {D F : Type 0} (d : DiskGhosts D) (f : FilesGhosts F) (found : Found) (
       cause = stopped_cause fault ran;
       answer = stopped_answer fault;
       store = store_kept (Err (fault_of_restore fault)) worn disk2 files2 fails;
+      untouched = λ refused. absurd refused;
       on_disk = λ told. record {
         agrees = λ _. agrees_quiet found (nothing_written (reads (Err fault) ran) told) (agrees told);
         writes = nothing_written (reads (Err fault) ran) told;

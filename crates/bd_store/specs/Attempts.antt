@@ -203,6 +203,8 @@ pub record Meets (disk files : Type 0) (a : Attempt) : Type 0 where
   pub cause : FailsOnlyByCount a.before.counts a.after.counts a.result
   pub answer : IsAnswerOf a.before.store.found a.command a.result
   pub store : KeepsStore a
+  -- a refusal by the catalogue alone leaves everything as it was
+  pub untouched : IsByNumbers a.result → a.after ≡ a.before
   pub on_disk : disk → MeetsOnDisk a
   pub on_files : files → MeetsOnFiles a
   pub on_both : disk → files → MeetsOnBoth a
