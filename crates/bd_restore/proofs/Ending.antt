@@ -18,7 +18,8 @@ use Rattle.bd_restore.specs.Met.{MetOn}
 use Rattle.bd_restore.specs.Plan.{Planned}
 use Rattle.bd_restore.specs.Restored.{GivesBack, IsMetBy, ReadsWalk}
 use Rattle.bd_restore.specs.Target.{held, flag_at, mark_at, HasChunks, IsTarget}
-use Rattle.bd_restore.specs.Walk.{joined, walk_reads, AreFlags, AreGiven, Gives, HasGoodHeaders, Walks}
+use Rattle.bd_restore.specs.Walk.{joined, walk_reads, AreFlags, AreGiven, Gives, Walks}
+use Rattle.bd_volume.specs.Headers.{HasGoodHeaders}
 use Rattle.bd_restore.proofs.Finishing.{all_given, all_marked, flags_none, given_none, only_put}
 use Rattle.bd_restore.proofs.Seeing.{met_needed, met_part, met_seen, met_whole, missing_seen, missing_whole}
 

@@ -13,7 +13,8 @@ use Rattle.bd_catalog.specs.Damages.{header_holds}
 use Rattle.bd_catalog.specs.Rows.{RowPlace, Spot, row_spots, spots_in}
 use Rattle.bd_restore.specs.Met.{MeetsOn, MetOn}
 use Rattle.bd_restore.specs.Target.{held}
-use Rattle.bd_restore.specs.Walk.{Gives, HasGoodHeaders, Walks}
+use Rattle.bd_restore.specs.Walk.{Gives, Walks}
+use Rattle.bd_volume.specs.Headers.{HasGoodHeaders}
 use Rattle.bd_restore.specs.Went.{Aim, IsReady, Moment, Went, WentOver}
 use Rattle.bd_restore.proofs.Joining.{gives_both, gives_none, headers_both, headers_none, headers_row, met_after, met_before, spots-append, walks_both, walks_none}
 

@@ -17,7 +17,8 @@ use Rattle.bd_model.specs.declared.layout.RecipeEntry.{RecipeEntry}
 use Rattle.bd_catalog.specs.Damages.{header_holds}
 use Rattle.bd_catalog.specs.Rows.{row_bytes, spot_in, RowPlace, Spot, first_spots, records_at, row_spots, spots_in, spots_from, past}
 use Rattle.bd_restore.specs.Met.{BreaksAt, MetAt, MetOn}
-use Rattle.bd_restore.specs.Walk.{is_wanted, walk_reads, AreFlags, AreGiven, Gives, HasGoodHeaders, Sought, Walks}
+use Rattle.bd_restore.specs.Walk.{is_wanted, walk_reads, AreFlags, AreGiven, Gives, Sought, Walks}
+use Rattle.bd_volume.specs.Headers.{HasGoodHeaders}
 use Rattle.bd_restore.proofs.Cuts.{spots_split}
 
 -- ---- walks

@@ -31,7 +31,8 @@ use Rattle.bd_recipe.proofs.Entries.{length-entries_in}
 use Rattle.bd_recipe.proofs.Found.{places_of_entry}
 use Rattle.bd_restore.specs.Met.{BreaksAt, ComesTo, HasEntry, IsNeeded, IsReached, IsSeenAfter, IsWhole, MetOn}
 use Rattle.bd_restore.specs.Target.{flag_at, length_at, mark_at}
-use Rattle.bd_restore.specs.Walk.{AreFlags, HasGoodHeaders, Sought, is_found}
+use Rattle.bd_restore.specs.Walk.{AreFlags, Sought, is_found}
+use Rattle.bd_volume.specs.Headers.{HasGoodHeaders}
 use Rattle.bd_restore.proofs.Cuts.{past_sum, place_is, taken}
 use Rattle.bd_volume.proofs.WalkRecords.{part_at, records_both, row_records, walk_parts, walk_records}
 use Rattle.bd_restore.proofs.Walking.{bool_cases}

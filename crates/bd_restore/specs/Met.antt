@@ -16,7 +16,8 @@ use Rattle.bd_catalog.specs.Rows.{RowPlace, Spot, records_at, row_spots, spot_in
 use Rattle.bd_catalog.specs.Sound.{is_stored, part_holds, parts_for, recipe_of, records_for}
 use Rattle.bd_recipe.specs.Reading.{recipe_places}
 use Rattle.bd_restore.specs.Target.{mark_at, length_at}
-use Rattle.bd_restore.specs.Walk.{is_found, AreFlags, HasGoodHeaders, Sought}
+use Rattle.bd_restore.specs.Walk.{is_found, AreFlags, Sought}
+use Rattle.bd_volume.specs.Headers.{HasGoodHeaders}
 use Rattle.bd_restore.specs.Went.{Moment}
 
 -- ---- at one record

@@ -12,7 +12,8 @@ use Rattle.bd_catalog.specs.Sound.{recipe_of, records_for}
 use Rattle.bd_restore.specs.Met.{IsNeeded, IsSeenAfter, IsWhole}
 use Rattle.bd_restore.specs.Plan.{Planned}
 use Rattle.bd_restore.specs.Target.{held, HasChunks}
-use Rattle.bd_restore.specs.Walk.{joined, walk_reads, HasGoodHeaders}
+use Rattle.bd_restore.specs.Walk.{joined, walk_reads}
+use Rattle.bd_volume.specs.Headers.{HasGoodHeaders}
 
 -- of the records of the walk each header was read, the body of the first with each mark that an entry has, and no other
 -- place; and the header of each holds

@@ -70,10 +70,6 @@ pub record Gives (entries : List RecipeEntry) (spots : List Spot) (filled : List
 abbrev pub joined : List RecipeEntry → List Stored → List ℕ
 joined entries records = flat_map (λ e. first_body (with_mark e.mark.0 records)) entries
 
--- the header of each record of these rows holds
-pub record HasGoodHeaders (s : Sizes) (image : List ℕ) (rows : List RowPlace) : Type 0 where
-  pub each : IsTrue (list_all (λ p. list_all (header_holds s p) (row_spots s image p)) rows)
-
 -- a place of a byte of the row, and of one of these rows
 abbrev pub InRow : Sizes → RowPlace → ℕ → Type 0
 InRow s p place = InOwner s p.extents p.from p.row.bytes place

@@ -27,7 +27,8 @@ use Rattle.bd_restore.specs.Faults.{FailsByCounts, IfDamaged as IfMet}
 use Rattle.bd_restore.specs.Plan.{AnswersPlan, IsPlanOf, Planned}
 use Rattle.bd_restore.specs.Restored.{GivesBack as GaveTarget, IsMetBy, ReadsWalk}
 use Rattle.bd_restore.specs.Target.{held, ChangesTarget, HasChunks, KeepsOthers}
-use Rattle.bd_restore.specs.Walk.{HasGoodHeaders, InRows}
+use Rattle.bd_restore.specs.Walk.{InRows}
+use Rattle.bd_volume.specs.Headers.{HasGoodHeaders}
 use Rattle.bd_restore.specs.declared.fault.RestoreFault.{RestoreFault}
 use Rattle.bd_restore.specs.declared.fault.RestoreFault.TheVariants.{TargetFault as RestoreTarget, DiskFault as RestoreDisk, Damaged as RestoreDamaged, OutOfMemory as RestoreMemory}
 use Rattle.bd_store.specs.Attempts.{Scene, Attempt, attempt, scene, EndsInDamage, KeepsStore, Meets, RestoreReads}

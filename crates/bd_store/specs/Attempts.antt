@@ -25,7 +25,7 @@ use Rattle.bd_catalog.specs.Rows.{walk}
 use Rattle.bd_catalog.specs.Sound.{content, recipe_of}
 use Rattle.bd_recipe.specs.Reading.{recipe_found}
 use Rattle.bd_restore.specs.Target.{held, HasChunks}
-use Rattle.bd_restore.specs.Walk.{HasGoodHeaders}
+use Rattle.bd_volume.specs.Headers.{HasGoodHeaders}
 use Rattle.bd_store.specs.Causes.{Counts, counts, FailsOnlyByCount, StraysOnlyBy}
 use Rattle.bd_store.specs.Naming.{NamesDamage, NamesNewest}
 use Rattle.bd_store.specs.Shown.{Shown, SameVersions}

@@ -1,4 +1,5 @@
 pub mod Appended
+pub mod Beside
 pub mod ChunkCounts
 pub mod Copying
 pub mod Fills

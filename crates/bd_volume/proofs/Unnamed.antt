@@ -132,7 +132,7 @@ module _ (s : Sizes) (some : 1 ≤ s.extent) (c : Catalogue) (rules : IsTrue (ob
       subst (Contains extents) (one_extent s (number extents at) e place there here) (among_own extents at within)
 
   -- none lies in an extent without an owner
-  unowned_unnamed : (place : ℕ) (e : ℕ) → InRange (extent_place s e) s.extent place → (Contains (all_extents c) e → ⊥) → IsUnnamed s c place
+  pub unowned_unnamed : (place : ℕ) (e : ℕ) → InRange (extent_place s e) s.extent place → (Contains (all_extents c) e → ⊥) → IsUnnamed s c place
   unowned_unnamed place e here free = record {
     behind = omega (arith, here.0);
     unnamed = λ p. free (subst (λ l. Contains l e) (extents-named c) (in_some (named_by c) p.owner e p.among (named_extent place e here p)));

@@ -1,11 +1,12 @@
 -- The bytes that a catalogue names, and where they lie.
-use Rattle.std.specs.Prelude.{◌≡◌, ℕ, ◌*◌, ◌≤◌, List, ◌++◌, map, Contains, IsTrue, Ok}
+use Rattle.std.specs.Prelude.{◌≡◌, ℕ, ◌*◌, ◌<◌, ◌≤◌, List, ◌++◌, map, Contains, IsTrue, Ok}
 use Rattle.bd_disk.specs.Images.{Agree, AgreeBut, InRange}
 use Rattle.bd_model.specs.declared.layout.Phase.{Phase}
 use Rattle.bd_model.specs.declared.shape.Shape.{Shape}
-use Rattle.bd_model.specs.Sizes.{Sizes, extent_place}
+use Rattle.bd_model.specs.Sizes.{Sizes, disk_bytes, extent_place}
 use Rattle.bd_model.specs.State.{VersionState}
 use Rattle.bd_extio.specs.Ranges.{InOwner, IsWithin}
+use Rattle.bd_gate.specs.Halves.{InHalf}
 use Rattle.bd_catalog.specs.Catalogue.{Catalogue, OpenEntry, VersionEntry, VolumeEntry, all_extents, bytes_of_rows}
 use Rattle.bd_catalog.specs.Opening.{Found, opened}
 use Rattle.bd_catalog.specs.Rules.{obeys}
@@ -39,6 +40,14 @@ pub record InNamed (s : Sizes) (c : Catalogue) (place : ℕ) : Type 0 where
 pub record IsUnnamed (s : Sizes) (c : Catalogue) (place : ℕ) : Type 0 where
   pub behind : extent_place s 0 ≤ place
   pub unnamed : InNamed s c place → ⊥
+
+-- A place beside all that an opening finds and names: behind the superblock and before the end of the store, and neither in
+-- the newest half nor of a byte that the catalogue names.
+pub record IsBeside (found : Found) (place : ℕ) : Type 0 where
+  pub begins : 64 ≤ place
+  pub ends : place < disk_bytes found.sizes
+  pub half : ¬ InHalf found.sizes found.half.number place
+  pub named : ¬ InNamed found.sizes found.catalogue place
 
 -- An image stands for what another one does that has its catalogue and agrees with it on the bytes that it names, or that
 -- agrees with it but at unnamed places. Such places are those of extents without an owner, and what lies behind the named

@@ -1,0 +1,4 @@
+pub mod Arranged
+pub mod Cuts
+pub mod Desks
+pub mod Turns
