@@ -21,6 +21,7 @@ use Rattle.bd_catalog.specs.Standing.{Stands, StandsFor}
 use Rattle.bd_recipe.specs.Reading.{recipe_found}
 use Rattle.bd_recipe.specs.declared.fault.ReadFault.{ReadFault}
 use Rattle.bd_recipe.specs.declared.fault.ReadFault.TheVariants.{DiskFault, Damaged, OutOfMemory}
+use Rattle.bd_volume.specs.Headers.{HasGoodHeaders}
 use Rattle.bd_volume.specs.Named.{InNamed}
 use Rattle.bd_arrange.specs.Cuts.{InCategory, IsDamageIn}
 use Rattle.bd_arrange.specs.Turns.{AreArranged, due, ground}
@@ -46,8 +47,8 @@ LeavesFound old new (Err (Damaged damage)) = new ≡ old
 LeavesFound old new (Err OutOfMemory) = new ≡ old
 
 -- at every answer but a fault of the disk
-abbrev pub ButDiskFault : Result (Unit {0}) ReadFault → Type 0 → Type 0
-ButDiskFault (Ok _) P = P
+abbrev pub ButDiskFault : {T : Type 0} → Result T ReadFault → Type 0 → Type 0
+ButDiskFault (Ok value) P = P
 ButDiskFault (Err DiskFault) P = Unit {0}
 ButDiskFault (Err (Damaged damage)) P = P
 ButDiskFault (Err OutOfMemory) P = P
@@ -62,18 +63,29 @@ pub record InDue (found : Found) (place : ℕ) : Type 0 where
 abbrev pub IsDamageOfDue : Found → Damage → History → History → Type 0
 IsDamageOfDue found damage old new = IsDamageIn found.sizes found.catalogue (contents old) (map open_row (due found.catalogue)) damage old new
 
+-- the header of each record of the categories that are due holds
+abbrev pub HasGoodDue : Found → List ℕ → Type 0
+HasGoodDue found image = HasGoodHeaders found.sizes image (map open_row (due found.catalogue))
+
+-- where the disk tells: all headers hold in what was arranged, and a damage is one of theirs or of a category
+abbrev pub AnswersDue : Found → History → History → Result (Unit {0}) ReadFault → Type 0
+AnswersDue found old new (Ok _) = HasGoodDue found (contents old)
+AnswersDue found old new (Err DiskFault) = Unit {0}
+AnswersDue found old new (Err (Damaged damage)) = IsDamageOfDue found damage old new
+AnswersDue found old new (Err OutOfMemory) = Unit {0}
+
 -- ---- over every state
 
 -- what arranging leaves of a state for which the contents stood: the same, settled; where it was refused, at the phase that it
 -- had
-abbrev pub Arranges : Shape → VersionState → Phase → ℕ → List ℕ → Result (Unit {0}) ReadFault → Type 0
-Arranges shape st phase held image (Ok _) = StandsFor shape st Settled held image
+abbrev pub Arranges : {T : Type 0} → Shape → VersionState → Phase → ℕ → List ℕ → Result T ReadFault → Type 0
+Arranges shape st phase held image (Ok value) = StandsFor shape st Settled held image
 Arranges shape st phase held image (Err DiskFault) = Stands shape held st image
 Arranges shape st phase held image (Err (Damaged damage)) = ⊥
 Arranges shape st phase held image (Err OutOfMemory) = StandsFor shape st phase held image
 
 -- whatever state the contents stood for
-pub record IsArranged (held : ℕ) (old new : History) (result : Result (Unit {0}) ReadFault) : Type 0 where
+pub record IsArranged {T : Type 0} (held : ℕ) (old new : History) (result : Result T ReadFault) : Type 0 where
   pub each : (shape : Shape) → (st : VersionState) → (phase : Phase) → Near (history shape st) → StandsFor shape st phase held (contents old) → Arranges shape st phase held (contents new) result
 
 -- whatever state each image at entry stood for: a stop leaves it
@@ -81,7 +93,7 @@ pub record IsSafeArranging (held : ℕ) (old new : History) : Type 0 where
   pub each : (shape : Shape) → (st : VersionState) → Near (history shape st) → LeavesNow (Stands shape held st) old → LeavesSince (Stands shape held st) old new
 
 -- where the disk tells: every state stays, in the contents and at any stop
-pub record KeepsStates (held : ℕ) (old new : History) (result : Result (Unit {0}) ReadFault) : Type 0 where
+pub record KeepsStates {T : Type 0} (held : ℕ) (old new : History) (result : Result T ReadFault) : Type 0 where
   pub contents : IsArranged held old new result
   pub stops : IsSafeArranging held old new
 

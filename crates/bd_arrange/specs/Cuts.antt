@@ -1,5 +1,5 @@
 -- The records of an open category, told apart by the marks of the newest recipe.
-use Rattle.std.specs.Prelude.{◌≡◌, ℕ, ◌+◌, ◌≤◌, Bool, not, List, [], ◌∷◌, length, take, drop, filter, sum_by, All, if◌then◌else◌}
+use Rattle.std.specs.Prelude.{◌≡◌, ℕ, ◌+◌, ◌≤◌, Bool, true, false, not, List, [], ◌∷◌, length, take, drop, filter, sum_by, All, if◌then◌else◌}
 use Rattle.bd_disk.specs.History.{History}
 use Rattle.bd_model.specs.Recipe.{has_mark}
 use Rattle.bd_model.specs.Records.{Stored}

@@ -72,9 +72,9 @@ taken_by e = length (e.added ++ flat_map (λ k. k.extents) e.kept)
 -- Each of these categories in its turn is left or split, with so many extents free at first. The splits are these.
 abbrev pub Turns : Ground → List ℕ → ℕ → Catalogue → List OpenEntry → List SplitEntry → Type 0
 Turns g now free c [] es = es ≡ []
-Turns g now free c (a ∷ as) es =
-    (IsLeft g free c a × Turns g now free c as es)
-    ⊎ ((e : SplitEntry) × (rest : List SplitEntry) × (es ≡ e ∷ rest) × IsSplit g now free c a e × Turns g now (free - taken_by e) (after_split c e) as rest)
+Turns g now free c (a ∷ more) es =
+    (IsLeft g free c a × Turns g now free c more es)
+    ⊎ ((e : SplitEntry) × (rest : List SplitEntry) × (es ≡ e ∷ rest) × IsSplit g now free c a e × Turns g now (free - taken_by e) (after_split c e) more rest)
 
 -- the bytes that are archived of the category of this start
 abbrev pub archived_bytes : Ground → Catalogue → SplitEntry → List ℕ

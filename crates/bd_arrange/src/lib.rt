@@ -1,10 +1,10 @@
 //! Arranging: each open category is split into what the newest version uses and what is archived.
 #![tactic(auto)]
 
-mod arrange;
+mod arranging;
 mod cut;
 mod desk;
 mod laws;
 
-pub use arrange::arrange;
+pub use arranging::arrange;
 pub use laws::arranged_stores_stand;

@@ -1,5 +1,5 @@
 -- A command on a store, what came of it, and all that is promised of that.
-use Rattle.std.specs.Prelude.{◌≡◌, ◌↔◌, ◌≤◌, ◌<◌, ℕ, true, false, List, Result, Ok, Err}
+use Rattle.std.specs.Prelude.{◌≡◌, ◌⊎◌, ◌↔◌, ◌≤◌, ℕ, ◌+◌, true, false, List, [], ◌∷◌, ◌++◌, length, Result, Ok, Err}
 use Rattle.std.specs.FinMap as map
 use Rattle.bd_disk.specs.History.{History, contents}
 use Rattle.bd_disk.specs.Looks.{LooksOnlyAt}
@@ -8,32 +8,34 @@ use Rattle.bd_disk.specs.declared.disk.Disk.{Ghosts as DiskGhosts}
 use Rattle.bd_files.specs.Files.{IsFinished}
 use Rattle.bd_files.specs.declared.files.Files.{Ghosts as FilesGhosts}
 use Rattle.bd_model.specs.FileMap.{FileMap}
-use Rattle.bd_model.specs.Sizes.{disk_bytes}
 use Rattle.bd_model.specs.declared.answer.Answer.{Answer}
-use Rattle.bd_model.specs.declared.answer.Answer.TheVariants.{BackedUp, Expired, Restored, Listed}
+use Rattle.bd_model.specs.declared.answer.Answer.TheVariants.{Arranged, BackedUp, Expired, FullExtents, Restored, Listed}
 use Rattle.bd_model.specs.declared.command.Command.{Command}
-use Rattle.bd_model.specs.declared.command.Command.TheVariants.{Backup, Restore, List as Listing}
+use Rattle.bd_model.specs.declared.command.Command.TheVariants.{Backup, Restore, Expire, Reorganise, Scrub, List as Listing}
 use Rattle.bd_model.specs.declared.damage.Damage.{Damage}
+use Rattle.bd_model.specs.declared.layout.Phase.TheVariants.{Settled}
 use Rattle.bd_model.specs.declared.layout.RecipeEntry.{RecipeEntry}
 use Rattle.bd_model.specs.Step.{without_room}
-use Rattle.bd_gate.specs.Halves.{InHalf}
-use Rattle.bd_catalog.specs.Agreement.{Agrees, InExtents}
-use Rattle.bd_catalog.specs.Catalogue.{all_extents, oldest_in, retained_in}
+use Rattle.bd_catalog.specs.Agreement.{Agrees}
+use Rattle.bd_catalog.specs.Catalogue.{Catalogue, all_extents, oldest_in, retained_in}
 use Rattle.bd_catalog.specs.Standing.{lines_from}
 use Rattle.bd_catalog.specs.Opening.{Found}
 use Rattle.bd_catalog.specs.Rows.{walk}
 use Rattle.bd_catalog.specs.Sound.{content, recipe_of}
+use Rattle.bd_catalog.specs.Splitting.{after_expire, expired}
 use Rattle.bd_recipe.specs.Reading.{recipe_found}
 use Rattle.bd_restore.specs.Target.{held, HasChunks}
 use Rattle.bd_volume.specs.Headers.{HasGoodHeaders}
+use Rattle.bd_volume.specs.Named.{IsBeside}
+use Rattle.bd_arrange.specs.Arranged.{HasGoodDue, IsSettledFrom}
 use Rattle.bd_store.specs.Causes.{Counts, counts, FailsOnlyByCount, StraysOnlyBy}
-use Rattle.bd_store.specs.Naming.{NamesDamage, NamesNewest}
-use Rattle.bd_store.specs.Shown.{Shown, SameVersions}
+use Rattle.bd_store.specs.Naming.{NamesArranging, NamesDamage}
+use Rattle.bd_store.specs.Shown.{HasFree, SameVersions, Shown}
 use Rattle.bd_store.specs.Steps.{IsOneStep, KeepsFiles}
 use Rattle.bd_store.specs.Stops.{IsSafeAtStops}
-use Rattle.bd_store.specs.Touches.{AnswersByNumbers, AnswersByVersion, BackupReads, InNewest, InRestore, IsByNumbers, WalksTo}
+use Rattle.bd_store.specs.Touches.{AnswersArranging, AnswersByNumbers, AnswersByVersion, AnswersExpiry, ArrangingReads, BackupReads, ExpiryReads, InArranging, InRestore, IsByNumbers, WalksTo, arranges_first, is_waiting}
 use Rattle.bd_store.specs.declared.fault.StoreFault.{StoreFault}
-use Rattle.bd_store.specs.declared.fault.StoreFault.TheVariants.{DiskFault, Damaged, OutOfMemory, Unbuilt}
+use Rattle.bd_store.specs.declared.fault.StoreFault.TheVariants.{DiskFault, Damaged, OutOfMemory, SourceFault}
 
 -- ---- what is seen of a command
 
@@ -47,16 +49,36 @@ pub record Scene : Type 0 where
   pub counts : Counts
   pub strays : ℕ
 
-abbrev pub scene : {D F : Type 0} → DiskGhosts D → FilesGhosts F → Shown → D → F → Scene
-scene d f store disk files = record {
+-- the files, as far as they are told, and their counts
+pub record Beside : Type 0 where
+  pub files : FileMap
+  pub unfinished : List (List ℕ)
+  pub source_faults : ℕ
+  pub target_faults : ℕ
+  pub strays : ℕ
+
+abbrev pub beside_of : {F : Type 0} → FilesGhosts F → F → Beside
+beside_of f files = record {
+  files = f.files files;
+  unfinished = f.unfinished files;
+  source_faults = f.source_faults files;
+  target_faults = f.target_faults files;
+  strays = f.strays files;
+}
+
+abbrev pub scene_beside : {D : Type 0} → DiskGhosts D → Beside → Shown → D → Scene
+scene_beside d beside store disk = record {
   store = store;
   disk_bytes = d.bytes disk;
   disk = d.history disk;
-  files = f.files files;
-  unfinished = f.unfinished files;
-  counts = counts (d.faults disk) (f.source_faults files) (f.target_faults files);
-  strays = f.strays files;
+  files = beside.files;
+  unfinished = beside.unfinished;
+  counts = counts (d.faults disk) beside.source_faults beside.target_faults;
+  strays = beside.strays;
 }
+
+abbrev pub scene : {D F : Type 0} → DiskGhosts D → FilesGhosts F → Shown → D → F → Scene
+scene d f store disk files = scene_beside d (beside_of f files) store disk
 
 -- a command, what was answered, and the scene before and after it
 pub record Attempt : Type 0 where
@@ -75,19 +97,52 @@ abbrev pub AnswersList : Found → Result Answer StoreFault → Type 0
 AnswersList found (Ok answer) = without_room answer ≡ Listed (record { items = lines_from (oldest_in found.catalogue) found.catalogue.versions; spare = 0 })
 AnswersList found (Err fault) = fault ≡ OutOfMemory
 
--- Which answers and faults a command may meet, and where. The other commands are still to come.
+-- Which answers and faults a command may meet, and where. A scrub isn't carried out.
 abbrev pub IsAnswerOf : Found → Command → Result Answer StoreFault → Type 0
 IsAnswerOf found (Backup name) result = AnswersByNumbers found result
 IsAnswerOf found (Restore v name) result = AnswersByVersion found v result
+IsAnswerOf found Expire result = AnswersExpiry found result
+IsAnswerOf found Reorganise result = AnswersArranging found result
 IsAnswerOf found Listing result = AnswersList found result
-IsAnswerOf found command result = result ≡ Err Unbuilt
+IsAnswerOf found Scrub result = ⊥
+
+-- a version more, of these bytes and chunks
+pub record GainsVersion (old new : Shown) (bytes chunks fresh : ℕ) : Type 0 where
+  pub base : new.found.catalogue.base ≡ old.found.catalogue.base
+  pub newest : new.found.catalogue.newest ≡ old.found.catalogue.newest + 1
+  pub extents : List ℕ
+  pub versions : new.found.catalogue.versions ≡ old.found.catalogue.versions ++ record { length = bytes; chunks = chunks; fresh = fresh; extents = extents } ∷ []
+
+-- The oldest version gone from a catalogue of the same versions, and so many extents with it. Where an expiry doesn't arrange,
+-- that catalogue is the one before.
+pub record LosesOldest (old new : Shown) (extents : ℕ) : Type 0 where
+  pub catalogue : Catalogue
+  pub base : catalogue.base ≡ old.found.catalogue.base
+  pub newest : catalogue.newest ≡ old.found.catalogue.newest
+  pub versions : catalogue.versions ≡ old.found.catalogue.versions
+  pub same : arranges_first old.found ≡ false → catalogue ≡ old.found.catalogue
+  pub gone : new.found.catalogue ≡ after_expire catalogue
+  pub freed : extents ≡ length (expired catalogue)
 
 -- the versions stay at every answer but that of a backup, of an expiry, and of a disk that failed
 abbrev pub KeepsVersions : Shown → Shown → Result Answer StoreFault → Type 0
-KeepsVersions old new (Ok (BackedUp version bytes chunks fresh need)) = Unit {0}
-KeepsVersions old new (Ok (Expired version extents)) = Unit {0}
+KeepsVersions old new (Ok (BackedUp version bytes chunks fresh need)) = GainsVersion old new bytes chunks fresh
+KeepsVersions old new (Ok (Expired version extents)) = LosesOldest old new extents
 KeepsVersions old new (Err DiskFault) = Unit {0}
 KeepsVersions old new result = SameVersions old new
+
+-- the answers that come only once the store is arranged
+abbrev pub SettlesBy : Shown → Result Answer StoreFault → Type 0
+SettlesBy new (Ok (Arranged owned free)) = new.found.catalogue.phase ≡ Settled
+SettlesBy new (Ok (FullExtents counted free held)) = new.found.catalogue.phase ≡ Settled
+SettlesBy new (Err SourceFault) = new.found.catalogue.phase ≡ Settled
+SettlesBy new result = Unit {0}
+
+-- figures that are answered are those of the store afterwards
+abbrev pub TellsFigures : Shown → Result Answer StoreFault → Type 0
+TellsFigures new (Ok (Arranged owned free)) = (owned ≡ length (all_extents new.found.catalogue)) × HasFree new free
+TellsFigures new (Ok (FullExtents counted free held)) = HasFree new free × (held ≡ new.held)
+TellsFigures new result = Unit {0}
 
 -- the store in memory goes on, unless the disk failed: it is worn then, and its disk is opened anew
 pub record KeepsStore (a : Attempt) : Type 0 where
@@ -95,20 +150,23 @@ pub record KeepsStore (a : Attempt) : Type 0 where
   pub sizes : a.after.store.worn ≡ false → a.after.store.found.sizes ≡ a.before.store.found.sizes
   pub held : a.after.store.held ≡ a.before.store.held
   pub versions : KeepsVersions a.before.store a.after.store a.result
+  pub settles : SettlesBy a.after.store a.result
+  pub figures : TellsFigures a.after.store a.result
 
 -- ---- where the disk tells
 
--- A place that a backup may write: before the end of the store, and neither in the superblock, nor in the newest half, nor in
--- an extent that an owner has.
-pub record IsUnnamed (found : Found) (place : ℕ) : Type 0 where
-  pub begins : 64 ≤ place
-  pub ends : place < disk_bytes found.sizes
-  pub half : ¬ InHalf found.sizes found.half.number place
-  pub owners : ¬ InExtents found.sizes (all_extents found.catalogue) place
+-- What is written, first beside what is found before; and, once an arranging is committed, beside what that made.
+pub record WritesBeside (found : Found) (old new : History) : Type 0 where
+  pub arranged : Found
+  pub middle : History
+  pub first : WritesOnly (IsBeside found) old middle
+  pub between : ((arranged ≡ found) × (middle ≡ old)) ⊎ ((is_waiting found ≡ true) × IsSettledFrom found arranged × Agrees arranged middle)
+  pub second : WritesOnly (IsBeside arranged) middle new
 
--- only a backup writes
 abbrev pub WritesByCommand : Found → Command → History → History → Type 0
-WritesByCommand found (Backup name) old new = WritesOnly (IsUnnamed found) old new
+WritesByCommand found (Backup name) old new = WritesBeside found old new
+WritesByCommand found Expire old new = WritesBeside found old new
+WritesByCommand found Reorganise old new = WritesOnly (IsBeside found) old new
 WritesByCommand found command old new = WritesNothing old new
 
 -- A restore that was answered reads its walk. One that is refused touches nothing.
@@ -121,17 +179,24 @@ RestoreReads a v (Err fault) = Unit {0}
 abbrev pub ReadsByCommand : Attempt → Command → Type 0
 ReadsByCommand a (Backup name) = BackupReads a.before.store.found a.before.disk a.after.disk a.result
 ReadsByCommand a (Restore v name) = RestoreReads a v a.result
+ReadsByCommand a Expire = ExpiryReads a.before.store.found a.after.store.found a.before.disk a.after.disk a.result
+ReadsByCommand a Reorganise = ArrangingReads a.before.store.found a.before.disk a.after.disk
 ReadsByCommand a command = TouchesNothing a.before.disk a.after.disk
 
--- whatever image it is, and at every answer: a backup reads the newest recipe, and a restore its recipe and the rows on its walk
+-- whatever image it is, and at every answer: a backup, an arranging and an expiry read the newest recipe and the open
+-- categories that are due, and a restore its recipe and the rows on its walk
 abbrev pub LooksByCommand : Attempt → Command → Type 0
-LooksByCommand a (Backup name) = LooksOnlyAt (InNewest a.before.store.found) a.before.disk a.after.disk
+LooksByCommand a (Backup name) = LooksOnlyAt (InArranging a.before.store.found) a.before.disk a.after.disk
+LooksByCommand a Expire = LooksOnlyAt (InArranging a.before.store.found) a.before.disk a.after.disk
+LooksByCommand a Reorganise = LooksOnlyAt (InArranging a.before.store.found) a.before.disk a.after.disk
 LooksByCommand a (Restore v name) = LooksOnlyAt (InRestore a.before.store.found v) a.before.disk a.after.disk
 LooksByCommand a command = Unit {0}
 
 -- A damage is one that the command looks for, its bytes were read, and they break its rule.
 abbrev pub DamageByCommand : Attempt → Command → Type 0
-DamageByCommand a (Backup name) = NamesNewest a.before.store.found a.before.disk a.after.disk a.result
+DamageByCommand a (Backup name) = NamesArranging a.before.store.found a.before.disk a.after.disk a.result
+DamageByCommand a Expire = NamesArranging a.before.store.found a.before.disk a.after.disk a.result
+DamageByCommand a Reorganise = NamesArranging a.before.store.found a.before.disk a.after.disk a.result
 DamageByCommand a (Restore v name) = NamesDamage a.before.store.found v a.before.disk a.after.disk a.result
 DamageByCommand a command = Unit {0}
 
@@ -145,13 +210,31 @@ abbrev pub EndsInDamage : Damage → Result Answer StoreFault → Type 0
 EndsInDamage damage (Err (Damaged found)) = found ≡ damage
 EndsInDamage damage (Err DiskFault) = Unit {0}
 EndsInDamage damage (Err OutOfMemory) = Unit {0}
-EndsInDamage damage (Err Unbuilt) = Unit {0}
 EndsInDamage damage result = IsByNumbers result
 
+-- and so does the newest one, where there is one
+abbrev pub NewestEnds : Attempt → Type 0
+NewestEnds a = (damage : Damage) → 1 ≤ retained_in a.before.store.found.catalogue → recipe_before a a.before.store.found.catalogue.newest ≡ Err damage → EndsInDamage damage a.result
+
+-- of a store that waits, an arranging reads the newest recipe, and an expiry that arranges first
 abbrev pub RecipeByCommand : Attempt → Command → Type 0
-RecipeByCommand a (Backup name) = (damage : Damage) → 1 ≤ retained_in a.before.store.found.catalogue → recipe_before a a.before.store.found.catalogue.newest ≡ Err damage → EndsInDamage damage a.result
+RecipeByCommand a (Backup name) = NewestEnds a
 RecipeByCommand a (Restore v name) = (damage : Damage) → recipe_before a v ≡ Err damage → EndsInDamage damage a.result
+RecipeByCommand a Expire = arranges_first a.before.store.found ≡ true → NewestEnds a
+RecipeByCommand a Reorganise = is_waiting a.before.store.found ≡ true → NewestEnds a
 RecipeByCommand a command = Unit {0}
+
+-- the headers of all open categories that were due hold, where they were arranged
+abbrev pub HeadersHold : Attempt → Type 0
+HeadersHold a = HasGoodDue a.before.store.found (contents a.before.disk)
+
+abbrev pub HeadersByAnswer : Attempt → Result Answer StoreFault → Type 0
+HeadersByAnswer a (Ok (BackedUp version bytes chunks fresh need)) = HeadersHold a
+HeadersByAnswer a (Ok (FullExtents counted free held)) = HeadersHold a
+HeadersByAnswer a (Ok (Arranged owned free)) = HeadersHold a
+HeadersByAnswer a (Ok (Expired version extents)) = arranges_first a.before.store.found ≡ true → HeadersHold a
+HeadersByAnswer a (Err SourceFault) = HeadersHold a
+HeadersByAnswer a result = Unit {0}
 
 -- over every image
 pub record MeetsOnDisk (a : Attempt) : Type 0 where
@@ -161,6 +244,7 @@ pub record MeetsOnDisk (a : Attempt) : Type 0 where
   pub looks : LooksByCommand a a.command
   pub damage : DamageByCommand a a.command
   pub recipe : RecipeByCommand a a.command
+  pub headers : HeadersByAnswer a a.result
 
 -- ---- where the files tell
 

@@ -7,7 +7,7 @@ use Rattle.bd_model.specs.declared.command.Command.{Command}
 use Rattle.bd_model.specs.declared.command.Command.TheVariants.{Backup}
 use Rattle.bd_files.specs.Files.{Lacks}
 use Rattle.bd_store.specs.declared.fault.StoreFault.{StoreFault}
-use Rattle.bd_store.specs.declared.fault.StoreFault.TheVariants.{SourceFault, TargetFault, DiskFault, Damaged, OutOfMemory, Unbuilt}
+use Rattle.bd_store.specs.declared.fault.StoreFault.TheVariants.{SourceFault, TargetFault, DiskFault, Damaged, OutOfMemory}
 
 -- the counts of faults of a disk, of sources and of targets
 pub record Counts : Type 0 where
@@ -30,7 +30,6 @@ HasRisen TargetFault before now = Rose before.targets now.targets × (now.disk �
 HasRisen DiskFault before now = Rose before.disk now.disk × (now.sources ≡ before.sources) × (now.targets ≡ before.targets)
 HasRisen (Damaged damage) before now = now ≡ before
 HasRisen OutOfMemory before now = now ≡ before
-HasRisen Unbuilt before now = now ≡ before
 
 abbrev pub ByCount : Result Answer StoreFault → Counts → Counts → Type 0
 ByCount (Ok answer) before now = now ≡ before

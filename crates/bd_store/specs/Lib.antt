@@ -4,6 +4,7 @@ pub mod Kept
 pub mod Naming
 pub mod Newest
 pub mod Openings
+pub mod Readying
 pub mod Shown
 pub mod Steps
 pub mod Stops

@@ -1,6 +1,6 @@
 -- What the faults of the crates below are answered with, what is said of a named damage, and what holds but where the disk
 -- failed.
-use Rattle.std.specs.Prelude.{◌≡◌, ℕ, List, [], Result, Ok, Err}
+use Rattle.std.specs.Prelude.{◌≡◌, ◌⊎◌, ℕ, List, [], Result, Ok, Err}
 use Rattle.bd_disk.specs.History.{History, contents}
 use Rattle.bd_catalog.specs.Damages.{IsOfVersion, IsSeen}
 use Rattle.bd_catalog.specs.Opening.{Found}
@@ -9,6 +9,7 @@ use Rattle.bd_catalog.specs.Sound.{recipe_of}
 use Rattle.bd_recipe.specs.Reading.{recipe_found}
 use Rattle.bd_recipe.specs.declared.fault.ReadFault.{ReadFault}
 use Rattle.bd_recipe.specs.declared.fault.ReadFault.TheVariants.{DiskFault as ReadDisk, Damaged as ReadDamaged, OutOfMemory as ReadMemory}
+use Rattle.bd_arrange.specs.Arranged.{IsDamageOfDue}
 use Rattle.bd_restore.specs.Met.{ComesTo, IsNeeded}
 use Rattle.bd_restore.specs.Walk.{Sought}
 use Rattle.bd_restore.specs.declared.fault.RestoreFault.{RestoreFault}
@@ -62,12 +63,13 @@ abbrev pub NamesDamage : Found → ℕ → History → History → Result Answer
 NamesDamage found v old new (Err (DamageFound damage)) = IsDamageOf found v damage old new
 NamesDamage found v old new result = Unit {0}
 
--- the damage is one of the newest recipe, which a backup reads: an entry or its sum; the bytes that it names were read
--- between these moments, and break its rule
+-- the damage is one of the newest recipe: an entry or its sum; the bytes that it names were read between these moments, and
+-- break its rule
 pub record IsDamageOfNewest (found : Found) (damage : Damage) (old new : History) : Type 0 where
   pub part : recipe_found found.sizes found.catalogue (contents old) found.catalogue.newest ≡ Err damage
   pub seen : IsSeen found.sizes found.catalogue (contents old) [] damage old new
 
-abbrev pub NamesNewest : Found → History → History → Result Answer StoreFault → Type 0
-NamesNewest found old new (Err (DamageFound damage)) = IsDamageOfNewest found damage old new
-NamesNewest found old new result = Unit {0}
+-- what a command that arranges names is of the newest recipe, or of an open category that was due
+abbrev pub NamesArranging : Found → History → History → Result Answer StoreFault → Type 0
+NamesArranging found old new (Err (DamageFound damage)) = IsDamageOfNewest found damage old new ⊎ IsDamageOfDue found damage old new
+NamesArranging found old new result = Unit {0}

@@ -1,4 +1,4 @@
--- The recipe of the newest version, which a backup reads.
+-- The recipe of the newest version, which a backup and arranging read.
 use Rattle.std.specs.Prelude.{◌≡◌, ◌≤◌, ◌==◌, ℕ, List, [], Result, Ok, Err, if◌then◌else◌}
 use Rattle.bd_model.specs.declared.layout.RecipeEntry.{RecipeEntry}
 use Rattle.bd_catalog.specs.Catalogue.{retained_in}

@@ -16,7 +16,7 @@ use Rattle.bd_model.specs.Step.{Outcome, step, phase_after, without_room}
 use Rattle.bd_files.specs.Files.{ChangesOnly}
 use Rattle.bd_catalog.specs.Standing.{StandsFor, Stands}
 use Rattle.bd_store.specs.declared.fault.StoreFault.{StoreFault}
-use Rattle.bd_store.specs.declared.fault.StoreFault.TheVariants.{SourceFault, TargetFault, DiskFault, Damaged, OutOfMemory, Unbuilt}
+use Rattle.bd_store.specs.declared.fault.StoreFault.TheVariants.{SourceFault, TargetFault, DiskFault, Damaged, OutOfMemory}
 
 -- a command, from a state and files, with the extents that are held
 pub record Task : Type 0 where
@@ -64,12 +64,7 @@ pub record Kept (t : Task) (image : List ℕ) (files : FileMap) : Type 0 where
   pub stands : Stands t.shape t.held t.state image
   pub beside : KeepsFiles t.command t.files files
 
--- the same, and no file changed
-pub record KeptWhole (t : Task) (image : List ℕ) (files : FileMap) : Type 0 where
-  pub stands : Stands t.shape t.held t.state image
-  pub beside : files ≡ t.files
-
--- the same, and the store is arranged
+-- the contents stand for the state as before, arranged, and no file changed
 pub record KeptArranged (t : Task) (image : List ℕ) (files : FileMap) : Type 0 where
   pub stands : StandsFor t.shape t.state Settled t.held image
   pub beside : files ≡ t.files
@@ -90,7 +85,6 @@ MakesStep t phase image files (Ok answer) = Answered t phase answer image files
 MakesStep t phase image files (Err SourceFault) = KeptArranged t image files
 MakesStep t phase image files (Err TargetFault) = Kept t image files
 MakesStep t phase image files (Err OutOfMemory) = Kept t image files
-MakesStep t phase image files (Err Unbuilt) = KeptWhole t image files
 MakesStep t phase image files (Err DiskFault) = KeptOrMade t image files
 MakesStep t phase image files (Err (Damaged damage)) = ⊥
 

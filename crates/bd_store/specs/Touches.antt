@@ -1,24 +1,28 @@
 -- Which places of the disk a command reads, and which answers touch nothing.
-use Rattle.std.specs.Prelude.{◌≡◌, ◌⊎◌, ℕ, ◌<◌, ◌||◌, ◌==◌, ◌&&◌, Bool, true, false, not, nat_le, nat_lt, Some, Result, Ok, Err}
+use Rattle.std.specs.Prelude.{◌≡◌, ◌⊎◌, ℕ, ◌+◌, ◌<◌, ◌≤◌, ◌||◌, ◌==◌, ◌&&◌, Bool, true, false, List, [], nat_le, Some, None, Result, Ok, Err}
 use Rattle.bd_disk.specs.History.{History, contents}
 use Rattle.bd_disk.specs.Made.{TouchesNothing}
 use Rattle.bd_disk.specs.Trace.{ReadsOnly}
 use Rattle.bd_model.specs.Marks.{Near}
 use Rattle.bd_model.specs.State.{VersionState, history, last_number}
 use Rattle.bd_model.specs.declared.layout.Phase.{Phase}
+use Rattle.bd_model.specs.declared.layout.Phase.TheVariants.{Settled, Waiting}
 use Rattle.bd_model.specs.declared.shape.Shape.{Shape}
 use Rattle.bd_model.specs.declared.answer.Answer.{Answer}
-use Rattle.bd_model.specs.declared.answer.Answer.TheVariants.{BackedUp, FullExtents, FullNumbers, FullVersions, NoVersion, NothingRetained, Restored}
+use Rattle.bd_model.specs.declared.answer.Answer.TheVariants.{Arranged, BackedUp, Expired, FullExtents, FullNumbers, FullVersions, NoVersion, NothingRetained, Restored}
 use Rattle.bd_catalog.specs.Catalogue.{oldest_in, retained_in}
 use Rattle.bd_catalog.specs.Opening.{Found}
 use Rattle.bd_catalog.specs.Rows.{walk}
+use Rattle.bd_catalog.specs.Splitting.{after_expire}
 use Rattle.bd_catalog.specs.Standing.{StandsFor}
+use Rattle.bd_catalog.specs.Steps.{IsMade}
 use Rattle.bd_catalog.specs.Walks.{restore_reads, IsLean}
 use Rattle.bd_recipe.specs.Reading.{length_in, InRecipe}
+use Rattle.bd_arrange.specs.Arranged.{InDue}
 use Rattle.bd_restore.specs.Walk.{InRows}
 use Rattle.bd_store.specs.Newest.{newest_places}
 use Rattle.bd_store.specs.declared.fault.StoreFault.{StoreFault}
-use Rattle.bd_store.specs.declared.fault.StoreFault.TheVariants.{SourceFault, Unbuilt, TargetFault}
+use Rattle.bd_store.specs.declared.fault.StoreFault.TheVariants.{Damaged, DiskFault, SourceFault, TargetFault}
 
 abbrev pub numbers_used_up : Found → Bool
 numbers_used_up found = found.catalogue.newest == last_number
@@ -26,21 +30,51 @@ numbers_used_up found = found.catalogue.newest == last_number
 abbrev pub versions_used_up : Found → Bool
 versions_used_up found = retained_in found.catalogue == found.sizes.retain
 
--- a backup of a third version is still to come
-abbrev pub is_unbuilt : Found → Bool
-is_unbuilt found = not (numbers_used_up found || versions_used_up found) && nat_lt 1 (retained_in found.catalogue)
+abbrev pub is_full : Found → Bool
+is_full found = numbers_used_up found || versions_used_up found
 
--- Where numbers or versions are used up, or the backup is still to come, exactly that is answered; else it is named, lacks
--- extents, or meets a fault. It has no target that could fail.
+-- Where numbers or versions are used up, exactly that is answered; else the version is named by the next number, lacks
+-- extents, or meets a fault. Damage is met only where there is a version before it. It has no target that could fail.
 abbrev pub AnswersByNumbers : Found → Result Answer StoreFault → Type 0
 AnswersByNumbers found (Ok FullNumbers) = numbers_used_up found ≡ true
 AnswersByNumbers found (Ok (FullVersions retained)) = (numbers_used_up found ≡ false) × (versions_used_up found ≡ true) × (retained ≡ found.sizes.retain)
-AnswersByNumbers found (Ok (BackedUp version bytes chunks fresh need)) = (numbers_used_up found || versions_used_up found ≡ false) × (is_unbuilt found ≡ false)
-AnswersByNumbers found (Ok (FullExtents counted free held)) = (numbers_used_up found || versions_used_up found ≡ false) × (is_unbuilt found ≡ false)
+AnswersByNumbers found (Ok (BackedUp version bytes chunks fresh need)) = (is_full found ≡ false) × (version ≡ found.catalogue.newest + 1)
+AnswersByNumbers found (Ok (FullExtents counted free held)) = is_full found ≡ false
 AnswersByNumbers found (Ok answer) = ⊥
-AnswersByNumbers found (Err Unbuilt) = is_unbuilt found ≡ true
 AnswersByNumbers found (Err TargetFault) = ⊥
-AnswersByNumbers found (Err fault) = (numbers_used_up found || versions_used_up found ≡ false) × (is_unbuilt found ≡ false)
+AnswersByNumbers found (Err (Damaged damage)) = (is_full found ≡ false) × (1 ≤ retained_in found.catalogue)
+AnswersByNumbers found (Err fault) = is_full found ≡ false
+
+-- whether a store waits to be arranged
+abbrev pub waits : Phase → Bool
+waits Settled = false
+waits (Waiting cursor) = true
+
+abbrev pub is_waiting : Found → Bool
+is_waiting found = waits found.catalogue.phase
+
+-- An arranging is answered with its figures, and meets a fault only where the store waits. It has no source and no target.
+abbrev pub AnswersArranging : Found → Result Answer StoreFault → Type 0
+AnswersArranging found (Ok (Arranged owned free)) = Unit {0}
+AnswersArranging found (Ok answer) = ⊥
+AnswersArranging found (Err SourceFault) = ⊥
+AnswersArranging found (Err TargetFault) = ⊥
+AnswersArranging found (Err fault) = is_waiting found ≡ true
+
+-- whether an expiry arranges first: the store waits with exactly two versions
+abbrev pub arranges_first : Found → Bool
+arranges_first found = is_waiting found && (retained_in found.catalogue == 2)
+
+-- Where nothing is retained, exactly that is answered; else the oldest version goes. Damage and want of memory are met only
+-- where it arranges first.
+abbrev pub AnswersExpiry : Found → Result Answer StoreFault → Type 0
+AnswersExpiry found (Ok (NothingRetained asked)) = (retained_in found.catalogue ≡ 0) × (asked ≡ None)
+AnswersExpiry found (Ok (Expired version extents)) = (1 ≤ retained_in found.catalogue) × (version ≡ oldest_in found.catalogue)
+AnswersExpiry found (Ok answer) = ⊥
+AnswersExpiry found (Err SourceFault) = ⊥
+AnswersExpiry found (Err TargetFault) = ⊥
+AnswersExpiry found (Err DiskFault) = 1 ≤ retained_in found.catalogue
+AnswersExpiry found (Err fault) = arranges_first found ≡ true
 
 -- whether the version of this number is retained
 abbrev pub is_retained : Found → ℕ → Bool
@@ -53,7 +87,6 @@ AnswersByVersion found v (Ok (NothingRetained asked)) = (retained_in found.catal
 AnswersByVersion found v (Ok (NoVersion asked oldest newest)) = (0 < retained_in found.catalogue) × (is_retained found v ≡ false) × (asked ≡ v) × (oldest ≡ oldest_in found.catalogue) × (newest ≡ found.catalogue.newest)
 AnswersByVersion found v (Ok (Restored given bytes)) = (0 < retained_in found.catalogue) × (is_retained found v ≡ true) × (given ≡ v) × (bytes ≡ length_in found.catalogue v)
 AnswersByVersion found v (Ok answer) = ⊥
-AnswersByVersion found v (Err Unbuilt) = ⊥
 AnswersByVersion found v (Err SourceFault) = ⊥
 AnswersByVersion found v (Err fault) = is_retained found v ≡ true
 
@@ -78,11 +111,29 @@ pub record InNewest (found : Found) (place : ℕ) : Type 0 where
 pub record InRestore (found : Found) (v place : ℕ) : Type 0 where
   pub so : InRecipe found.sizes found.catalogue v place ⊎ InRows found.sizes (walk found.catalogue v) place
 
--- A backup reads the newest recipe, and one that is refused for a number touches nothing.
+-- a place of the newest recipe, or of an open category that is due
+pub record InArranging (found : Found) (place : ℕ) : Type 0 where
+  pub so : InNewest found place ⊎ InDue found place
+
+-- A backup of a settled store reads the newest recipe and nothing else. One that is refused for a number touches nothing.
 abbrev pub BackupReads : Found → History → History → Result Answer StoreFault → Type 0
 BackupReads found old new (Ok FullNumbers) = TouchesNothing old new
 BackupReads found old new (Ok (FullVersions retained)) = TouchesNothing old new
-BackupReads found old new (Ok answer) = ReadsOnly (newest_places found) old new
-BackupReads found old new (Err Unbuilt) = TouchesNothing old new
-BackupReads found old new (Err SourceFault) = ReadsOnly (newest_places found) old new
+BackupReads found old new (Ok answer) = found.catalogue.phase ≡ Settled → ReadsOnly (newest_places found) old new
+BackupReads found old new (Err SourceFault) = found.catalogue.phase ≡ Settled → ReadsOnly (newest_places found) old new
 BackupReads found old new (Err fault) = Unit {0}
+
+-- An arranging of a settled store touches nothing.
+abbrev pub ArrangingReads : Found → History → History → Type 0
+ArrangingReads found old new = found.catalogue.phase ≡ Settled → TouchesNothing old new
+
+-- an expiry that doesn't arrange makes the calls of one commit, of the catalogue without the oldest version
+pub record IsLeanExpiry (found after : Found) (old new : History) : Type 0 where
+  pub catalogue : after.catalogue ≡ after_expire found.catalogue
+  pub made : IsMade found after old new
+
+-- It reads nothing, at any answer; where nothing is retained it touches nothing.
+abbrev pub ExpiryReads : Found → Found → History → History → Result Answer StoreFault → Type 0
+ExpiryReads found after old new (Ok (NothingRetained asked)) = TouchesNothing old new
+ExpiryReads found after old new (Ok answer) = arranges_first found ≡ false → IsLeanExpiry found after old new × ReadsOnly [] old new
+ExpiryReads found after old new (Err fault) = arranges_first found ≡ false → ReadsOnly [] old new

@@ -24,9 +24,6 @@ pub enum StoreFault {
     Damaged { damage: Damage },
     #[error("out of memory")]
     OutOfMemory,
-    /// This form of the command is still to come. Nothing is changed.
-    #[error("this form of the command is still to come")]
-    Unbuilt,
 }
 
 /// Whether a command met a fault of the disk.

@@ -2,6 +2,7 @@
 #![tactic(auto)]
 
 mod fault;
+mod figures;
 mod listing;
 mod naming;
 mod newest;
@@ -9,4 +10,5 @@ mod store;
 
 pub use bd_recover::{FormatFault, OpenFault};
 pub use fault::StoreFault;
+pub use figures::Figures;
 pub use store::Store;

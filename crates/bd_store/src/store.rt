@@ -1,5 +1,5 @@
 //! A store, and the commands on it.
-ghost use Rattle.std.specs.Prelude.{◌≡◌, ◌↔◌, ◌≤◌, ◌<◌, true, false, IfOk, OnOk, IfErr, Ok, Err};
+ghost use Rattle.std.specs.Prelude.{◌≡◌, ◌≢◌, ◌↔◌, ◌≤◌, ◌<◌, true, false, IfOk, OnOk, IfErr, Ok, Err};
 ghost use Rattle.std.specs.FinMap as map;
 ghost use Rattle.bd_disk.specs.Calls.{FailsByCount, Rose};
 ghost use Rattle.bd_disk.specs.History.{contents};
@@ -11,7 +11,7 @@ ghost use Rattle.bd_model.specs.Sizes.{sizes_of, disk_bytes, extent_place};
 ghost use Rattle.bd_model.specs.State.{empty, last_number};
 ghost use Rattle.bd_model.specs.Step.{without_room};
 ghost use Rattle.bd_model.specs.declared.layout.Phase.TheVariants.{Settled};
-ghost use Rattle.bd_model.specs.declared.command.Command.TheVariants.{Backup, Restore};
+ghost use Rattle.bd_model.specs.declared.command.Command.TheVariants.{Backup, Expire, Reorganise, Restore, Scrub};
 ghost use Rattle.bd_model.specs.declared.answer.Answer.TheVariants.{Listed};
 ghost use Rattle.bd_gate.specs.Halves.{BeforeExtents};
 ghost use Rattle.bd_gate.specs.Superblock.{is_marked, sizes_at};
@@ -23,25 +23,30 @@ ghost use Rattle.bd_catalog.specs.Standing.{StandsFor, lines_from};
 ghost use Rattle.bd_files.specs.Files.{ChangesOnly, IsFinished};
 ghost use Rattle.bd_recover.specs.Answers.{is_disk_fault as is_format_disk_fault, IsFormatAnswer};
 ghost use Rattle.bd_recover.specs.Opens.{is_disk_fault as is_open_disk_fault, Rests};
-ghost use Rattle.bd_restore.specs.Target.{held, HasChunks};
-ghost use Rattle.bd_store.specs.Attempts.{Meets, attempt, scene};
+ghost use Rattle.bd_recipe.specs.Reading.{is_disk_fault as is_read_disk_fault};
+ghost use Rattle.bd_volume.specs.Named.{IsBeside};
+ghost use Rattle.bd_store.specs.Attempts.{Beside, Meets, attempt, scene, scene_beside};
 ghost use Rattle.bd_store.specs.Causes.{counts, FailsOnlyByCount, StraysOnlyBy};
 ghost use Rattle.bd_store.specs.Naming.{NamesDamage};
 ghost use Rattle.bd_store.specs.Openings.{AnswersOpening, IsNewStore, MakingStops};
-ghost use Rattle.bd_store.specs.Shown.{SameVersions};
+ghost use Rattle.bd_store.specs.Readying.{Readies, ReadiesOn};
+ghost use Rattle.bd_store.specs.Shown.{AreFiguresOf, HasFigures};
 ghost use Rattle.bd_store.specs.Steps.{IsOneStep};
-ghost use Rattle.bd_store.specs.Stops.{IsSafeAtStops};
+ghost use Rattle.bd_store.specs.Touches.{InArranging};
 
 use crate::fault::{StoreFault, fault_of_reading, fault_of_restore, is_disk_fault, refusal_of};
+use crate::figures::Figures;
 use crate::listing::lines_of;
 use crate::naming::name_version;
 use crate::newest::newest_recipe;
+use bd_arrange::arrange;
 use bd_catalog::Catalog;
 use bd_disk::Disk;
 use bd_files::Files;
 use bd_gear::Gear;
 use bd_intake::intake;
-use bd_model::{Answer, Command, Name, Shape};
+use bd_model::{Answer, Command, Name, Phase, Shape};
+use bd_recipe::{Neighbour, ReadFault};
 use bd_recover::{FormatFault, OpenFault, Opened, format, open_image};
 use bd_restore::{plan_for, run_plan};
 use bd_space::Space;
@@ -108,8 +113,35 @@ impl Store {
         })
     }
 
+    // Reads the newest recipe, and arranges the store where it waits.
+    fn ready<D: Disk>(&mut self, disk: &mut D) -> Result<Neighbour, ReadFault>
+        requires room { disk_bytes self.old.found.sizes ≤ D.bytes disk.old }
+        requires agrees { D.tells → Agrees self.old.found (D.history disk.old) }
+        requires sound { self.old.worn ≡ false }
+        ensures disk { Works D.Disk (InArranging self.old.found) (IsBeside self.old.found) disk.old disk.new }
+        ensures cause { FailsByCount is_read_disk_fault (D.faults disk.old) (D.faults disk.new) result }
+        ensures worn { (self.new.worn ≡ true) ↔ (result ≡ Err ReadFault.DiskFault) }
+        ensures held { self.new.held ≡ self.old.held }
+        ensures store { Readies self.old self.new result }
+        ensures told { D.tells → ReadiesOn self.old.held self.old.found self.new.found (D.history disk.old) (D.history disk.new) result }
+    {
+        let read = newest_recipe(self.alloc, disk, &self.catalog).and_then(|neighbour| {
+            arrange(
+                self.alloc,
+                disk,
+                &mut self.catalog,
+                &mut self.space,
+                &neighbour,
+            )?;
+            Ok(neighbour)
+        });
+        self.worn = matches!(read, Err(ReadFault::DiskFault));
+        read
+    }
+
     /// Stores the named source as the next version. The newest recipe is read before it, and one that doesn't hold is
-    /// answered as its damage. Where more than one version is retained this is still to come.
+    /// answered as its damage; a store that waits is arranged then. Where a version can't be numbered or retained nothing is
+    /// touched.
     pub fn backup<D: Disk, F: Files>(
         &mut self,
         disk: &mut D,
@@ -129,13 +161,10 @@ impl Store {
         if retained == shape.retain() {
             return Ok(Answer::FullVersions { retained });
         }
-        if retained > 1 {
-            return Err(StoreFault::Unbuilt);
-        }
         self.back_up(disk, files, name)
     }
 
-    // Stores the named source as the next version of a settled store.
+    // Stores the named source as the next version, where there may be one.
     fn back_up<D: Disk, F: Files>(
         &mut self,
         disk: &mut D,
@@ -143,46 +172,71 @@ impl Store {
         name: &Name,
     ) -> Result<Answer, StoreFault>
         requires number { self.old.found.catalogue.newest < last_number }
-        requires few { retained_in self.old.found.catalogue ≤ 1 }
-        requires settled { self.old.found.catalogue.phase ≡ Settled }
         requires limit { retained_in self.old.found.catalogue < self.old.found.sizes.retain }
         requires room { disk_bytes self.old.found.sizes ≤ D.bytes disk.old }
         requires agrees { D.tells → Agrees self.old.found (D.history disk.old) }
         requires sound { self.old.worn ≡ false }
         ensures meets { Meets D.tells F.tells (attempt (Backup name.now) result (scene D.Disk F.Files self.old disk.old files.old) (scene D.Disk F.Files self.new disk.new files.new)) }
     {
-        if self.catalog.reserve().is_err() {
-            return Err(StoreFault::OutOfMemory);
+        match self.ready(disk) {
+            Ok(neighbour) => self.take_in(disk, files, name, &neighbour),
+            Err(fault) => Err(fault_of_reading(fault)),
         }
-        let neighbour = match newest_recipe(self.alloc, disk, &self.catalog) {
-            Ok(neighbour) => neighbour,
-            Err(fault) => {
-                let unread = Err(fault_of_reading(fault));
-                self.worn = is_disk_fault(&unread);
-                return unread;
+    }
+
+    /// Arranges the store, where it waits, and answers its figures. A settled store is left as it is.
+    pub fn reorganise<D: Disk>(&mut self, disk: &mut D) -> Result<Answer, StoreFault>
+        requires room { disk_bytes self.old.found.sizes ≤ D.bytes disk.old }
+        requires agrees { D.tells → Agrees self.old.found (D.history disk.old) }
+        requires sound { self.old.worn ≡ false }
+        ensures meets { (beside : Beside) → Meets D.tells (Unit {0}) (attempt Reorganise result (scene_beside D.Disk beside self.old disk.old) (scene_beside D.Disk beside self.new disk.new)) }
+    {
+        if self.catalog.phase() != Phase::Settled {
+            if let Err(fault) = self.ready(disk) {
+                return Err(fault_of_reading(fault));
             }
+        }
+        let Figures { owned, free, .. } = self.figures();
+        Ok(Answer::Arranged { owned, free })
+    }
+
+    /// Gives up the oldest version. It reads nothing and takes no memory, but where the store waits with exactly two versions:
+    /// it is arranged first then.
+    pub fn expire<D: Disk>(&mut self, disk: &mut D) -> Result<Answer, StoreFault>
+        requires room { disk_bytes self.old.found.sizes ≤ D.bytes disk.old }
+        requires agrees { D.tells → Agrees self.old.found (D.history disk.old) }
+        requires sound { self.old.worn ≡ false }
+        ensures meets { (beside : Beside) → Meets D.tells (Unit {0}) (attempt Expire result (scene_beside D.Disk beside self.old disk.old) (scene_beside D.Disk beside self.new disk.new)) }
+    {
+        let retained = self.catalog.retained();
+        if retained == 0 {
+            return Ok(Answer::NothingRetained { asked: None });
+        }
+        if retained == 2 && self.catalog.phase() != Phase::Settled {
+            if let Err(fault) = self.ready(disk) {
+                return Err(fault_of_reading(fault));
+            }
+        }
+        self.give_up_oldest(disk)
+    }
+
+    /// The extents by their use, and how far the store is arranged. It takes no memory.
+    pub fn figures(&self) -> Figures
+        requires sound { self.now.worn ≡ false }
+        ensures figures { HasFigures self.now result }
+        ensures state { AreFiguresOf self.now result }
+    {
+        let free = u64::from(self.space.free());
+        let held = u64::from(self.space.held());
+        let waiting = match self.catalog.phase() {
+            Phase::Settled => None,
+            Phase::Waiting { cursor } => Some(cursor),
         };
-        let gear = Gear::new();
-        match intake(
-            self.alloc,
-            disk,
-            &self.catalog,
-            &mut self.space,
-            &gear,
-            &neighbour,
-            files,
-            name,
-        ) {
-            Ok(staged) => {
-                let named = name_version(disk, &mut self.catalog, &mut self.space, staged);
-                self.worn = is_disk_fault(&named);
-                named
-            }
-            Err(fault) => {
-                let refused = refusal_of(fault);
-                self.worn = is_disk_fault(&refused);
-                refused
-            }
+        Figures {
+            owned: u64::from(self.catalog.shape().extents()) - free - held,
+            free,
+            held,
+            waiting,
         }
     }
 
@@ -260,7 +314,7 @@ impl Store {
         Ok(Answer::Listed { lines })
     }
 
-    /// Carries a command out. An expiry, an arranging and a scrub are still to come: they answer `Unbuilt` and touch nothing.
+    /// Carries a command out. A scrub isn't one of them yet.
     pub fn carry_out<D: Disk, F: Files>(
         &mut self,
         disk: &mut D,
@@ -270,6 +324,7 @@ impl Store {
         requires room { disk_bytes self.old.found.sizes ≤ D.bytes disk.old }
         requires agrees { D.tells → Agrees self.old.found (D.history disk.old) }
         requires sound { self.old.worn ≡ false }
+        requires built { command.now ≢ Scrub }
         ensures meets { Meets D.tells F.tells (attempt command.now result (scene D.Disk F.Files self.old disk.old files.old) (scene D.Disk F.Files self.new disk.new files.new)) }
     {
         match command {
@@ -279,7 +334,9 @@ impl Store {
                 Ok(answer) => Ok(answer),
                 Err(OutOfMemory) => Err(StoreFault::OutOfMemory),
             },
-            Command::Expire | Command::Reorganise | Command::Scrub => Err(StoreFault::Unbuilt),
+            Command::Expire => self.expire(disk),
+            Command::Reorganise => self.reorganise(disk),
+            Command::Scrub => unreachable!(),
         }
     }
 

@@ -7,9 +7,9 @@ ghost use Rattle.bd_model.specs.Sizes.{disk_bytes};
 ghost use Rattle.bd_model.specs.declared.layout.Phase.TheVariants.{Settled};
 ghost use Rattle.bd_space.specs.Allotment.{extent_count, held_count};
 ghost use Rattle.bd_catalog.specs.Agreement.{Agrees};
-ghost use Rattle.bd_recipe.specs.Reading.{IfDamaged, is_disk_fault, recipe_found};
+ghost use Rattle.bd_recipe.specs.Reading.{is_disk_fault, recipe_found};
 ghost use Rattle.bd_volume.specs.Named.{IsBeside};
-ghost use Rattle.bd_arrange.specs.Arranged.{ButDiskFault, InDue, IsAllotted, KeepsStates, LeavesFound, IsDamageOfDue};
+ghost use Rattle.bd_arrange.specs.Arranged.{AnswersDue, ButDiskFault, InDue, IsAllotted, KeepsStates, LeavesFound};
 
 use bd_catalog::Catalog;
 use bd_disk::Disk;
@@ -41,7 +41,7 @@ pub fn arrange<D: Disk>(
     ensures found { LeavesFound catalog.old.found catalog.new.found result }
     ensures space { (extent_count space.new ≡ extent_count space.old) × (held_count space.new ≡ held_count space.old) × ButDiskFault result (IsAllotted catalog.new.found space.new) }
     ensures agrees { D.tells → ButDiskFault result (Agrees catalog.new.found (D.history disk.new)) }
-    ensures damage { IfDamaged result (λ damage. D.tells → IsDamageOfDue catalog.old.found damage (D.history disk.old) (D.history disk.new)) }
+    ensures answer { D.tells → AnswersDue catalog.old.found (D.history disk.old) (D.history disk.new) result }
     ensures states { D.tells → KeepsStates (held_count space.old) (D.history disk.old) (D.history disk.new) result }
 {
     Err(ReadFault::OutOfMemory)
