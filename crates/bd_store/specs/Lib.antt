@@ -1,5 +1,6 @@
 pub mod Attempts
 pub mod Causes
+pub mod Following
 pub mod Kept
 pub mod Naming
 pub mod Newest

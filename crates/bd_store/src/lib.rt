@@ -1,6 +1,8 @@
 //! A store of versions on a disk: one command on it is one step of the version machine.
 #![tactic(auto)]
 
+mod backing;
+mod expiring;
 mod fault;
 mod figures;
 mod listing;

@@ -1,52 +1,31 @@
 //! A store, and the commands on it.
-ghost use Rattle.std.specs.Prelude.{◌≡◌, ◌≢◌, ◌↔◌, ◌≤◌, ◌<◌, true, false, IfOk, OnOk, IfErr, Ok, Err};
-ghost use Rattle.std.specs.FinMap as map;
-ghost use Rattle.bd_disk.specs.Calls.{FailsByCount, Rose};
+ghost use Rattle.std.specs.Prelude.{◌≡◌, ◌≢◌, ◌≤◌, false, IfOk, Err};
+ghost use Rattle.bd_disk.specs.Calls.{FailsByCount};
 ghost use Rattle.bd_disk.specs.History.{contents};
 ghost use Rattle.bd_disk.specs.Images.{InRange};
-ghost use Rattle.bd_disk.specs.Looks.{LooksOnlyAt};
-ghost use Rattle.bd_disk.specs.Made.{IsSettled, LeavesSince, TouchesNothing, WritesNothing, WritesOnly};
+ghost use Rattle.bd_disk.specs.Made.{TouchesNothing};
 ghost use Rattle.bd_disk.specs.Runs.{Reads, Works};
-ghost use Rattle.bd_model.specs.Sizes.{sizes_of, disk_bytes, extent_place};
-ghost use Rattle.bd_model.specs.State.{empty, last_number};
+ghost use Rattle.bd_model.specs.Sizes.{sizes_of, disk_bytes};
 ghost use Rattle.bd_model.specs.Step.{without_room};
-ghost use Rattle.bd_model.specs.declared.layout.Phase.TheVariants.{Settled};
-ghost use Rattle.bd_model.specs.declared.command.Command.TheVariants.{Backup, Expire, Reorganise, Restore, Scrub};
 ghost use Rattle.bd_model.specs.declared.answer.Answer.TheVariants.{Listed};
+ghost use Rattle.bd_model.specs.declared.command.Command.TheVariants.{Restore, Scrub};
 ghost use Rattle.bd_gate.specs.Halves.{BeforeExtents};
-ghost use Rattle.bd_gate.specs.Superblock.{is_marked, sizes_at};
+ghost use Rattle.bd_gate.specs.Superblock.{sizes_at};
 ghost use Rattle.bd_catalog.specs.Agreement.{Agrees};
-ghost use Rattle.bd_catalog.specs.Catalogue.{oldest_in, retained_in};
+ghost use Rattle.bd_catalog.specs.Catalogue.{oldest_in};
 ghost use Rattle.bd_catalog.specs.Opening.{opened};
-ghost use Rattle.bd_catalog.specs.Sound.{content, recipe_of};
-ghost use Rattle.bd_catalog.specs.Standing.{StandsFor, lines_from};
-ghost use Rattle.bd_files.specs.Files.{ChangesOnly, IsFinished};
+ghost use Rattle.bd_catalog.specs.Standing.{lines_from};
 ghost use Rattle.bd_recover.specs.Answers.{is_disk_fault as is_format_disk_fault, IsFormatAnswer};
 ghost use Rattle.bd_recover.specs.Opens.{is_disk_fault as is_open_disk_fault, Rests};
-ghost use Rattle.bd_recipe.specs.Reading.{is_disk_fault as is_read_disk_fault};
-ghost use Rattle.bd_volume.specs.Named.{IsBeside};
-ghost use Rattle.bd_store.specs.Attempts.{Beside, Meets, attempt, scene, scene_beside};
-ghost use Rattle.bd_store.specs.Causes.{counts, FailsOnlyByCount, StraysOnlyBy};
-ghost use Rattle.bd_store.specs.Naming.{NamesDamage};
+ghost use Rattle.bd_store.specs.Attempts.{Meets, attempt, scene};
 ghost use Rattle.bd_store.specs.Openings.{AnswersOpening, IsNewStore, MakingStops};
-ghost use Rattle.bd_store.specs.Readying.{Readies, ReadiesOn};
-ghost use Rattle.bd_store.specs.Shown.{AreFiguresOf, HasFigures};
-ghost use Rattle.bd_store.specs.Steps.{IsOneStep};
-ghost use Rattle.bd_store.specs.Touches.{InArranging};
 
-use crate::fault::{StoreFault, fault_of_reading, fault_of_restore, is_disk_fault, refusal_of};
-use crate::figures::Figures;
+use crate::fault::{StoreFault, fault_of_reading, fault_of_restore, is_disk_fault};
 use crate::listing::lines_of;
-use crate::naming::name_version;
-use crate::newest::newest_recipe;
-use bd_arrange::arrange;
 use bd_catalog::Catalog;
 use bd_disk::Disk;
 use bd_files::Files;
-use bd_gear::Gear;
-use bd_intake::intake;
-use bd_model::{Answer, Command, Name, Phase, Shape};
-use bd_recipe::{Neighbour, ReadFault};
+use bd_model::{Answer, Command, Name, Shape};
 use bd_recover::{FormatFault, OpenFault, Opened, format, open_image};
 use bd_restore::{plan_for, run_plan};
 use bd_space::Space;
@@ -57,10 +36,10 @@ use std::marker::Model;
 /// agrees with, which is the one that it was made or opened from.
 #[derive(Drop)]
 pub struct Store {
-    alloc: Global,
-    catalog: Catalog,
-    space: Space,
-    worn: bool,
+    pub(crate) alloc: Global,
+    pub(crate) catalog: Catalog,
+    pub(crate) space: Space,
+    pub(crate) worn: bool,
 }
 
 impl Model for Store {
@@ -111,133 +90,6 @@ impl Store {
             space,
             worn: false,
         })
-    }
-
-    // Reads the newest recipe, and arranges the store where it waits.
-    fn ready<D: Disk>(&mut self, disk: &mut D) -> Result<Neighbour, ReadFault>
-        requires room { disk_bytes self.old.found.sizes ≤ D.bytes disk.old }
-        requires agrees { D.tells → Agrees self.old.found (D.history disk.old) }
-        requires sound { self.old.worn ≡ false }
-        ensures disk { Works D.Disk (InArranging self.old.found) (IsBeside self.old.found) disk.old disk.new }
-        ensures cause { FailsByCount is_read_disk_fault (D.faults disk.old) (D.faults disk.new) result }
-        ensures worn { (self.new.worn ≡ true) ↔ (result ≡ Err ReadFault.DiskFault) }
-        ensures held { self.new.held ≡ self.old.held }
-        ensures store { Readies self.old self.new result }
-        ensures told { D.tells → ReadiesOn self.old.held self.old.found self.new.found (D.history disk.old) (D.history disk.new) result }
-    {
-        let read = newest_recipe(self.alloc, disk, &self.catalog).and_then(|neighbour| {
-            arrange(
-                self.alloc,
-                disk,
-                &mut self.catalog,
-                &mut self.space,
-                &neighbour,
-            )?;
-            Ok(neighbour)
-        });
-        self.worn = matches!(read, Err(ReadFault::DiskFault));
-        read
-    }
-
-    /// Stores the named source as the next version. The newest recipe is read before it, and one that doesn't hold is
-    /// answered as its damage; a store that waits is arranged then. Where a version can't be numbered or retained nothing is
-    /// touched.
-    pub fn backup<D: Disk, F: Files>(
-        &mut self,
-        disk: &mut D,
-        files: &mut F,
-        name: &Name,
-    ) -> Result<Answer, StoreFault>
-        requires room { disk_bytes self.old.found.sizes ≤ D.bytes disk.old }
-        requires agrees { D.tells → Agrees self.old.found (D.history disk.old) }
-        requires sound { self.old.worn ≡ false }
-        ensures meets { Meets D.tells F.tells (attempt (Backup name.now) result (scene D.Disk F.Files self.old disk.old files.old) (scene D.Disk F.Files self.new disk.new files.new)) }
-    {
-        let shape = self.catalog.shape();
-        let retained = self.catalog.retained();
-        if self.catalog.newest() == u32::MAX {
-            return Ok(Answer::FullNumbers);
-        }
-        if retained == shape.retain() {
-            return Ok(Answer::FullVersions { retained });
-        }
-        self.back_up(disk, files, name)
-    }
-
-    // Stores the named source as the next version, where there may be one.
-    fn back_up<D: Disk, F: Files>(
-        &mut self,
-        disk: &mut D,
-        files: &mut F,
-        name: &Name,
-    ) -> Result<Answer, StoreFault>
-        requires number { self.old.found.catalogue.newest < last_number }
-        requires limit { retained_in self.old.found.catalogue < self.old.found.sizes.retain }
-        requires room { disk_bytes self.old.found.sizes ≤ D.bytes disk.old }
-        requires agrees { D.tells → Agrees self.old.found (D.history disk.old) }
-        requires sound { self.old.worn ≡ false }
-        ensures meets { Meets D.tells F.tells (attempt (Backup name.now) result (scene D.Disk F.Files self.old disk.old files.old) (scene D.Disk F.Files self.new disk.new files.new)) }
-    {
-        match self.ready(disk) {
-            Ok(neighbour) => self.take_in(disk, files, name, &neighbour),
-            Err(fault) => Err(fault_of_reading(fault)),
-        }
-    }
-
-    /// Arranges the store, where it waits, and answers its figures. A settled store is left as it is.
-    pub fn reorganise<D: Disk>(&mut self, disk: &mut D) -> Result<Answer, StoreFault>
-        requires room { disk_bytes self.old.found.sizes ≤ D.bytes disk.old }
-        requires agrees { D.tells → Agrees self.old.found (D.history disk.old) }
-        requires sound { self.old.worn ≡ false }
-        ensures meets { (beside : Beside) → Meets D.tells (Unit {0}) (attempt Reorganise result (scene_beside D.Disk beside self.old disk.old) (scene_beside D.Disk beside self.new disk.new)) }
-    {
-        if self.catalog.phase() != Phase::Settled {
-            if let Err(fault) = self.ready(disk) {
-                return Err(fault_of_reading(fault));
-            }
-        }
-        let Figures { owned, free, .. } = self.figures();
-        Ok(Answer::Arranged { owned, free })
-    }
-
-    /// Gives up the oldest version. It reads nothing and takes no memory, but where the store waits with exactly two versions:
-    /// it is arranged first then.
-    pub fn expire<D: Disk>(&mut self, disk: &mut D) -> Result<Answer, StoreFault>
-        requires room { disk_bytes self.old.found.sizes ≤ D.bytes disk.old }
-        requires agrees { D.tells → Agrees self.old.found (D.history disk.old) }
-        requires sound { self.old.worn ≡ false }
-        ensures meets { (beside : Beside) → Meets D.tells (Unit {0}) (attempt Expire result (scene_beside D.Disk beside self.old disk.old) (scene_beside D.Disk beside self.new disk.new)) }
-    {
-        let retained = self.catalog.retained();
-        if retained == 0 {
-            return Ok(Answer::NothingRetained { asked: None });
-        }
-        if retained == 2 && self.catalog.phase() != Phase::Settled {
-            if let Err(fault) = self.ready(disk) {
-                return Err(fault_of_reading(fault));
-            }
-        }
-        self.give_up_oldest(disk)
-    }
-
-    /// The extents by their use, and how far the store is arranged. It takes no memory.
-    pub fn figures(&self) -> Figures
-        requires sound { self.now.worn ≡ false }
-        ensures figures { HasFigures self.now result }
-        ensures state { AreFiguresOf self.now result }
-    {
-        let free = u64::from(self.space.free());
-        let held = u64::from(self.space.held());
-        let waiting = match self.catalog.phase() {
-            Phase::Settled => None,
-            Phase::Waiting { cursor } => Some(cursor),
-        };
-        Figures {
-            owned: u64::from(self.catalog.shape().extents()) - free - held,
-            free,
-            held,
-            waiting,
-        }
     }
 
     /// Gives a retained version back: the named target has its stream afterwards, and is finished. It changes nothing on the

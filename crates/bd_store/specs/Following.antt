@@ -1,0 +1,88 @@
+-- A command that makes the store ready first, and what it does then.
+use Rattle.std.specs.Prelude.{◌≡◌, ◌↔◌, ◌⊎◌, ◌≤◌, ℕ, true, false, List, [], Result, Ok, Err}
+use Rattle.bd_disk.specs.Calls.{FailsByCount}
+use Rattle.bd_disk.specs.Looks.{LooksOnlyAt}
+use Rattle.bd_disk.specs.Made.{WritesOnly}
+use Rattle.bd_disk.specs.Trace.{ReadsOnly}
+use Rattle.bd_model.specs.declared.answer.Answer.{Answer}
+use Rattle.bd_model.specs.declared.answer.Answer.TheVariants.{Arranged, BackedUp, Expired, FullExtents}
+use Rattle.bd_model.specs.declared.command.Command.{Command}
+use Rattle.bd_model.specs.declared.command.Command.TheVariants.{Backup, Expire, Reorganise}
+use Rattle.bd_catalog.specs.Agreement.{Agrees}
+use Rattle.bd_catalog.specs.Opening.{Found}
+use Rattle.bd_recipe.specs.Marked.{Marked}
+use Rattle.bd_recipe.specs.Reading.{is_disk_fault}
+use Rattle.bd_recipe.specs.declared.fault.ReadFault.{ReadFault}
+use Rattle.bd_recipe.specs.declared.fault.ReadFault.TheVariants.{DiskFault as ReadDisk}
+use Rattle.bd_volume.specs.Named.{IsBeside}
+use Rattle.bd_store.specs.Attempts.{Attempt, IsAnswerOf, KeepsStore, MeetsOnFiles, Scene}
+use Rattle.bd_store.specs.Causes.{FailsOnlyByCount}
+use Rattle.bd_store.specs.Readying.{Readies, ReadiesOn}
+use Rattle.bd_store.specs.Steps.{IsOneStep}
+use Rattle.bd_store.specs.Stops.{IsSafeAtStops}
+use Rattle.bd_store.specs.Touches.{InArranging, arranges_first, is_full, is_waiting}
+use Rattle.bd_store.specs.declared.fault.StoreFault.{StoreFault}
+use Rattle.bd_store.specs.declared.fault.StoreFault.TheVariants.{DiskFault, OutOfMemory, SourceFault}
+
+-- the commands that make the store ready, and where
+abbrev pub MakesReady : Found → Command → Type 0
+MakesReady found (Backup name) = is_full found ≡ false
+MakesReady found Expire = arranges_first found ≡ true
+MakesReady found Reorganise = is_waiting found ≡ true
+MakesReady found command = ⊥
+
+-- what is round the store stays
+pub record StaysBeside (before after : Scene) : Type 0 where
+  pub files : after.files ≡ before.files
+  pub unfinished : after.unfinished ≡ before.unfinished
+  pub sources : after.counts.sources ≡ before.counts.sources
+  pub targets : after.counts.targets ≡ before.counts.targets
+  pub strays : after.strays ≡ before.strays
+
+-- where the disk tells: what is read and written for it, and what it leaves
+pub record IsMadeReadyOn (before after : Scene) (result : Result Marked ReadFault) : Type 0 where
+  pub looks : LooksOnlyAt (InArranging before.store.found) before.disk after.disk
+  pub writes : WritesOnly (IsBeside before.store.found) before.disk after.disk
+  pub readies : ReadiesOn before.store.held before.store.found after.store.found before.disk after.disk result
+
+-- a store that was made ready, or not
+pub record IsMadeReady (disk : Type 0) (before after : Scene) (result : Result Marked ReadFault) : Type 0 where
+  pub bytes : after.disk_bytes ≡ before.disk_bytes
+  pub beside : StaysBeside before after
+  pub cause : FailsByCount is_disk_fault before.counts.disk after.counts.disk result
+  pub worn : (after.store.worn ≡ true) ↔ (result ≡ Err ReadDisk)
+  pub held : after.store.held ≡ before.store.held
+  pub store : Readies before.store after.store result
+  pub told : disk → IsMadeReadyOn before after result
+
+-- how a command may end once the store is ready: it meets no damage
+abbrev pub EndsReady : Result Answer StoreFault → Type 0
+EndsReady (Ok (BackedUp version bytes chunks fresh need)) = Unit {0}
+EndsReady (Ok (FullExtents counted free held)) = Unit {0}
+EndsReady (Ok (Expired version extents)) = Unit {0}
+EndsReady (Ok (Arranged owned free)) = Unit {0}
+EndsReady (Ok answer) = ⊥
+EndsReady (Err SourceFault) = Unit {0}
+EndsReady (Err DiskFault) = Unit {0}
+EndsReady (Err OutOfMemory) = Unit {0}
+EndsReady (Err fault) = ⊥
+
+pub record FollowsOnDisk (a : Attempt) : Type 0 where
+  pub agrees : a.after.store.worn ≡ false → Agrees a.after.store.found a.after.disk
+  pub writes : WritesOnly (IsBeside a.before.store.found) a.before.disk a.after.disk
+  pub reads : ReadsOnly [] a.before.disk a.after.disk
+
+pub record FollowsOnBoth (a : Attempt) : Type 0 where
+  pub step : IsOneStep a.command a.before.store.held a.before.disk a.after.disk a.before.files a.after.files a.result
+  pub stops : IsSafeAtStops a.command a.before.store.held a.before.disk a.after.disk a.before.files a.result
+
+-- What a command does with a store that is ready: it reads nothing, and writes beside what is named.
+pub record Follows (disk files : Type 0) (a : Attempt) : Type 0 where
+  pub bytes : a.after.disk_bytes ≡ a.before.disk_bytes
+  pub cause : FailsOnlyByCount a.before.counts a.after.counts a.result
+  pub ends : EndsReady a.result
+  pub answer : IsAnswerOf a.before.store.found a.command a.result
+  pub store : KeepsStore a
+  pub on_disk : disk → FollowsOnDisk a
+  pub on_files : files → MeetsOnFiles a
+  pub on_both : disk → files → FollowsOnBoth a

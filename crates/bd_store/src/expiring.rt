@@ -1,0 +1,55 @@
+//! The oldest version, given up.
+ghost use Rattle.std.specs.Prelude.{◌≡◌, ◌≤◌, false};
+ghost use Rattle.bd_model.specs.Sizes.{disk_bytes};
+ghost use Rattle.bd_model.specs.declared.command.Command.TheVariants.{Expire};
+ghost use Rattle.bd_catalog.specs.Agreement.{Agrees};
+ghost use Rattle.bd_catalog.specs.Splitting.{FitsExpire};
+ghost use Rattle.bd_store.specs.Attempts.{Beside, Meets, attempt, scene_beside};
+
+use crate::fault::{StoreFault, fault_of_reading};
+use crate::store::Store;
+use bd_catalog::Step;
+use bd_disk::{Disk, Failed};
+use bd_model::{Answer, Phase};
+use bd_volume::drop_volume;
+
+impl Store {
+    /// Gives up the oldest version. It reads nothing and takes no memory, but where the store waits with exactly two versions:
+    /// it is arranged first then.
+    pub fn expire<D: Disk>(&mut self, disk: &mut D) -> Result<Answer, StoreFault>
+        requires room { disk_bytes self.old.found.sizes ≤ D.bytes disk.old }
+        requires agrees { D.tells → Agrees self.old.found (D.history disk.old) }
+        requires sound { self.old.worn ≡ false }
+        ensures meets { (beside : Beside) → Meets D.tells (Unit {0}) (attempt Expire result (scene_beside D.Disk beside self.old disk.old) (scene_beside D.Disk beside self.new disk.new)) }
+    {
+        let retained = self.catalog.retained();
+        if retained == 0 {
+            return Ok(Answer::NothingRetained { asked: None });
+        }
+        if retained == 2 && self.catalog.phase() != Phase::Settled {
+            if let Err(fault) = self.ready(disk) {
+                return Err(fault_of_reading(fault));
+            }
+        }
+        self.give_up_oldest(disk)
+    }
+
+    // Gives up the oldest version by one commit. It reads nothing, and takes no memory.
+    fn give_up_oldest<D: Disk>(&mut self, disk: &mut D) -> Result<Answer, StoreFault>
+        requires fits { FitsExpire self.old.found.catalogue }
+        requires room { disk_bytes self.old.found.sizes ≤ D.bytes disk.old }
+        requires agrees { D.tells → Agrees self.old.found (D.history disk.old) }
+        requires sound { self.old.worn ≡ false }
+        ensures meets { (beside : Beside) → Meets D.tells (Unit {0}) (attempt Expire result (scene_beside D.Disk beside self.old disk.old) (scene_beside D.Disk beside self.new disk.new)) }
+    {
+        let _shape = self.catalog.shape();
+        let version = self.catalog.newest() - (self.catalog.retained() - 1);
+        let extents = drop_volume(&self.catalog);
+        let named = self.catalog.commit(disk, &mut self.space, Step::Expire);
+        self.worn = named.is_err();
+        match named {
+            Ok(()) => Ok(Answer::Expired { version, extents }),
+            Err(Failed) => Err(StoreFault::DiskFault),
+        }
+    }
+}
