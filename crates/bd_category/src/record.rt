@@ -61,6 +61,7 @@ pub fn read_header<D: Disk>(
     ensures disk { Reads D.Disk (InHeader (sizes_of shape.now) extents.now at end) disk.old disk.new }
     ensures cause { FailsByCount is_disk_fault (D.faults disk.old) (D.faults disk.new) result }
     ensures header { D.tells → AnswersHeader (header_at (sizes_of shape.now) who at end (owned_on D.Disk (sizes_of shape.now) extents.now disk.old)) result }
+    ensures some { IfOk result (λ header. 1 ≤ header.length) }
     ensures short { IfOk result (λ header. header.length ≤ shape.now.max) }
     ensures place { IfOk result (λ header. header.at ≡ at) }
     ensures within { IfOk result (λ header. at + 36 + header.length ≤ end) }
@@ -142,6 +143,7 @@ fn checked_header(
     left: u64,
 ) -> Result<Header, Damage>
     ensures so { result ≡ header_in max who at left bytes.now }
+    ensures some { IfOk result (λ header. 1 ≤ header.length) }
     ensures short { IfOk result (λ header. header.length ≤ max) }
     ensures place { IfOk result (λ header. header.at ≡ at) }
     ensures within { IfOk result (λ header. header.length ≤ left) }
