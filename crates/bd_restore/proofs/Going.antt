@@ -16,7 +16,8 @@ use Rattle.bd_restore.specs.Target.{held}
 use Rattle.bd_restore.specs.Walk.{Gives, Walks}
 use Rattle.bd_volume.specs.Headers.{HasGoodHeaders}
 use Rattle.bd_restore.specs.Went.{Aim, IsReady, Moment, Went, WentOver}
-use Rattle.bd_restore.proofs.Joining.{gives_both, gives_none, headers_both, headers_none, headers_row, met_after, met_before, spots-append, walks_both, walks_none}
+use Rattle.bd_volume.proofs.ReadHeaders.{headers_row}
+use Rattle.bd_restore.proofs.Joining.{gives_both, gives_none, headers_both, headers_none, met_after, met_before, spots-append, walks_both, walks_none}
 
 module _ {D F : Type 0} (d : Ghosts D) (f : FileGhosts F) (a : Aim) where
   pub went_none : (x : Moment D F) → IsReady f a x.progress x.files → Went d f a [] x x

@@ -1,6 +1,6 @@
 -- Walks that follow each other, what is met on them, and the records and rows that they go over.
-use Rattle.std.proofs.Common.{◌≡◌, ℕ, zero, suc, ◌+◌, ◌<◌, Bool, List, [], ◌∷◌, ◌++◌, length, take, drop, get_or, refl, sym, ◌∙◌, ap, subst, append_assoc}
-use Rattle.std.specs.Prelude.{if◌then◌else◌, ◌&&◌, true, IsTrue}
+use Rattle.std.proofs.Common.{◌≡◌, ℕ, ◌+◌, ◌<◌, Bool, List, [], ◌∷◌, ◌++◌, length, take, drop, get_or, refl, sym, ◌∙◌, ap, subst, append_assoc}
+use Rattle.std.specs.Prelude.{if◌then◌else◌, ◌&&◌, IsTrue}
 use Rattle.std.proofs.lemmas.List.Folds.{list_all-append}
 use Rattle.std.specs.List.{list_all}
 use Rattle.std.proofs.lemmas.List.{append-nil, map-append, take-append-drop, take_more}
@@ -11,15 +11,15 @@ use Rattle.bd_disk.specs.Trace.{ReadsOnly}
 use Rattle.bd_disk.proofs.Traces.{has_read_later, reads_both, reads_none}
 use Rattle.bd_model.specs.Sizes.{Sizes}
 use Rattle.bd_model.specs.Extents.{places_at}
-use Rattle.bd_model.specs.Records.{Stored, stored_at}
+use Rattle.bd_model.specs.Records.{Stored}
 use Rattle.bd_model.specs.declared.damage.Damage.{Damage}
 use Rattle.bd_model.specs.declared.layout.RecipeEntry.{RecipeEntry}
 use Rattle.bd_catalog.specs.Damages.{header_holds}
-use Rattle.bd_catalog.specs.Rows.{row_bytes, spot_in, RowPlace, Spot, first_spots, records_at, row_spots, spots_in, spots_from, past}
+use Rattle.bd_catalog.specs.Rows.{row_bytes, spot_in, RowPlace, Spot, first_spots, records_at, row_spots, spots_in, past}
 use Rattle.bd_restore.specs.Met.{BreaksAt, MetAt, MetOn}
 use Rattle.bd_restore.specs.Walk.{is_wanted, walk_reads, AreFlags, AreGiven, Gives, Sought, Walks}
 use Rattle.bd_volume.specs.Headers.{HasGoodHeaders}
-use Rattle.bd_restore.proofs.Cuts.{spots_split}
+use Rattle.bd_volume.proofs.Spots.{spots_split}
 
 -- ---- walks
 
@@ -60,9 +60,6 @@ module _ (s : Sizes) (entries : List RecipeEntry) where
 
 pub headers_none : (s : Sizes) (image : List ℕ) → HasGoodHeaders s image []
 headers_none s image = record { each = refl }
-
-pub headers_row : (s : Sizes) (image : List ℕ) (p : RowPlace) → IsTrue (list_all (header_holds s p) (row_spots s image p)) → HasGoodHeaders s image (p ∷ [])
-headers_row s image p good = record { each = λ i. good i && true }
 
 pub headers_both : (s : Sizes) (image : List ℕ) (xs ys : List RowPlace) → HasGoodHeaders s image xs → HasGoodHeaders s image ys → HasGoodHeaders s image (xs ++ ys)
 headers_both s image xs ys one other = record { each = list_all-append (λ p. list_all (header_holds s p) (row_spots s image p)) xs ys ∙ (λ i. one.each i && other.each i) }
@@ -148,19 +145,6 @@ module _ (w : Sought) (image : List ℕ) (damage : Damage) where
             (met.breaks (seen ++ records_at mine) (flags seen are)));
         read = has_read_later met.places made met.read;
       }
-
--- ---- the records of a row
-
-module _ (extents bytes : List ℕ) where
-  pub spots-more : (n at : ℕ) → spots_from extents bytes (suc n) at ≡ spots_from extents bytes n at ++ record { extents = extents; at = past at (spots_from extents bytes n at); stored = stored_at (drop (past at (spots_from extents bytes n at)) bytes) } ∷ []
-  spots-more zero at = refl
-  spots-more (suc n) at =
-      let r = stored_at (drop at bytes) in
-      ap (λ l. record { extents = extents; at = at; stored = r } ∷ l) (spots-more n (at + 36 + r.length))
-
-  pub past-more : (n at : ℕ) → past at (spots_from extents bytes (suc n) at) ≡ past at (spots_from extents bytes n at) + 36 + (stored_at (drop (past at (spots_from extents bytes n at)) bytes)).length
-  past-more zero at = refl
-  past-more (suc n) at = past-more n (at + 36 + (stored_at (drop at bytes)).length)
 
 -- ---- rows
 

@@ -1,5 +1,4 @@
 mod Answering
-mod Cuts
 mod Ending
 mod Finishing
 pub mod Frames
@@ -11,7 +10,6 @@ mod Owning
 mod Putting
 mod Reading
 mod Seeing
-mod Splits
 pub mod Standing
 pub mod StandingContent
 pub mod StandingLean

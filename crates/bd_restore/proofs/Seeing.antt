@@ -33,7 +33,7 @@ use Rattle.bd_restore.specs.Met.{BreaksAt, ComesTo, HasEntry, IsNeeded, IsReache
 use Rattle.bd_restore.specs.Target.{flag_at, length_at, mark_at}
 use Rattle.bd_restore.specs.Walk.{AreFlags, Sought, is_found}
 use Rattle.bd_volume.specs.Headers.{HasGoodHeaders}
-use Rattle.bd_restore.proofs.Cuts.{past_sum, place_is, taken}
+use Rattle.bd_volume.proofs.Spots.{past_sum, place_is, taken}
 use Rattle.bd_volume.proofs.WalkRecords.{part_at, records_both, row_records, walk_parts, walk_records}
 use Rattle.bd_restore.proofs.Walking.{bool_cases}
 

@@ -1,6 +1,5 @@
 -- What a restore reads of the records on its walk, and what it has given back by then.
 use Rattle.std.specs.Prelude.{◌≡◌, ℕ, ◌+◌, ◌<◌, Bool, ◌&&◌, not, List, [], ◌∷◌, ◌++◌, length, flat_map, nat_lt, ◌*◌, ◌≤◌, Contains, IsTrue, if◌then◌else◌}
-use Rattle.std.specs.List.{list_all}
 use Rattle.bd_disk.specs.History.{History}
 use Rattle.bd_disk.specs.Trace.{ReadsOnly}
 use Rattle.bd_model.specs.Sizes.{Sizes}
@@ -10,8 +9,7 @@ use Rattle.bd_model.specs.Recipe.{has_mark}
 use Rattle.bd_model.specs.Records.{Stored}
 use Rattle.bd_model.specs.declared.layout.RecipeEntry.{RecipeEntry}
 use Rattle.bd_extio.specs.Ranges.{AreExtents, InOwner}
-use Rattle.bd_catalog.specs.Damages.{header_holds}
-use Rattle.bd_catalog.specs.Rows.{RowPlace, Spot, records_at, row_end, row_spots, spot_in}
+use Rattle.bd_catalog.specs.Rows.{RowPlace, Spot, records_at, row_end}
 use Rattle.bd_catalog.specs.Sound.{with_mark, first_body}
 use Rattle.bd_restore.specs.Target.{mark_at, chunk_at, flag_at}
 
@@ -25,11 +23,6 @@ pub record Sought : Type 0 where
 pub record IsInRoom (s : Sizes) (p : RowPlace) : Type 0 where
   pub numbers : AreExtents s p.extents
   pub room : row_end p ≤ length p.extents * s.extent
-
--- the header of the record at this place of the row holds, and the next record begins where it ends
-pub record GoesOver (s : Sizes) (image : List ℕ) (p : RowPlace) (at next : ℕ) : Type 0 where
-  pub good : IsTrue (header_holds s p (spot_in s image p at))
-  pub ends : next ≡ at + 36 + (spot_in s image p at).stored.length
 
 -- whether a record that was seen has the mark
 abbrev pub is_found : List Stored → List ℕ → Bool

@@ -9,8 +9,8 @@ use Rattle.bd_restore.specs.declared.plan.Wanted.{Wanted}
 use Rattle.bd_restore.specs.declared.plan.Progress.{Progress}
 use Rattle.bd_restore.specs.declared.record.Placed.{Placed}
 use Rattle.bd_restore.specs.Target.{held, IsTarget}
-use Rattle.bd_restore.specs.Walk.{Gives, GoesOver, Sought, Walks}
-use Rattle.bd_volume.specs.Headers.{HasGoodHeaders}
+use Rattle.bd_restore.specs.Walk.{Gives, Sought, Walks}
+use Rattle.bd_volume.specs.Headers.{GoesOver, HasGoodHeaders}
 
 abbrev pub sizes_at : Placed → Sizes
 sizes_at placed = sizes_of placed.shape.now

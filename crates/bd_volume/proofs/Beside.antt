@@ -1,13 +1,12 @@
 -- Places beside all that an opening finds: of extents that nobody has, behind the named bytes of an owner, and of the half that
 -- isn't the newest.
-use Rattle.std.proofs.Common.{◌≡◌, ◌∙◌, ℕ, zero, suc, ◌+◌, ◌-◌, ◌*◌, ◌<◌, ◌≤◌, sym, arith, subst, Some}
+use Rattle.std.proofs.Common.{◌≡◌, ◌∙◌, ℕ, zero, suc, ◌+◌, ◌-◌, ◌<◌, ◌≤◌, sym, arith, Some}
 use Rattle.std.specs.Prelude.{Contains, IsTrue}
 use Rattle.std.proofs.lemmas.List.Elements.{All-contains}
 use Rattle.std.proofs.lemmas.Option.{slice_get_within}
 use Rattle.std.proofs.Math.Nat.{mul-le-mul_right}
 use Rattle.bd_disk.specs.Images.{InRange}
 use Rattle.bd_model.specs.Sizes.{Sizes, disk_bytes, extent_place}
-use Rattle.bd_extio.specs.Ranges.{place_of}
 use Rattle.bd_space.specs.Allotment.{Allotment, extent_count, IsFree, IsTaken, TakenExactly}
 use Rattle.bd_space.specs.declared.space.Use.TheVariants.{Free, Taken}
 use Rattle.bd_gate.specs.Halves.{InHalf}

@@ -9,8 +9,10 @@ pub mod HeldWalk
 pub mod MappedLists
 pub mod NamedPlaces
 pub mod Naming
+pub mod ReadHeaders
 pub mod RowLists
 pub mod RowsMore
+pub mod Spots
 pub mod StoredChunks
 pub mod Taking
 pub mod Unnamed

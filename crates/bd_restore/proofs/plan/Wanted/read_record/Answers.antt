@@ -19,8 +19,9 @@ use Rattle.bd_restore.specs.Target.{held, Fills, Puts}
 use Rattle.bd_restore.specs.Walk.{is_wanted, AreFlags, Walks}
 use Rattle.bd_restore.specs.Went.{placed_row, sizes_at, sought_by}
 use Rattle.bd_restore.proofs.Answering.{damaged_by, record_damage}
-use Rattle.bd_restore.proofs.Meeting.{body_met, good_header, header_met, length_met}
-use Rattle.bd_restore.proofs.Reading.{header_read, header_within, is_stored, written_back}
+use Rattle.bd_volume.proofs.ReadHeaders.{good_header, header_read, header_within, is_stored}
+use Rattle.bd_restore.proofs.Meeting.{body_met, header_met, length_met}
+use Rattle.bd_restore.proofs.Reading.{written_back}
 use Rattle.bd_restore.proofs.Walking.{walks_unwanted, gives_unwanted, walks_wanted, gives_wanted}
 use Rattle.bd_restore.proofs.plan.Wanted.read_record.Goals as goal
 
@@ -140,7 +141,7 @@ returns-then-not-wants-clause-next g c = record {
       let h = c.in_ok-header.header in
       let st = is_stored s p.who c.args.at (row_end p) (owner_bytes s p.extents image) h c.requires.to c.in_ok-header.ensures.within (c.in_ok-header.ensures.header told) in
       record {
-        good = good_header (sought_by s c.args.self.now) image p c.args.at h c.in_ok-header.ensures.within (c.in_ok-header.ensures.header told);
+        good = good_header s image p c.args.at h c.in_ok-header.ensures.within (c.in_ok-header.ensures.header told);
         ends = ap (λ n. c.args.at + 36 + n) (c.from.ensures ∙ st.size);
       };
 }
@@ -156,7 +157,7 @@ returns-clause-next g c = record {
       let h = c.in_ok-header.header in
       let st = is_stored s p.who c.args.at (row_end p) (owner_bytes s p.extents image) h c.requires.to c.in_ok-header.ensures.within (c.in_ok-header.ensures.header told) in
       record {
-        good = good_header (sought_by s c.args.self.now) image p c.args.at h c.in_ok-header.ensures.within (c.in_ok-header.ensures.header told);
+        good = good_header s image p c.args.at h c.in_ok-header.ensures.within (c.in_ok-header.ensures.header told);
         ends = ap (λ n. c.args.at + 36 + n) (c.from.ensures ∙ st.size);
       };
 }

@@ -11,7 +11,8 @@ use Rattle.bd_restore.specs.Went.{aim_of, moment, placed_row, sizes_at, sought_b
 use Rattle.bd_restore.proofs.Answering.{damaged_by}
 use Rattle.bd_restore.proofs.Frames.{target_both, target_none}
 use Rattle.bd_restore.proofs.Going.{over_row, went_both, went_none}
-use Rattle.bd_restore.proofs.Joining.{met_here, past-more, spots-more}
+use Rattle.bd_volume.proofs.Spots.{past-more, spots-more}
+use Rattle.bd_restore.proofs.Joining.{met_here}
 use Rattle.bd_restore.proofs.plan.Wanted.run_row.Goals as goal
 
 pub loop-done-init : goal.loop-done-init

@@ -1,12 +1,11 @@
 -- The records of a row, one behind the other.
-use Rattle.std.proofs.Common.{◌≡◌, ℕ, zero, suc, ◌+◌, ◌-◌, ◌<◌, ◌≤◌, List, [], ◌∷◌, ◌++◌, take, drop, sym, ◌∙◌, ap, arith}
+use Rattle.std.proofs.Common.{◌≡◌, ℕ, zero, suc, ◌+◌, ◌-◌, ◌<◌, ◌≤◌, List, [], ◌∷◌, ◌++◌, take, drop, refl, sym, ◌∙◌, ap, arith}
 use Rattle.std.specs.List.{sum_by}
 use Rattle.std.specs.Int.{w32, from_be_bytes}
 use Rattle.std.proofs.lemmas.List.{drop-take, take-take}
 use Rattle.std.proofs.lemmas.List.Sums.{sum_by-cons}
 use Rattle.bd_model.specs.Records.{Stored, stored_at}
 use Rattle.bd_catalog.specs.Rows.{Spot, past, records_at, spots_from}
-use Rattle.bd_restore.proofs.Splits.{split_none}
 
 -- ---- a record of a front of the bytes
 
@@ -42,6 +41,11 @@ spots_split extents bytes count chunks at lt =
     let size : chunks ≡ count + suc (chunks - count - 1) = omega (arith, lt) in
     (_, spots_add extents bytes count (suc (chunks - count - 1)) chunks at size)
 
+-- nothing has an element
+split_none : {X : Type 0} (before : List X) (x : X) (behind : List X) → [] ≡ before ++ (x ∷ behind) → ⊥
+split_none [] x behind e = cc
+split_none (b ∷ before) x behind e = cc
+
 -- a record lies where those before it end
 pub place_is : (extents bytes : List ℕ) (n at : ℕ) (before : List Spot) (x : Spot) (behind : List Spot) → spots_from extents bytes n at ≡ before ++ (x ∷ behind) → x.at ≡ past at before
 place_is extents bytes zero at before x behind e = absurd (split_none before x behind e)
@@ -53,3 +57,16 @@ place_is extents bytes (suc n) at (b ∷ before) x behind e =
     let first : record { extents = extents; at = at; stored = r } ≡ b = cc in
     let rest : spots_from extents bytes n (at + 36 + r.length) ≡ before ++ (x ∷ behind) = cc in
     place_is extents bytes n (at + 36 + r.length) before x behind rest ∙ ap (λ (y : Spot). past (at + 36 + y.stored.length) before) first
+
+-- ---- one record more
+
+module _ (extents bytes : List ℕ) where
+  pub spots-more : (n at : ℕ) → spots_from extents bytes (suc n) at ≡ spots_from extents bytes n at ++ record { extents = extents; at = past at (spots_from extents bytes n at); stored = stored_at (drop (past at (spots_from extents bytes n at)) bytes) } ∷ []
+  spots-more zero at = refl
+  spots-more (suc n) at =
+      let r = stored_at (drop at bytes) in
+      ap (λ l. record { extents = extents; at = at; stored = r } ∷ l) (spots-more n (at + 36 + r.length))
+
+  pub past-more : (n at : ℕ) → past at (spots_from extents bytes (suc n) at) ≡ past at (spots_from extents bytes n at) + 36 + (stored_at (drop (past at (spots_from extents bytes n at)) bytes)).length
+  past-more zero at = refl
+  past-more (suc n) at = past-more n (at + 36 + (stored_at (drop at bytes)).length)
