@@ -1,0 +1,107 @@
+use Rattle.std.proofs.Common.{◌≡◌, ◌≢◌, [], ◌∷◌, refl, ◌∙◌, subst, arith}
+use Rattle.bd_disk.specs.History.{contents}
+use Rattle.bd_disk.proofs.RunLemmas.{both_reads, no_reads, nothing_written, same_contents}
+use Rattle.bd_model.specs.Sizes.{sizes_of}
+use Rattle.bd_model.specs.declared.damage.Damage.{Damage}
+use Rattle.bd_catalog.specs.Catalogue.{Catalogue}
+use Rattle.bd_catalog.specs.Rows.{open_row, spot_in}
+use Rattle.bd_catalog.specs.Shown.{open_entry}
+use Rattle.bd_volume.specs.Headers.{IsRefused}
+use Rattle.bd_arrange.specs.Cuts.{IsDamageIn, IsFound}
+use Rattle.bd_arrange.specs.declared.cut.Stretch.{Stretch}
+use Rattle.bd_arrange.proofs.Faults.{damaged_by}
+use Rattle.bd_arrange.proofs.Stretches.{cut_more, cut_none, sorts_none}
+use Rattle.bd_arrange.proofs.Telling.{Told, all_told, bad_header, bad_row, told_more, told_none}
+use Rattle.bd_arrange.proofs.cut.tell_apart.Goals as goal
+
+pub loop-done-init : goal.loop-done-init
+loop-done-init g c =
+    let s = sizes_of c.args.shape.now in
+    let p = open_row (open_entry c.args.category.now) in
+    let cut = c.none-cut.result in
+    let none = c.none-cut.ensures in
+    let before = g.D.Disk.history c.args.disk.now in
+    record {
+      disk = no_reads;
+      faults = refl;
+      row = refl;
+      high = omega arith;
+      cut = cut_none cut none.stretches none.kept none.archived s;
+      told = λ told. told_none s (contents before) c.args.neighbour.now.entries p cut before (sorts_none cut none.stretches none.kept none.archived c.args.neighbour.now.entries);
+    }
+
+pub returns-in_err-record-clause-disk : goal.returns-in_err-record-clause-disk
+returns-in_err-record-clause-disk g c = both_reads c.loop-done.invariant.disk c.read_record.ensures.disk
+
+pub returns-in_err-put-clause-disk : goal.returns-in_err-put-clause-disk
+returns-in_err-put-clause-disk g c = both_reads c.loop-done.invariant.disk c.read_record.ensures.disk
+
+pub returns-in_err-record-clause-damage : goal.returns-in_err-record-clause-damage
+returns-in_err-record-clause-damage g c =
+    let s = sizes_of c.args.shape.now in
+    let a = open_entry c.args.category.now in
+    let p = open_row a in
+    let at = c.loop-done.at in
+    let inv = c.loop-done.invariant in
+    let first = g.D.Disk.history c.args.disk.now in
+    let before = g.D.Disk.history c.loop-done.disk in
+    let after = g.D.Disk.history c.read_record.new.disk in
+    let image = contents first in
+    let P : Damage → Type 0 = λ damage. g.D.Disk.tells → IsRefused s p (spot_in s (contents before) p at) damage before after in
+    let Q : Damage → Type 0 = λ damage. g.D.Disk.tells → (c' : Catalogue) → IsDamageIn s c' image (p ∷ []) damage first after in
+    damaged_by Stretch P Q c.in_err-record.field-0.0 c.from_residual.result c.from_residual.ensures.1
+    (λ damage met told c'. bad_header s image c.args.neighbour.now.entries a c.loop-done.cut c' c.loop-done.done at damage c.loop-done-test.true (nothing_written inv.disk told)
+    (subst (λ i. IsRefused s p (spot_in s i p at) damage before after) (same_contents inv.disk told) (met told)) (inv.told told))
+    c.in_err-record.ensures.damage
+
+pub loop-done-preserved : goal.loop-done-preserved
+loop-done-preserved g c =
+    let s = sizes_of c.args.shape.now in
+    let p = open_row (open_entry c.args.category.now) in
+    let entries = c.args.neighbour.now.entries in
+    let inv = c.loop-done.invariant in
+    let done = c.loop-done.done in
+    let at = c.loop-done.at in
+    let x = c.in_ok-record.record in
+    let is = c.in_ok-record.ensures.record in
+    let puts = c.in_ok-put.ensures in
+    let first = g.D.Disk.history c.args.disk.now in
+    let before = g.D.Disk.history c.loop-done.disk in
+    let after = g.D.Disk.history c.read_record.new.disk in
+    record {
+      disk = both_reads inv.disk c.read_record.ensures.disk;
+      faults = c.in_ok-record.ensures.cause.cause ∙ inv.faults;
+      row = inv.row;
+      high = is.within;
+      cut = cut_more s done at c.loop-done.cut c.put.new.self x is.one is.counted puts inv.cut;
+      told = λ told. told_more s (contents first) entries p done at c.loop-done.cut c.put.new.self x is.one puts
+          (subst (λ i. IsFound s i entries p at x before after) (same_contents inv.disk told) (c.in_ok-record.ensures.found told)) (inv.told told);
+    }
+
+pub returns-then-at-row-clause-damage : goal.returns-then-at-row-clause-damage
+returns-then-at-row-clause-damage g c = λ told c'.
+    let s = sizes_of c.args.shape.now in
+    let a = open_entry c.args.category.now in
+    let p = open_row a in
+    let entries = c.args.neighbour.now.entries in
+    let first = g.D.Disk.history c.args.disk.now in
+    let now = g.D.Disk.history c.loop-done.disk in
+    let image = contents first in
+    let at = c.loop-done.at in
+    let all : c.loop-done.done ≡ a.row.chunks = omega (arith, c.loop-done-test.false) in
+    let differs : at ≢ a.row.bytes = λ same. c.if-at-row.true same in
+    bad_row s image entries a c.loop-done.cut c' at differs (subst (λ n. Told s image entries p n at c.loop-done.cut first now) all (c.loop-done.invariant.told told))
+
+pub returns-clause-apart : goal.returns-clause-apart
+returns-clause-apart g c = λ told.
+    let s = sizes_of c.args.shape.now in
+    let a = open_entry c.args.category.now in
+    let p = open_row a in
+    let entries = c.args.neighbour.now.entries in
+    let first = g.D.Disk.history c.args.disk.now in
+    let now = g.D.Disk.history c.loop-done.disk in
+    let image = contents first in
+    let at = c.loop-done.at in
+    let all : c.loop-done.done ≡ a.row.chunks = omega (arith, c.loop-done-test.false) in
+    let full : at ≡ a.row.bytes = omega (arith, c.if-at-row.false) in
+    all_told s image entries a c.loop-done.cut at full (subst (λ n. Told s image entries p n at c.loop-done.cut first now) all (c.loop-done.invariant.told told))
