@@ -7,7 +7,7 @@ mod record;
 
 pub use fault::{CategoryFault, Header};
 pub use laws::records_read_back;
-pub use record::{read_body, read_header, write_chunk};
+pub use record::{header_bytes, read_body, read_header, write_chunk};
 
 #[cfg(test)]
 mod tests {

@@ -17,8 +17,8 @@ use bd_marks::mark_of;
 use bd_model::{Damage, Mark, Owner, Shape};
 use bd_wire::{Cursor, put_u32};
 
-/// The bytes of a header.
-const HEADER: usize = 36;
+/// How many bytes a header has.
+pub const HEADER: usize = 36;
 
 /// Writes one record from place `at` of the owner's bytes on: the body's length, this mark, and the body.
 pub fn write_chunk<D: Disk>(
@@ -123,8 +123,8 @@ pub fn read_body<D: Disk>(
     Ok(())
 }
 
-// The bytes of a header: the length of the body, and the mark.
-fn header_bytes(size: u32, mark: &Mark) -> [u8; HEADER]
+/// The bytes of a header: the length of the body, and the mark.
+pub fn header_bytes(size: u32, mark: &Mark) -> [u8; HEADER]
     ensures so { result ≡ four size ++ mark.now.0 }
     ensures sized { length result ≡ 36 }
 {
