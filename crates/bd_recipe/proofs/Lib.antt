@@ -10,4 +10,3 @@ pub mod ReadingBack
 pub mod Spelling
 pub mod Standing
 pub mod Versions
-pub mod Written

@@ -14,10 +14,10 @@ use bd_extio::write_at;
 use bd_model::{Mark, RecipeEntry, Shape};
 use bd_wire::{Cursor, put_u32};
 
-/// The bytes of an entry.
-pub(crate) const ENTRY: usize = 40;
+/// How many bytes an entry has.
+pub const ENTRY: usize = 40;
 
-/// How many entries are read or written at a time.
+/// How many entries are read at a time.
 pub(crate) const PIECE: usize = 1024;
 
 /// The bytes of so many entries.
@@ -38,14 +38,23 @@ pub fn write_entry<D: Disk>(
     ensures cause { HasCause (D.faults disk.old) (D.faults disk.new) result }
     ensures written { OnOk result (Overwrites D.Disk (sizes_of shape.now) extents.now (40 * index) (spelled_entry entry.now) disk.old disk.new) }
 {
-    let mut bytes = [0u8; ENTRY];
-    put_entry(&mut bytes, 0, entry);
+    let bytes = entry_bytes(entry);
     write_at(disk, shape, extents, ENTRY as u64 * index, &bytes)?;
     Ok(())
 }
 
+/// The bytes of an entry: the mark, the length of the chunk, and where it starts.
+pub fn entry_bytes(entry: &RecipeEntry) -> [u8; ENTRY]
+    ensures so { result ≡ spelled_entry entry.now }
+    ensures sized { length result ≡ 40 }
+{
+    let mut bytes = [0u8; ENTRY];
+    put_entry(&mut bytes, 0, entry);
+    bytes
+}
+
 // Writes the bytes of an entry from place `at` on, and changes nothing else.
-pub(crate) fn put_entry(into: &mut [u8], at: usize, entry: &RecipeEntry)
+fn put_entry(into: &mut [u8], at: usize, entry: &RecipeEntry)
     requires { at + 40 ≤ length into.old }
     ensures written { into.new ≡ overwritten into.old at (spelled_entry entry.now) }
     ensures sized { length (spelled_entry entry.now) ≡ 40 }

@@ -10,11 +10,9 @@ mod neighbour;
 mod recipe;
 #[cfg(test)]
 mod tests;
-mod writing;
 
-pub use entry::write_entry;
+pub use entry::{entry_bytes, write_entry};
 pub use fault::ReadFault;
 pub use laws::entries_read_back;
 pub use neighbour::Neighbour;
 pub use recipe::{Recipe, read_recipe};
-pub use writing::write_entries;

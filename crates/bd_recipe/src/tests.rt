@@ -27,7 +27,7 @@ fn entry(byte: u8, length: u32, start: u32) -> RecipeEntry {
 fn write(disk: &mut MemDisk, shape: &Shape, entries: &[RecipeEntry; 2]) -> bool {
     disk.size() >= shape.disk_bytes()
         && shape.extents() > 3
-        && write_entries(disk, shape, &[3, 1], 0, entries).is_ok()
+        && write_entry(disk, shape, &[3, 1], 0, &entries[0]).is_ok()
         && write_entry(disk, shape, &[3, 1], 1, &entries[1]).is_ok()
 }
 

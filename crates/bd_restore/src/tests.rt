@@ -6,7 +6,7 @@ use bd_disk::{Disk, MemDisk, Touch};
 use bd_files::MemFiles;
 use bd_marks::mark_of;
 use bd_model::{Damage, Name, Owner, RecipeEntry, Shape};
-use bd_recipe::write_entries;
+use bd_recipe::write_entry;
 use std::alloc::Global;
 use std::test::Fail;
 
@@ -74,9 +74,17 @@ fn fill(disk: &mut MemDisk, shape: &Shape, first: &[u8; 4]) -> bool {
     if disk.size() < shape.disk_bytes() || shape.extents() <= 14 || shape.max() < 4 {
         return false;
     }
-    write_entries(disk, shape, &[0, 1, 2], 0, &[a, b, e, a]).is_ok()
-        && write_entries(disk, shape, &[3, 4], 0, &[a, c, e]).is_ok()
-        && write_entries(disk, shape, &[5, 6, 7], 0, &[a, again, e, again]).is_ok()
+    write_entry(disk, shape, &[0, 1, 2], 0, &a).is_ok()
+        && write_entry(disk, shape, &[0, 1, 2], 1, &b).is_ok()
+        && write_entry(disk, shape, &[0, 1, 2], 2, &e).is_ok()
+        && write_entry(disk, shape, &[0, 1, 2], 3, &a).is_ok()
+        && write_entry(disk, shape, &[3, 4], 0, &a).is_ok()
+        && write_entry(disk, shape, &[3, 4], 1, &c).is_ok()
+        && write_entry(disk, shape, &[3, 4], 2, &e).is_ok()
+        && write_entry(disk, shape, &[5, 6, 7], 0, &a).is_ok()
+        && write_entry(disk, shape, &[5, 6, 7], 1, &again).is_ok()
+        && write_entry(disk, shape, &[5, 6, 7], 2, &e).is_ok()
+        && write_entry(disk, shape, &[5, 6, 7], 3, &again).is_ok()
         && write_chunk(disk, shape, &[8], 0, &b.mark, b"BBBB").is_ok()
         && write_chunk(disk, shape, &[9, 13], 0, &a.mark, first).is_ok()
         && write_chunk(disk, shape, &[9, 13], 40, &e.mark, b"EEEE").is_ok()

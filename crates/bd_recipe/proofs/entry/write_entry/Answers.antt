@@ -3,9 +3,7 @@ use Rattle.bd_disk.specs.History.{contents}
 use Rattle.bd_disk.specs.Images.{overwritten}
 use Rattle.bd_model.specs.Sizes.{sizes_of}
 use Rattle.bd_model.specs.Extents.{owner_bytes}
-use Rattle.bd_model.specs.Records.{spelled_entry}
 use Rattle.bd_extio.proofs.Places.{range_small}
-use Rattle.bd_recipe.proofs.Spelling.{overwritten_whole}
 use Rattle.bd_recipe.proofs.entry.write_entry.Goals as goal
 
 pub overflow_mul-index : goal.overflow_mul-index
@@ -14,5 +12,4 @@ overflow_mul-index g c = omega (arith, range_small (sizes_of c.args.shape.now) c
 pub returns-clause-written : goal.returns-clause-written
 returns-clause-written g c = λ told.
     let owner = owner_bytes (sizes_of c.args.shape.now) c.args.extents.now (contents (g.D.Disk.history c.args.disk.now)) in
-    c.in_ok-write_at.ensures.written told
-    ∙ ap (overwritten owner (40 * c.args.index)) (c.put_entry.ensures.written ∙ overwritten_whole _ (spelled_entry c.args.entry.now) c.put_entry.ensures.sized)
+    c.in_ok-write_at.ensures.written told ∙ ap (overwritten owner (40 * c.args.index)) c.entry_bytes-bytes.ensures.so

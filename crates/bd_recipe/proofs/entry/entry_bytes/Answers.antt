@@ -1,0 +1,7 @@
+use Rattle.std.proofs.Common.{◌∙◌, arith}
+use Rattle.bd_model.specs.Records.{spelled_entry}
+use Rattle.bd_recipe.proofs.Spelling.{overwritten_whole}
+use Rattle.bd_recipe.proofs.entry.entry_bytes.Goals as goal
+
+pub returns-clause-so : goal.returns-clause-so
+returns-clause-so c = c.put_entry.ensures.written ∙ overwritten_whole _ (spelled_entry c.args.entry.now) c.put_entry.ensures.sized
