@@ -25,7 +25,7 @@ use Rattle.bd_intake.specs.Firsts.{cut_in, extents_of, new_by_mark}
 use Rattle.bd_intake.specs.Given.{Given}
 use Rattle.bd_intake.specs.Needs.{RefusesChunks}
 use Rattle.bd_intake.specs.Places.{InOneOf}
-use Rattle.bd_intake.specs.Staging.{Goes, Grows, HasTaken, HasWritten, IsFed, IsStaging, staged_extents}
+use Rattle.bd_intake.specs.Staging.{Goes, Grows, HasPut, HasTaken, IsFed, IsStaging, staged_extents}
 use Rattle.bd_intake.proofs.Firsts.{counted-first}
 use Rattle.bd_intake.proofs.Growing.{grows_none, grows_both}
 
@@ -54,6 +54,11 @@ module _ (s : Sizes) {space one : Allotment} {a b : Staging} (grows : Grows spac
   pub writes_on : {x y z : D} → Writes g (InOneOf s (staged_extents a)) x y → Writes g (InOneOf s (staged_extents b)) y z → Writes g (InOneOf s (staged_extents b)) x z
   writes_on first next = both_writes (wider first) next
 
+-- what is put changes no extents
+pub writes_after : (s : Sizes) (a b : Staging) → b ≡ record a { records = b.records; entries = b.entries } → {D : Type 0} {g : Ghosts D} {x y z : D} →
+    Writes g (InOneOf s (staged_extents a)) x y → Writes g (InOneOf s (staged_extents a)) y z → Writes g (InOneOf s (staged_extents b)) x z
+writes_after s a b same {D} {g} {x} {y} {z} first next = subst (λ (d : Staging). Writes g (InOneOf s (staged_extents d)) x z) (sym same) (both_writes first next)
+
 -- ---- the loop
 
 pub record Drains (t : Given) (told : Type 0) (space space_now : Allotment) (a b : Staging) (c d : Chunking) (old new : List ℕ) : Type 0 where
@@ -69,7 +74,7 @@ drains_none t told space a c image staging fed = record {
   fed = fed;
   finished = refl;
   grows = grows_none space a a refl refl;
-  goes = λ stream taken is has. record { all = taken; fed = is; has = has; written = λ t wrote. wrote; ended = λ none. absurd none };
+  goes = λ stream taken is has. record { all = taken; fed = is; has = has; put = λ t was. was; ended = λ none. absurd none };
 }
 
 -- what holds of one chunk that was taken
@@ -79,7 +84,7 @@ pub record TakesOne (t : Given) (told : Type 0) (body : List ℕ) (space space_n
   pub grows : Grows space space_now a b
   pub fed : (stream : List ℕ) (taken : List (List ℕ)) → HasFed (cut_in t.sizes) stream taken c → HasFed (cut_in t.sizes) stream (taken ++ body ∷ []) d
   pub has : (taken : List (List ℕ)) → HasTaken t taken a → HasTaken t (taken ++ body ∷ []) b
-  pub written : told → (taken : List (List ℕ)) → HasTaken t taken a → HasWritten t taken a old → HasWritten t (taken ++ body ∷ []) b new
+  pub put : told → (taken : List (List ℕ)) → HasTaken t taken a → HasPut t taken a old → HasPut t (taken ++ body ∷ []) b new
 
 pub drains_one : (t : Given) (told : Type 0) (body : List ℕ) (space one two : Allotment) (a b e : Staging) (c d f : Chunking) (x y z : List ℕ) →
     Drains t told space one a b c d x y → TakesOne t told body one two b e d f y z → Drains t told space two a e c f x z
@@ -94,7 +99,7 @@ drains_one t told body space one two a b e c d f x y z so_far next = record {
         all = before.all ++ body ∷ [];
         fed = next.fed stream before.all before.fed;
         has = next.has before.all before.has;
-        written = λ t wrote. next.written t before.all before.has (before.written t wrote);
+        put = λ t was. next.put t before.all before.has (before.put t was);
         ended = λ none. absurd none;
       };
 }

@@ -45,8 +45,9 @@ use Rattle.bd_intake.specs.Firsts.{cut_in, first_by_mark, new_by_mark}
 use Rattle.bd_intake.specs.Given.{Given, given}
 use Rattle.bd_intake.specs.Needs.{Needs, RefusesChunks, need_in}
 use Rattle.bd_intake.specs.Places.{InOneOf, InFree}
+use Rattle.bd_intake.specs.Putting.{Held, IsPut, put_count}
 use Rattle.bd_intake.specs.Spaces.{Owns}
-use Rattle.bd_intake.specs.Staging.{Goes, HasTaken, HasExtents, HasWritten, IsStaging}
+use Rattle.bd_intake.specs.Staging.{Goes, HasPut, HasTaken, HasExtents, HasWritten, IsStaging}
 use Rattle.bd_intake.proofs.Draining.{fits_so_far}
 use Rattle.bd_intake.proofs.Firsts.{counted-whole}
 use Rattle.bd_catalog.proofs.Fitting.{VersionFacts, FreshFacts, no_category, one_category, fits_backup}
@@ -70,7 +71,7 @@ whole_stream t c d e a b told old new files_told files name filled fed over goes
     let all : end.all ≡ chunks (cut_in t.sizes) stream = end.ended over ∙ ap (chunks (cut_in t.sizes)) (filled.whole tells stream holds) in
     record {
       has = subst (λ cs. HasTaken t cs b) all end.has;
-      written = λ d. subst (λ cs. HasWritten t cs b new) all (end.written d (filled.written d));
+      put = λ d. subst (λ cs. HasPut t cs b new) all (end.put d (filled.put d));
     }
 
 -- and a refusal of its last chunks is one of the version
@@ -96,14 +97,17 @@ files_read r there leaves = record { targets = leaves.targets; strays = leaves.s
 
 -- ---- the beginning
 
+abbrev pub none_put : Held
+none_put = record { held = []; written = 0 }
+
 -- nothing is staged yet
 pub first_owns : (base : List ℕ) (space : Allotment) (a : Staging) → a.recipe.numbers ≡ [] → a.fresh.numbers ≡ [] → TakenExactly space base → Owns base space space a.recipe.numbers a.fresh.numbers
 first_owns base space a recipe fresh exact =
     subst (λ xs. Owns base space space xs a.fresh.numbers) (sym recipe) (subst (λ xs. Owns base space space [] xs) (sym fresh) (owns_nothing base space exact))
 
-pub begin_staging : (t : Given) (base : List ℕ) (space : Allotment) (a : Staging) → 1 ≤ t.sizes.extent → HasTaken t [] a → a.recipe.numbers ≡ [] → a.fresh.numbers ≡ [] →
+pub begin_staging : (t : Given) (base : List ℕ) (space : Allotment) (a : Staging) → 1 ≤ t.sizes.extent → HasTaken t [] a → a.recipe.numbers ≡ [] → a.fresh.numbers ≡ [] → a.entries ≡ none_put → a.records ≡ none_put →
     TakenExactly space base → extent_count space ≡ t.sizes.extents → t.free ≡ free_count space → IsStaging t space a
-begin_staging t base space a some has recipe fresh exact count left =
+begin_staging t base space a some has recipe fresh entries records exact count left =
     record {
       taken = [];
       has = has;
@@ -111,12 +115,26 @@ begin_staging t base space a some has recipe fresh exact count left =
         recipe = ap length recipe ∙ sym (up-zero t.sizes.extent some) ∙ ap (λ n. up t.sizes.extent (40 * n)) (sym has.chunk_count);
         fresh = ap length fresh ∙ sym (up-zero t.sizes.extent some) ∙ ap (up t.sizes.extent) (sym has.record_bytes_is);
       };
+      put = record {
+        entries = ap put_count entries ∙ ap (λ n. 40 * n) (sym has.chunk_count);
+        records = ap put_count records ∙ sym has.record_bytes_is;
+      };
       base = base;
       first = space;
       owns = first_owns base space a recipe fresh exact;
       count = count;
       left = sym left;
     }
+
+-- nothing was put
+nothing_put : (s : Sizes) (extents : List ℕ) (p : Held) (image : List ℕ) → p ≡ none_put → IsPut s extents p [] image
+nothing_put s extents p image none = subst (λ q. IsPut s extents q [] image) (sym none) (record { first = []; so = refl; count = refl; begins = record { front = refl } })
+
+pub begin_put : (t : Given) (a : Staging) (image : List ℕ) → a.entries ≡ none_put → a.records ≡ none_put → HasPut t [] a image
+begin_put t a image entries records = record {
+  recipe = nothing_put t.sizes a.recipe.numbers a.entries image entries;
+  fresh = nothing_put t.sizes a.fresh.numbers a.records image records;
+}
 
 -- ---- where it was written
 

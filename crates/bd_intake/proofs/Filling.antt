@@ -48,7 +48,7 @@ piece_is r held piece small short is = take_all r piece (omega (arith, is))
 
 -- a chunker that goes on, though its stream isn't over
 pub goes_on : (over : Type 0) (t : Given) (stream : List ℕ) (taken : List (List ℕ)) (c : Chunking) (a b : Staging) (told : Type 0) (old new : List ℕ) → Goes over t stream taken c a b told old new → Goes ⊥ t stream taken c a b told old new
-goes_on over t stream taken c a b told old new goes = record { all = goes.all; fed = goes.fed; has = goes.has; written = goes.written; ended = λ none. absurd none }
+goes_on over t stream taken c a b told old new goes = record { all = goes.all; fed = goes.fed; has = goes.has; put = goes.put; ended = λ none. absurd none }
 
 pub fills_more : (t : Given) (at room n : ℕ) (told files_told : Type 0) (c e : Chunking) (a b : Staging) (old new : List ℕ) (files : FileMap) (name into piece : List ℕ) →
     Fills t at c a told old files_told files name → n ≤ length into → (files_told → Fetches files name at room n into) → piece ≡ take n into →
@@ -62,7 +62,7 @@ fills_more t at room n told files_told c e a b old new files name into piece bef
       size = omega (arith, length-append before.front piece, before.size, ap length is, length-take n into, within);
       fed = after.fed;
       has = after.has;
-      written = λ d. after.written d (before.written d);
+      put = λ d. after.put d (before.put d);
       is_front = subst (λ p. IsFront files_told files name (before.front ++ p)) (sym is) (front_more files_told files name before.front into at room n before.size within fetched before.is_front);
     }
 
@@ -105,6 +105,6 @@ filled_all t at c a told image files_told files name fills ended = record {
   taken = fills.taken;
   fed = fills.fed;
   has = fills.has;
-  written = fills.written;
+  put = fills.put;
   whole = λ f bytes holds. fills.is_front.so f bytes holds ∙ take_all (length fills.front) bytes (omega (arith, ended f bytes holds, fills.size));
 }

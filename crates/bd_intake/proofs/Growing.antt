@@ -17,19 +17,19 @@ use Rattle.bd_model.specs.declared.layout.RecipeEntry.{RecipeEntry}
 use Rattle.bd_model.proofs.RoomLemmas.{up-enough}
 use Rattle.bd_space.specs.Allotment.{Allotment}
 use Rattle.bd_space.specs.Holding.{Holding}
+use Rattle.bd_extio.specs.Ranges.{IsWithin}
 use Rattle.bd_extio.proofs.Places.{range_small}
-use Rattle.bd_catalog.specs.Standing.{BeginWith}
 use Rattle.bd_intake.specs.declared.staging.Staging.{Staging}
 use Rattle.bd_intake.specs.declared.terms.Terms.{Terms}
 use Rattle.bd_intake.specs.Firsts.{first_by_mark, new_by_mark, is_marked, knows, with_new, extents_of}
 use Rattle.bd_intake.specs.Given.{Given, given}
 use Rattle.bd_intake.specs.Places.{AreApart}
+use Rattle.bd_intake.specs.Putting.{Held, put_count}
 use Rattle.bd_intake.specs.Seen.{AreUsed}
 use Rattle.bd_intake.specs.Spaces.{Adds, Owns}
 use Rattle.bd_intake.specs.Staging.{HasTaken, HasExtents, IsStaging, Grows}
 use Rattle.bd_intake.proofs.Firsts.{new_by_mark-push, is_marked-push}
 use Rattle.bd_intake.proofs.Owning.{owns_fresh, owns_recipe, owns_apart}
-use Rattle.bd_intake.proofs.Writing.{begins_longer}
 
 -- ---- extents
 
@@ -63,6 +63,10 @@ grows_both {space} {one} {two} {a} {b} {d} f g = record {
   fresh = (f.fresh.0 ++ g.fresh.0, g.fresh.1 ∙ ap (λ xs. xs ++ g.fresh.0) f.fresh.1 ∙ append_assoc a.fresh.numbers f.fresh.0 g.fresh.0);
   owners = λ base first owns. g.owners base first (f.owners base first owns);
 }
+
+-- what is put changes no extents
+pub grows_still : {space one : Allotment} {a b d : Staging} → d ≡ record b { records = d.records; entries = d.entries } → Grows space one a b → Grows space one a d
+grows_still {space} {one} {a} {b} {d} same grows = grows_both grows (grows_none one b d (ap (λ (x : Staging). x.recipe) same) (ap (λ (x : Staging). x.fresh) same))
 
 -- ---- numbers
 
@@ -125,6 +129,44 @@ module _ (terms : Terms) (staging : Staging) where
   pub staging_is_small : (space : Allotment) → IsStaging (given terms) space staging → IsSmall staging
   staging_is_small space is =
       staging_small is.taken is.has is.extents (owns_apart s is.base is.first space staging.recipe.numbers staging.fresh.numbers is.count is.owns)
+
+-- what is put of them changes no number of what is taken
+pub taken_still : (t : Given) (taken : List (List ℕ)) (a : Staging) (records entries : Held) → HasTaken t taken a → HasTaken t taken (record a { records = records; entries = entries })
+taken_still t taken a records entries has = record {
+  each = has.each;
+  known = has.known;
+  used = has.used;
+  chunk_count = has.chunk_count;
+  stream_bytes = has.stream_bytes;
+  fresh_count = has.fresh_count;
+  record_bytes_is = has.record_bytes_is;
+}
+
+-- what is held has room behind what is written
+pub held_within : (terms : Terms) (space : Allotment) (a : Staging) → IsStaging (given terms) space a →
+    IsWithin (sizes_of terms.shape) a.recipe.numbers a.entries.written (length a.entries.held) × IsWithin (sizes_of terms.shape) a.fresh.numbers a.records.written (length a.records.held)
+held_within terms space a is =
+    let s = sizes_of terms.shape in
+    let some : 1 ≤ s.extent = omega (arith, terms.shape.in_range.extent_low) in (
+      omega (arith, is.put.entries, up-enough s.extent (40 * a.chunks) (length a.recipe.numbers) some is.extents.recipe),
+      omega (arith, is.put.records, up-enough s.extent a.fresh_bytes (length a.fresh.numbers) some is.extents.fresh),
+    )
+
+-- writing what is held changes nothing else
+pub staging_still : (t : Given) (space : Allotment) (a b : Staging) → IsStaging t space a → b ≡ record a { records = b.records; entries = b.entries } → put_count b.records ≡ put_count a.records → put_count b.entries ≡ put_count a.entries → IsStaging t space b
+staging_still t space a b is same records entries =
+    subst (IsStaging t space) (sym same)
+    (record {
+      taken = is.taken;
+      has = taken_still t is.taken a b.records b.entries is.has;
+      extents = record { recipe = is.extents.recipe; fresh = is.extents.fresh };
+      put = record { entries = entries ∙ is.put.entries; records = records ∙ is.put.records };
+      base = is.base;
+      first = is.first;
+      owns = is.owns;
+      count = is.count;
+      left = is.left;
+    })
 
 -- ---- one chunk more
 
@@ -191,10 +233,6 @@ extents-after t taken old body is_new has is =
     omega (arith, has.record_bytes_is, ap record_bytes news, bytes-with_new is_new body (new_by_mark t.old taken)) in
     let count : old.chunks + 1 ≡ length (taken ++ body ∷ []) = omega (arith, has.chunk_count, length-append taken (body ∷ [])) in
     λ k. up t.sizes.extent (bytes k) + up t.sizes.extent (40 * count k)
-
--- what was written before stays in longer lists of extents
-pub longer : (s : Sizes) (more before after bytes image : List ℕ) → after ≡ before ++ more → BeginWith s before bytes image → BeginWith s after bytes image
-longer s more before after bytes image so begins = subst (λ xs. BeginWith s xs bytes image) (sym so) (begins_longer s before more bytes image begins)
 
 pub as_number : (b : Bool) → bool_byte b ≡ cond b 1 0
 as_number true = refl

@@ -1,5 +1,5 @@
 -- What is written for a chunk, and what stays.
-use Rattle.std.proofs.Common.{◌≡◌, ℕ, ◌+◌, ◌*◌, ◌/◌, ◌%◌, ◌≤◌, List, [], ◌∷◌, ◌++◌, length, take, get_or, refl, sym, ◌∙◌, ap, subst, arith, length-append, length-take}
+use Rattle.std.proofs.Common.{◌≡◌, ℕ, ◌+◌, ◌*◌, ◌/◌, ◌%◌, ◌≤◌, List, [], ◌∷◌, ◌++◌, length, take, get_or, sym, ◌∙◌, ap, subst, arith, length-append, length-take}
 use Rattle.std.specs.Prelude.{Contains}
 use Rattle.std.proofs.lemmas.List.{append-nil, take-append-le, map-append}
 use Rattle.std.proofs.lemmas.Grind.{flat_map-append}
@@ -13,33 +13,18 @@ use Rattle.bd_disk.proofs.Frames.{same_contents}
 use Rattle.bd_disk.proofs.RunLemmas.{wider_writes, written}
 use Rattle.bd_model.specs.Extents.{owner_bytes, extent_bytes}
 use Rattle.bd_model.specs.Laws.{entries_in}
-use Rattle.bd_model.specs.Marks.{mark}
-use Rattle.bd_model.specs.Records.{four, record_of, records_of, spelled_entry, spelled_recipe}
 use Rattle.bd_model.specs.Sizes.{Sizes, extent_place, disk_bytes}
 use Rattle.bd_model.specs.declared.layout.RecipeEntry.{RecipeEntry}
-use Rattle.bd_model.specs.declared.mark.Mark.{Mark}
-use Rattle.bd_model.proofs.RecordLemmas.{length-mark, length-record, length-spelled_entry}
-use Rattle.bd_category.specs.Records.{record_with}
 use Rattle.bd_extio.specs.Ranges.{AreExtents, InOwner}
 use Rattle.bd_extio.proofs.Places.{length-owner_bytes}
 use Rattle.bd_catalog.specs.Standing.{BeginWith}
 use Rattle.bd_catalog.specs.Agreement.{InExtents}
 use Rattle.bd_catalog.proofs.Agreeing.{in_extents, owners_apart, begin_with_agrees, begin_with_more}
-use Rattle.bd_intake.specs.Places.{BeginsOn, InOneOf}
+use Rattle.bd_intake.specs.Places.{InOneOf}
+use Rattle.bd_intake.specs.Putting.{Held, IsPut, IsPutOn, put_count}
 use Rattle.bd_intake.proofs.Firsts.{entry}
 
 -- ---- the bytes of chunks
-
-records-push : (cs : List (List ℕ)) (c : List ℕ) → records_of (cs ++ c ∷ []) ≡ records_of cs ++ record_of c
-records-push cs c = flat_map-append record_of cs (c ∷ []) ∙ ap (λ xs. records_of cs ++ xs) (append-nil (record_of c))
-
-pub length-entries : (old : List RecipeEntry) (v : ℕ) (cs : List (List ℕ)) → length (spelled_recipe (entries_in old v cs)) ≡ 40 * length cs
-length-entries old v [] = refl
-length-entries old v (c ∷ cs) =
-    omega (arith, length-append (spelled_entry (entry old v c)) (spelled_recipe (entries_in old v cs)), length-spelled_entry (entry old v c) (length-mark c), length-entries old v cs)
-
-entries-push : (es : List RecipeEntry) (e : RecipeEntry) → spelled_recipe (es ++ e ∷ []) ≡ spelled_recipe es ++ spelled_entry e
-entries-push es e = flat_map-append spelled_entry es (e ∷ []) ∙ ap (λ xs. spelled_recipe es ++ xs) (append-nil (spelled_entry e))
 
 -- the recipe of one chunk more
 pub entries-more : (old : List RecipeEntry) (v : ℕ) (cs : List (List ℕ)) (c : List ℕ) → entries_in old v (cs ++ c ∷ []) ≡ entries_in old v cs ++ entry old v c ∷ []
@@ -61,23 +46,22 @@ module _ (s : Sizes) (extents : List ℕ) (some : 1 ≤ s.extent) where
     sized : length (owner_bytes s extents old) ≡ length extents * s.extent
     sized = length-owner_bytes s extents some are.below old room
 
-    pub record_written : (firsts : List (List ℕ)) (own : Mark) (body : List ℕ) (at : ℕ) → own.0 ≡ mark body → length (records_of firsts) ≡ at → at + (36 + length body) ≤ length extents * s.extent →
-        owner_bytes s extents new ≡ overwritten (owner_bytes s extents old) at (record_with own body) →
-        BeginWith s extents (records_of firsts) old → BeginWith s extents (records_of (firsts ++ body ∷ [])) new
-    record_written firsts own body at marked long fits is begins =
-        let whole : owner_bytes s extents new ≡ overwritten (owner_bytes s extents old) (length (records_of firsts)) (record_of body) =
-        is ∙ (λ k. overwritten (owner_bytes s extents old) (sym long k) (four (length body) ++ marked k ++ body)) in
-        subst (λ bytes. BeginWith s extents bytes new) (sym (records-push firsts body))
-        (begin_with_more s extents (records_of firsts) (record_of body) old new begins (omega (arith, long, length-record body, fits, sized)) whole)
+    -- what is held was written behind the first bytes
+    pub written_out : (p q : Held) (bytes : List ℕ) → p.written + length p.held ≤ length extents * s.extent → owner_bytes s extents new ≡ overwritten (owner_bytes s extents old) p.written p.held →
+        q.held ≡ [] → q.written ≡ put_count p → IsPut s extents p bytes old → IsPut s extents q bytes new
+    written_out p q bytes fits is none count before =
+        let whole : owner_bytes s extents new ≡ overwritten (owner_bytes s extents old) (length before.first) p.held = is ∙ (λ k. overwritten (owner_bytes s extents old) (sym before.count k) p.held) in
+        record {
+          first = bytes;
+          so = sym (ap (λ xs. bytes ++ xs) none ∙ append-nil bytes);
+          count = omega (arith, ap length before.so, length-append before.first p.held, before.count, count);
+          begins = subst (λ xs. BeginWith s extents xs new) (sym before.so) (begin_with_more s extents before.first p.held old new before.begins (omega (arith, before.count, fits, sized)) whole);
+        }
 
-    pub entry_written : (es : List RecipeEntry) (e : RecipeEntry) (at : ℕ) → length e.mark.0 ≡ 32 → length (spelled_recipe es) ≡ at → at + 40 ≤ length extents * s.extent →
-        owner_bytes s extents new ≡ overwritten (owner_bytes s extents old) at (spelled_entry e) →
-        BeginWith s extents (spelled_recipe es) old → BeginWith s extents (spelled_recipe (es ++ e ∷ [])) new
-    entry_written es e at marked long fits is begins =
-        let front = spelled_recipe es in
-        let whole : owner_bytes s extents new ≡ overwritten (owner_bytes s extents old) (length front) (spelled_entry e) = is ∙ (λ k. overwritten (owner_bytes s extents old) (sym long k) (spelled_entry e)) in
-        subst (λ bytes. BeginWith s extents bytes new) (sym (entries-push es e))
-        (begin_with_more s extents front (spelled_entry e) old new begins (omega (arith, long, length-spelled_entry e marked, fits, sized)) whole)
+-- where nothing is held, all that was put is written
+pub all_written : (s : Sizes) (extents : List ℕ) (p : Held) (bytes image : List ℕ) → p.held ≡ [] → IsPut s extents p bytes image → BeginWith s extents bytes image
+all_written s extents p bytes image none before =
+    subst (λ xs. BeginWith s extents xs image) (sym (before.so ∙ ap (λ xs. before.first ++ xs) none ∙ append-nil before.first)) before.begins
 
 -- ---- two owners
 
@@ -88,8 +72,8 @@ pub other_writes : (s : Sizes) (extents more : List ℕ) {D : Type 0} {g : Ghost
 other_writes s extents more writes = wider_writes _ (λ place r. record { extent = r.extent; among = Contains-append_right extents more r.extent r.among; within = r.within }) writes
 
 -- what one owner's bytes begin with stays while another's are written
-pub still_begins : (s : Sizes) (extents others bytes : List ℕ) → ((e : ℕ) → Contains extents e → Contains others e → ⊥) → {D : Type 0} {g : Ghosts D} {a b : D} → Writes g (InOneOf s others) a b → g.tells →
-    BeginsOn g s extents bytes a → BeginsOn g s extents bytes b
+still_begins : (s : Sizes) (extents others bytes : List ℕ) → ((e : ℕ) → Contains extents e → Contains others e → ⊥) → {D : Type 0} {g : Ghosts D} {a b : D} → Writes g (InOneOf s others) a b → g.tells →
+    BeginWith s extents bytes (contents (g.history a)) → BeginWith s extents bytes (contents (g.history b))
 still_begins s extents others bytes apart {D} {g} {a} {b} writes told begins =
     begin_with_agrees s extents bytes (contents (g.history a)) (contents (g.history b))
     (agree_fewer (λ place. InOneOf s others place → ⊥) (InExtents s extents) (contents (g.history a)) (contents (g.history b))
@@ -97,8 +81,14 @@ still_begins s extents others bytes apart {D} {g} {a} {b} writes told begins =
     (same_contents (written writes told)))
     begins
 
+-- and so does what was put
+pub still_put : (s : Sizes) (extents others : List ℕ) (p : Held) (bytes : List ℕ) → ((e : ℕ) → Contains extents e → Contains others e → ⊥) → {D : Type 0} {g : Ghosts D} {a b : D} → Writes g (InOneOf s others) a b → g.tells →
+    IsPutOn g s extents p bytes a → IsPutOn g s extents p bytes b
+still_put s extents others p bytes apart writes told before =
+    record { first = before.first; so = before.so; count = before.count; begins = still_begins s extents others before.first apart writes told before.begins }
+
 -- and while more extents follow
-pub begins_longer : (s : Sizes) (extents more bytes image : List ℕ) → BeginWith s extents bytes image → BeginWith s (extents ++ more) bytes image
+begins_longer : (s : Sizes) (extents more bytes image : List ℕ) → BeginWith s extents bytes image → BeginWith s (extents ++ more) bytes image
 begins_longer s extents more bytes image begins =
     let first = owner_bytes s extents image in
     let fits : length bytes ≤ length first = omega (arith, length-take (length bytes) first, ap length begins.front) in
@@ -106,3 +96,7 @@ begins_longer s extents more bytes image begins =
       front = ap (take (length bytes)) (flat_map-append (extent_bytes s image) extents more)
           ∙ take-append-le (length bytes) first (owner_bytes s more image) fits ∙ begins.front;
     }
+
+pub put_longer : (s : Sizes) (more before after : List ℕ) (p : Held) (bytes image : List ℕ) → after ≡ before ++ more → IsPut s before p bytes image → IsPut s after p bytes image
+put_longer s more before after p bytes image so was =
+    record { first = was.first; so = was.so; count = was.count; begins = subst (λ xs. BeginWith s xs was.first image) (sym so) (begins_longer s before more was.first image was.begins) }

@@ -11,20 +11,20 @@ use Rattle.bd_intake.specs.declared.staging.Staging.{Staging}
 use Rattle.bd_intake.specs.Causes.{MissesSource}
 use Rattle.bd_intake.specs.Firsts.{cut_in}
 use Rattle.bd_intake.specs.Given.{Given}
-use Rattle.bd_intake.specs.Staging.{HasTaken, HasWritten}
+use Rattle.bd_intake.specs.Staging.{HasPut, HasTaken}
 
 -- the first bytes of a file, where files tell them
 pub record IsFront (told : Type 0) (files : FileMap) (name : List ℕ) (front : List ℕ) : Type 0 where
   pub so : told → (stream : List ℕ) → Holds files name stream → front ≡ take (length front) stream
 
--- so many bytes came, the first of the source; the chunker was fed them, and the chunks that it gave are taken and written
+-- so many bytes came, the first of the source; the chunker was fed them, and the chunks that it gave are taken and put
 pub record Fills (t : Given) (at : ℕ) (c : Chunking) (staging : Staging) (told : Type 0) (image : List ℕ) (files_told : Type 0) (files : FileMap) (name : List ℕ) : Type 0 where
   pub front : List ℕ
   pub taken : List (List ℕ)
   pub size : length front ≡ at
   pub fed : HasFed (cut_in t.sizes) front taken c
   pub has : HasTaken t taken staging
-  pub written : told → HasWritten t taken staging image
+  pub put : told → HasPut t taken staging image
   pub is_front : IsFront files_told files name front
 
 -- the whole source has come
@@ -33,13 +33,13 @@ pub record Filled (t : Given) (c : Chunking) (staging : Staging) (told : Type 0)
   pub taken : List (List ℕ)
   pub fed : HasFed (cut_in t.sizes) stream taken c
   pub has : HasTaken t taken staging
-  pub written : told → HasWritten t taken staging image
+  pub put : told → HasPut t taken staging image
   pub whole : files_told → (bytes : List ℕ) → Holds files name bytes → stream ≡ bytes
 
--- the chunks of the stream are taken and written
+-- the chunks of the stream are taken and put
 pub record HasStream (t : Given) (stream : List ℕ) (staging : Staging) (told : Type 0) (image : List ℕ) : Type 0 where
   pub has : HasTaken t (chunks (cut_in t.sizes) stream) staging
-  pub written : told → HasWritten t (chunks (cut_in t.sizes) stream) staging image
+  pub put : told → HasPut t (chunks (cut_in t.sizes) stream) staging image
 
 -- the count of missing sources never falls, and rises only where nothing is under the name
 pub record CountsMissing (files : FileMap) (name : List ℕ) (before now : ℕ) : Type 0 where

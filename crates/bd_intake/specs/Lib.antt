@@ -5,6 +5,7 @@ pub mod Firsts
 pub mod Given
 pub mod Needs
 pub mod Places
+pub mod Putting
 pub mod Seen
 pub mod Spaces
 pub mod Staging

@@ -17,6 +17,7 @@ use Rattle.bd_catalog.specs.Standing.{BeginWith}
 use Rattle.bd_intake.specs.declared.staging.Staging.{Staging}
 use Rattle.bd_intake.specs.Firsts.{cut_in, new_by_mark, is_marked, knows}
 use Rattle.bd_intake.specs.Given.{Given}
+use Rattle.bd_intake.specs.Putting.{IsPut, put_count}
 use Rattle.bd_intake.specs.Seen.{AreUsed}
 use Rattle.bd_intake.specs.Spaces.{Owns}
 
@@ -35,26 +36,42 @@ pub record HasExtents (s : Sizes) (staging : Staging) : Type 0 where
   pub recipe : length staging.recipe.numbers ≡ up s.extent (40 * staging.chunks)
   pub fresh : length staging.fresh.numbers ≡ up s.extent staging.fresh_bytes
 
+-- as many bytes were put as the records and the entries take
+pub record HasCounted (staging : Staging) : Type 0 where
+  pub entries : put_count staging.entries ≡ 40 * staging.chunks
+  pub records : put_count staging.records ≡ staging.fresh_bytes
+
 -- some chunks are staged in extents of this space, of which so many were free before
 pub record IsStaging (t : Given) (space : Allotment) (staging : Staging) : Type 0 where
   pub taken : List (List ℕ)
   pub has : HasTaken t taken staging
   pub extents : HasExtents t.sizes staging
+  pub put : HasCounted staging
   pub base : List ℕ
   pub first : Allotment
   pub owns : Owns base first space staging.recipe.numbers staging.fresh.numbers
   pub count : extent_count first ≡ t.sizes.extents
   pub left : free_count first ≡ t.free
 
+-- the entries of these chunks were put, and the records of those that the version before lacks
+pub record HasPut (t : Given) (taken : List (List ℕ)) (staging : Staging) (image : List ℕ) : Type 0 where
+  pub recipe : IsPut t.sizes staging.recipe.numbers staging.entries (spelled_recipe (entries_in t.old t.version taken)) image
+  pub fresh : IsPut t.sizes staging.fresh.numbers staging.records (records_of (new_by_mark t.old taken)) image
+
 -- the extents begin with the entries of these chunks, and with the records of those that the version before lacks
 pub record HasWritten (t : Given) (taken : List (List ℕ)) (staging : Staging) (image : List ℕ) : Type 0 where
   pub recipe : BeginWith t.sizes staging.recipe.numbers (spelled_recipe (entries_in t.old t.version taken)) image
   pub fresh : BeginWith t.sizes staging.fresh.numbers (records_of (new_by_mark t.old taken)) image
 
--- where the disk tells, what is written of some chunks goes on with this one
-abbrev pub WritesChunk : {D : Type 0} → Ghosts D → Given → List ℕ → Staging → Staging → D → D → Type 0
-WritesChunk g t body before after old new =
-    g.tells → (taken : List (List ℕ)) → HasTaken t taken before → HasWritten t taken before (contents (g.history old)) → HasWritten t (taken ++ body ∷ []) after (contents (g.history new))
+-- where the disk tells and some chunks were put, this one is put behind them
+abbrev pub PutsChunk : {D : Type 0} → Ghosts D → Given → List ℕ → Staging → Staging → D → D → Type 0
+PutsChunk g t body before after old new =
+    g.tells → (taken : List (List ℕ)) → HasTaken t taken before → HasPut t taken before (contents (g.history old)) → HasPut t (taken ++ body ∷ []) after (contents (g.history new))
+
+-- where the disk tells, all that was put is written
+abbrev pub WritesOut : {D : Type 0} → Ghosts D → Sizes → Staging → Staging → D → D → Type 0
+WritesOut g s before after old new =
+    g.tells → (t : Given) (taken : List (List ℕ)) → t.sizes ≡ s → HasPut t taken before (contents (g.history old)) → HasWritten t taken after (contents (g.history new))
 
 -- the numbers of all extents that are staged
 abbrev pub staged_extents : Staging → List ℕ
@@ -72,11 +89,11 @@ pub record IsFed (s : Sizes) (c : Chunking) : Type 0 where
   pub taken : List (List ℕ)
   pub fed : HasFed (cut_in s) stream taken c
 
--- The chunker was fed this stream and gave these chunks, with those before among them, and they are all taken and written.
+-- The chunker was fed this stream and gave these chunks, with those before among them, and they are all taken and put.
 -- They are all chunks of the stream once it is over.
 pub record Goes (over : Type 0) (t : Given) (stream : List ℕ) (taken : List (List ℕ)) (c : Chunking) (before after : Staging) (told : Type 0) (old new : List ℕ) : Type 0 where
   pub all : List (List ℕ)
   pub fed : HasFed (cut_in t.sizes) stream all c
   pub has : HasTaken t all after
-  pub written : told → HasWritten t taken before old → HasWritten t all after new
+  pub put : told → HasPut t taken before old → HasPut t all after new
   pub ended : over → all ≡ chunks (cut_in t.sizes) stream

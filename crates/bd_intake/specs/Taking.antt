@@ -10,11 +10,10 @@ use Rattle.bd_model.specs.Chunks.{chunks}
 use Rattle.bd_intake.specs.declared.fault.IntakeFault.{IntakeFault}
 use Rattle.bd_intake.specs.declared.staging.Staging.{Staging}
 use Rattle.bd_intake.specs.Answers.{RefusesRoom}
-use Rattle.bd_intake.specs.Filling.{HasStream}
 use Rattle.bd_intake.specs.Firsts.{cut_in, extents_of}
 use Rattle.bd_intake.specs.Given.{Given}
 use Rattle.bd_intake.specs.Needs.{Needs, RefusesChunks}
-use Rattle.bd_intake.specs.Staging.{Goes, HasTaken}
+use Rattle.bd_intake.specs.Staging.{Goes, HasTaken, HasWritten}
 
 -- ---- one chunk
 
@@ -59,8 +58,8 @@ abbrev pub RefusesSource : {F T : Type 0} → FileGhosts F → List ℕ → F �
 RefusesSource g name files t held result =
     g.tells → (stream : List ℕ) → Holds (g.files files) name stream → IfErr result (RefusesChunks t (chunks (cut_in t.sizes) stream) held)
 
--- its chunks need so many extents, and are taken and written
+-- its chunks need so many extents, are taken, and written where the disk tells
 abbrev pub StagesSource : {D F : Type 0} → Ghosts D → D → FileGhosts F → List ℕ → F → Given → Staging → ℕ → Type 0
 StagesSource disk_ghosts disk g name files t staging need =
     g.tells → (stream : List ℕ) → Holds (g.files files) name stream →
-    Needs t (chunks (cut_in t.sizes) stream) need × HasStream t stream staging disk_ghosts.tells (contents (disk_ghosts.history disk))
+    Needs t (chunks (cut_in t.sizes) stream) need × HasTaken t (chunks (cut_in t.sizes) stream) staging × (disk_ghosts.tells → HasWritten t (chunks (cut_in t.sizes) stream) staging (contents (disk_ghosts.history disk)))

@@ -8,6 +8,7 @@ ghost use Rattle.bd_intake.specs.Given.{Given};
 ghost use Rattle.bd_intake.specs.Spaces.{IsOwned};
 ghost use Rattle.bd_intake.specs.Staging.{HasTaken};
 
+use crate::pending::Pending;
 use crate::seen::Seen;
 use crate::staged::Staged;
 use crate::staging::Staging;
@@ -21,13 +22,17 @@ pub(crate) fn nothing_staged(alloc: Global, entries: usize) -> Result<Staging, O
     ensures taken { IfOk result (λ staging. (t : Given) → length t.old ≡ entries → HasTaken t [] staging) }
     ensures recipe { IfOk result (λ staging. staging.recipe.numbers ≡ []) }
     ensures fresh { IfOk result (λ staging. staging.fresh.numbers ≡ []) }
+    ensures entries { IfOk result (λ staging. staging.entries ≡ record { held = []; written = 0 }) }
+    ensures records { IfOk result (λ staging. staging.records ≡ record { held = []; written = 0 }) }
 {
     Ok(Staging {
         seen: Seen::none(alloc, entries)?,
         fresh: Owned::none(alloc),
+        records: Pending::none(alloc)?,
         fresh_bytes: 0,
         fresh_chunks: 0,
         recipe: Owned::none(alloc),
+        entries: Pending::none(alloc)?,
         chunks: 0,
         length: 0,
     })
@@ -64,9 +69,11 @@ pub(crate) fn finished(staging: Staging, version: u32, need: u64) -> Staged
     let Staging {
         seen: _,
         fresh,
+        records: _,
         fresh_bytes,
         fresh_chunks,
         recipe,
+        entries: _,
         chunks,
         length,
     } = staging;
@@ -92,9 +99,11 @@ pub(crate) fn give_back(staging: Staging, space: &mut Space)
     let Staging {
         seen: _,
         fresh,
+        records: _,
         fresh_bytes: _,
         fresh_chunks: _,
         recipe,
+        entries: _,
         chunks: _,
         length: _,
     } = staging;

@@ -7,6 +7,7 @@ mod fault;
 mod finish;
 mod laws;
 mod need;
+mod pending;
 mod record;
 mod room;
 mod seen;

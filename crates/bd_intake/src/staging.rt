@@ -6,11 +6,12 @@ ghost use Rattle.bd_space.specs.Allotment.{held_count};
 ghost use Rattle.bd_intake.specs.Causes.{FailsByDisk};
 ghost use Rattle.bd_intake.specs.Given.{given};
 ghost use Rattle.bd_intake.specs.Places.{InOneOf};
-ghost use Rattle.bd_intake.specs.Staging.{Grows, IsStaging, WritesChunk, staged_extents};
+ghost use Rattle.bd_intake.specs.Staging.{Grows, IsStaging, PutsChunk, staged_extents};
 ghost use Rattle.bd_intake.specs.Taking.{RefusesChunk, TakesChunk};
 
 use crate::fault::IntakeFault;
-use crate::record::write_parts;
+use crate::pending::Pending;
+use crate::record::put_parts;
 use crate::room::make_room;
 use crate::seen::Seen;
 use crate::terms::Terms;
@@ -24,12 +25,14 @@ use bd_space::{Owned, Space};
 pub(crate) struct Staging {
     // the marks of the chunks that came
     pub(crate) seen: Seen,
-    // the extents of the records, and the bytes and the number of these
+    // the extents of the records, what was put of these, their bytes and their number
     pub(crate) fresh: Owned,
+    pub(crate) records: Pending,
     pub(crate) fresh_bytes: u64,
     pub(crate) fresh_chunks: u64,
-    // the extents of the recipe, the number of its entries, and the bytes of the stream so far
+    // the extents of the recipe, what was put of it, the number of its entries, and the bytes of the stream so far
     pub(crate) recipe: Owned,
+    pub(crate) entries: Pending,
     pub(crate) chunks: u64,
     pub(crate) length: u64,
 }
@@ -59,7 +62,7 @@ pub(crate) fn take_chunk<D: Disk>(
     ensures grows { Grows space.old space.new staging.old staging.new }
     ensures staging { OnOk result (IsStaging (given terms.now) space.new staging.new) }
     ensures taken { OnOk result (TakesChunk (given terms.now) body.now staging.old staging.new) }
-    ensures written { OnOk result (WritesChunk D.Disk (given terms.now) body.now staging.old staging.new disk.old disk.new) }
+    ensures put { OnOk result (PutsChunk D.Disk (given terms.now) body.now staging.old staging.new disk.old disk.new) }
     ensures refused { RefusesChunk (given terms.now) body.now staging.old (held_count space.old) result }
 {
     let own = mark_of(body);
@@ -71,7 +74,7 @@ pub(crate) fn take_chunk<D: Disk>(
         length: body.len() as u32,
         start: met.start,
     };
-    write_parts(disk, &terms.shape, staging, met.is_new, &entry, body)?;
+    put_parts(disk, &terms.shape, staging, met.is_new, &entry, body)?;
     staging.fresh_bytes = fresh_bytes;
     staging.fresh_chunks += u64::from(met.is_new);
     staging.chunks += 1;

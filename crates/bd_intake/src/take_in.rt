@@ -10,12 +10,13 @@ ghost use Rattle.bd_intake.specs.Causes.{FailsByCount};
 ghost use Rattle.bd_intake.specs.Filling.{LeavesFiles};
 ghost use Rattle.bd_intake.specs.Given.{FitsSums, given, IsRecipeOrNone};
 ghost use Rattle.bd_intake.specs.Places.{InFree, InOneOf};
-ghost use Rattle.bd_intake.specs.Staging.{Grows, HasTaken, IsStaging, staged_extents};
+ghost use Rattle.bd_intake.specs.Staging.{Grows, HasPut, HasTaken, IsStaging, staged_extents};
 ghost use Rattle.bd_intake.specs.Taking.{RefusesSource, StagesSource};
 
 use crate::fault::IntakeFault;
 use crate::finish::{finished, give_back, nothing_staged};
 use crate::need::whole_need;
+use crate::record::write_out;
 use crate::source::fill;
 use crate::staged::Staged;
 use crate::staging::Staging;
@@ -30,7 +31,7 @@ use bd_recipe::Neighbour;
 use bd_space::Space;
 use std::alloc::Global;
 
-// Stages the chunks of the source, and answers how many extents their version needs.
+// Stages the chunks of the source, and answers how many extents their version needs. What is held is written at the end.
 fn stage<D: Disk, F: Files>(
     alloc: Global,
     staging: &mut Staging,
@@ -43,6 +44,7 @@ fn stage<D: Disk, F: Files>(
     requires room { disk_bytes (sizes_of terms.now.shape) ≤ D.bytes disk.old }
     requires staging { IsStaging (given terms.now) space.old staging.old }
     requires taken { HasTaken (given terms.now) [] staging.old }
+    requires nothing { (image : List ℕ) → HasPut (given terms.now) [] staging.old image }
     requires sums { FitsSums terms.now.neighbour.now.entries }
     ensures disk { Writes D.Disk (InOneOf (sizes_of terms.now.shape) (staged_extents staging.new)) disk.old disk.new }
     ensures cause { FailsByCount (D.faults disk.old) (D.faults disk.new) (F.source_faults files.old) (F.source_faults files.new) result }
@@ -56,7 +58,9 @@ fn stage<D: Disk, F: Files>(
     fill(staging, &mut chunker, disk, space, terms, files, name)?;
     chunker.finish();
     take_chunks(staging, &mut chunker, disk, space, terms)?;
-    whole_need(alloc, staging, space, terms)
+    let need = whole_need(alloc, staging, space, terms)?;
+    write_out(disk, &terms.shape, staging)?;
+    Ok(need)
 }
 
 /// Takes in the stream under the name as the version after the newest: each chunk that the newest version lacks is stored

@@ -42,7 +42,7 @@ loop-len-preserved g c =
             grows = c.take_chunk-taken.ensures.grows;
             fed = advanced s c.loop-len.chunker c.next_length.new.self c.advance.new.self c.in-Some.len body c.chunk.ensures.bytes c.next_length.ensures.fed c.advance.ensures.taken;
             has = c.in_ok-taken.ensures.taken;
-            written = c.in_ok-taken.ensures.written;
+            put = c.in_ok-taken.ensures.put;
           });
     }
 
@@ -73,6 +73,6 @@ returns-clause-taken g c = λ stream taken fed has.
       all = goes.all;
       fed = c.next_length.ensures.fed (cut_in s) stream goes.all goes.fed;
       has = goes.has;
-      written = goes.written;
+      put = goes.put;
       ended = λ over. c.in_default.ensures.ended (drains.finished ∙ over) (cut_in s) stream goes.all goes.fed;
     }

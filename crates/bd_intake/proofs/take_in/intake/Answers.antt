@@ -14,7 +14,7 @@ use Rattle.bd_intake.specs.Answers.{HoldsVersion, IsVersion, RefusesVersion}
 use Rattle.bd_intake.specs.Firsts.{cut_in}
 use Rattle.bd_intake.specs.Given.{given, IsRecipeOrNone}
 use Rattle.bd_intake.specs.Places.{InFree}
-use Rattle.bd_intake.proofs.Ending.{begin_staging, entries_extents, first_owns, in_free, no_fresh, version_counted, version_fits, version_stored}
+use Rattle.bd_intake.proofs.Ending.{begin_put, begin_staging, entries_extents, first_owns, in_free, no_fresh, version_counted, version_fits, version_stored}
 use Rattle.bd_intake.proofs.Knowing.{recipe_fits}
 use Rattle.bd_intake.proofs.Owning.{owns_last}
 use Rattle.bd_intake.proofs.take_in.intake.Goals as goal
@@ -31,8 +31,13 @@ pub stage-requires-clause-staging : goal.stage-requires-clause-staging
 stage-requires-clause-staging g c =
     let terms : Terms = record { shape = c.shape.result; gear = c.args.gear; neighbour = c.args.neighbour; version = c.newest.result + 1; free = c.free.result } in
     begin_staging (given terms) (all_extents c.args.catalog.now.found.catalogue) c.args.space.now c.in_ok-staging.staging (omega (arith, c.shape.result.in_range.extent_low))
-    (c.in_ok-staging.ensures.taken (given terms) (sym (c.len.ensures ∙ ap length c.entries.ensures.entries))) c.in_ok-staging.ensures.recipe c.in_ok-staging.ensures.fresh c.requires.owners
+    (c.in_ok-staging.ensures.taken (given terms) (sym (c.len.ensures ∙ ap length c.entries.ensures.entries))) c.in_ok-staging.ensures.recipe c.in_ok-staging.ensures.fresh c.in_ok-staging.ensures.entries c.in_ok-staging.ensures.records c.requires.owners
     (c.requires.size ∙ ap (λ (s : Sizes). s.extents) (sym c.shape.ensures.sizes)) c.free.ensures
+
+pub stage-requires-clause-nothing : goal.stage-requires-clause-nothing
+stage-requires-clause-nothing g c = λ image.
+    let terms : Terms = record { shape = c.shape.result; gear = c.args.gear; neighbour = c.args.neighbour; version = c.newest.result + 1; free = c.free.result } in
+    begin_put (given terms) c.in_ok-staging.staging image c.in_ok-staging.ensures.entries c.in_ok-staging.ensures.records
 
 pub stage-requires-clause-sums : goal.stage-requires-clause-sums
 stage-requires-clause-sums g c =
@@ -121,7 +126,7 @@ returns-in-Ok-clause-counted g c = λ t stream holds.
     subst (λ z. IsVersion z old (found.catalogue.newest + 1) stream (chunks (cut_in z) stream) (free_count c.args.space.now) staged) c.shape.ensures.sizes
     (subst (λ n. IsVersion s old (n + 1) stream (chunks (cut_in s) stream) (free_count c.args.space.now) staged) c.newest.ensures
     (subst (λ n. IsVersion s old (c.newest.result + 1) stream (chunks (cut_in s) stream) n staged) c.free.ensures
-    (version_counted terms c.stage.new.space stream c.stage.new.staging staged c.in-Ok.need c.in-Ok.ensures.staging whole.1.has whole.0
+    (version_counted terms c.stage.new.space stream c.stage.new.staging staged c.in-Ok.need c.in-Ok.ensures.staging whole.1 whole.0
     c.finished.ensures.version c.finished.ensures.entries c.finished.ensures.extents c.finished.ensures.need)))
 
 pub returns-in-Ok-clause-stored : goal.returns-in-Ok-clause-stored
@@ -135,5 +140,5 @@ returns-in-Ok-clause-stored g c = λ told t stream holds.
     let whole = c.in-Ok.ensures.whole t stream holds in
     subst (λ z. HoldsVersion z old (found.catalogue.newest + 1) (chunks (cut_in z) stream) staged image) c.shape.ensures.sizes
     (subst (λ n. HoldsVersion s old (n + 1) (chunks (cut_in s) stream) staged image) c.newest.ensures
-    (version_stored (given terms) (chunks (cut_in s) stream) c.stage.new.staging staged image (whole.1.written told)
+    (version_stored (given terms) (chunks (cut_in s) stream) c.stage.new.staging staged image (whole.2 told)
     c.finished.ensures.version c.finished.ensures.extents))
