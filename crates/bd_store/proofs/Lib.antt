@@ -11,3 +11,8 @@ pub mod Asking
 pub mod BackingUp
 pub mod Giving
 pub mod Unnamed
+pub mod Nearing
+pub mod Ending
+pub mod Behind
+pub mod Unready
+pub mod Following

@@ -1,8 +1,9 @@
 -- A command that makes the store ready first, and what it does then.
-use Rattle.std.specs.Prelude.{◌≡◌, ◌↔◌, ◌⊎◌, ◌≤◌, ℕ, true, false, List, [], Result, Ok, Err}
+use Rattle.std.specs.Prelude.{◌≡◌, ◌↔◌, true, false, [], Result, Ok, Err}
 use Rattle.bd_disk.specs.Calls.{FailsByCount}
+use Rattle.bd_disk.specs.History.{History}
 use Rattle.bd_disk.specs.Looks.{LooksOnlyAt}
-use Rattle.bd_disk.specs.Made.{WritesOnly}
+use Rattle.bd_disk.specs.Made.{WritesNothing, WritesOnly}
 use Rattle.bd_disk.specs.Trace.{ReadsOnly}
 use Rattle.bd_model.specs.declared.answer.Answer.{Answer}
 use Rattle.bd_model.specs.declared.answer.Answer.TheVariants.{Arranged, BackedUp, Expired, FullExtents}
@@ -67,9 +68,14 @@ EndsReady (Err DiskFault) = Unit {0}
 EndsReady (Err OutOfMemory) = Unit {0}
 EndsReady (Err fault) = ⊥
 
+-- an arranging has nothing left to write
+abbrev pub WritesReady : Found → Command → History → History → Type 0
+WritesReady found Reorganise old new = WritesNothing old new
+WritesReady found command old new = WritesOnly (IsBeside found) old new
+
 pub record FollowsOnDisk (a : Attempt) : Type 0 where
   pub agrees : a.after.store.worn ≡ false → Agrees a.after.store.found a.after.disk
-  pub writes : WritesOnly (IsBeside a.before.store.found) a.before.disk a.after.disk
+  pub writes : WritesReady a.before.store.found a.command a.before.disk a.after.disk
   pub reads : ReadsOnly [] a.before.disk a.after.disk
 
 pub record FollowsOnBoth (a : Attempt) : Type 0 where

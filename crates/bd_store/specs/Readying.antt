@@ -1,5 +1,5 @@
 -- A store made ready for its next version: the newest recipe in memory, and the store arranged.
-use Rattle.std.specs.Prelude.{◌≡◌, ◌⊎◌, ◌≤◌, ℕ, false, Result, Ok, Err}
+use Rattle.std.specs.Prelude.{◌≡◌, ◌⊎◌, ◌≤◌, ℕ, Result, Ok, Err}
 use Rattle.bd_disk.specs.History.{History, contents}
 use Rattle.bd_disk.specs.Made.{WritesNothing}
 use Rattle.bd_disk.specs.Trace.{ReadsOnly}

@@ -1,0 +1,249 @@
+-- What a command does behind making the store ready, as it is seen from before that.
+use Rattle.std.proofs.Common.{◌≡◌, ◌∙◌, inl, inr, ◌≤◌, ℕ, ◌+◌, ◌-◌, ◌∷◌, ◌++◌, Bool, true, false, List, [], length, append-nil, refl, sym, ap, subst, arith, nat_le, cond, eqb, Some, None, Result, Ok, le-leb}
+use Rattle.bd_disk.specs.History.{History, contents}
+use Rattle.bd_disk.specs.Looks.{LooksOnlyAt}
+use Rattle.bd_disk.specs.Made.{LeavesSince, WritesNothing, WritesOnly}
+use Rattle.bd_disk.specs.Trace.{ReadsOnly}
+use Rattle.bd_disk.proofs.Frames.{leaves_both, leaves_now, leaves_wider, made_both, made_none, nothing_within}
+use Rattle.bd_disk.proofs.Looking.{looks_from}
+use Rattle.bd_disk.proofs.Traces.{reads_both}
+use Rattle.bd_model.specs.FileMap.{FileMap}
+use Rattle.bd_model.specs.History.{oldest, retained}
+use Rattle.bd_model.specs.State.{VersionState, history}
+use Rattle.bd_model.specs.Step.{Outcome, drop_oldest, expired_extents, phase_after, unchanged}
+use Rattle.bd_model.specs.declared.answer.Answer.{Answer}
+use Rattle.bd_model.specs.declared.answer.Answer.TheVariants.{Expired, NothingRetained}
+use Rattle.bd_model.specs.declared.command.Command.{Command}
+use Rattle.bd_model.specs.declared.command.Command.TheVariants.{Backup, Restore, Expire, Reorganise, Scrub, List as Listing}
+use Rattle.bd_model.specs.declared.layout.Phase.{Phase}
+use Rattle.bd_model.specs.declared.layout.Phase.TheVariants.{Settled, Waiting}
+use Rattle.bd_model.specs.declared.shape.Shape.{Shape}
+use Rattle.bd_model.proofs.StepLemmas.{length-history}
+use Rattle.bd_catalog.specs.Agreement.{Agrees}
+use Rattle.bd_catalog.specs.Opening.{Found}
+use Rattle.bd_catalog.specs.Standing.{Stands, StandsFor}
+use Rattle.bd_catalog.proofs.Standing.{stands-shows}
+use Rattle.bd_recipe.specs.Marked.{Marked}
+use Rattle.bd_volume.specs.Named.{IsBeside}
+use Rattle.bd_arrange.specs.Arranged.{IsSettledFrom, KeepsStates}
+use Rattle.bd_store.specs.Attempts.{IsAnswerOf, KeepsVersions, WritesBeside, WritesByCommand}
+use Rattle.bd_store.specs.Following.{EndsReady, MakesReady, WritesReady}
+use Rattle.bd_store.specs.Newest.{newest_places}
+use Rattle.bd_store.specs.Shown.{SameVersions, Shown}
+use Rattle.bd_store.specs.Steps.{task, IsOneStep, LeadsTo, MakesStep, StandsOnEitherSide, Task}
+use Rattle.bd_store.specs.Stops.{IsSafeAtStops, IsSureBy}
+use Rattle.bd_store.specs.Touches.{AnswersArranging, AnswersByNumbers, AnswersExpiry, BackupReads, arranges_first, waits}
+use Rattle.bd_store.specs.declared.fault.StoreFault.{StoreFault}
+use Rattle.bd_store.proofs.Ending.{by_end, first_two, not_both}
+use Rattle.bd_store.proofs.Nearing.{near_state}
+
+-- ---- the answer
+
+-- what is answered of the same versions, settled, is answered of those before
+pub answers_before : (command : Command) (old new : Found) (result : Result Answer StoreFault) → MakesReady old command → IsSettledFrom old new → EndsReady result → IsAnswerOf new command result → IsAnswerOf old command result
+answers_before (Backup name) old new result makes same ends =
+    by_end (λ e. AnswersByNumbers new e → AnswersByNumbers old e) (record {
+      named = λ version bytes chunks fresh need is. (makes, is.1 ∙ ap (λ n. n + 1) same.newest);
+      full = λ counted free held is. makes;
+      expired = λ version extents is. is;
+      arranged = λ owned free is. is;
+      source = λ is. makes;
+      disk = λ is. makes;
+      memory = λ is. makes;
+    }) result ends
+answers_before Expire old new result makes same ends =
+    by_end (λ e. AnswersExpiry new e → AnswersExpiry old e) (record {
+      named = λ version bytes chunks fresh need is. is;
+      full = λ counted free held is. is;
+      expired = λ version extents is. (subst (λ vs. 1 ≤ length vs) same.versions is.0, is.1 ∙ (λ k. same.newest k + 1 - length (same.versions k)));
+      arranged = λ owned free is. is;
+      source = λ is. is;
+      disk = λ is. subst (λ vs. 1 ≤ length vs) same.versions is;
+      memory = λ is. makes;
+    }) result ends
+answers_before Reorganise old new result makes same ends =
+    by_end (λ e. AnswersArranging new e → AnswersArranging old e) (record {
+      named = λ version bytes chunks fresh need is. is;
+      full = λ counted free held is. is;
+      expired = λ version extents is. is;
+      arranged = λ owned free is. tt;
+      source = λ is. is;
+      disk = λ is. makes;
+      memory = λ is. makes;
+    }) result ends
+answers_before (Restore v name) old new result makes same ends = absurd makes
+answers_before Scrub old new result makes same ends = absurd makes
+answers_before Listing old new result makes same ends = absurd makes
+
+-- only an expiry answers that it gave a version up
+pub expiry_alone : (command : Command) (old new : Found) (version extents : ℕ) → MakesReady old command → IsAnswerOf new command (Ok (Expired version extents)) → command ≡ Expire
+expiry_alone (Backup name) old new version extents makes is = absurd is
+expiry_alone Expire old new version extents makes is = refl
+expiry_alone Reorganise old new version extents makes is = absurd is
+expiry_alone (Restore v name) old new version extents makes is = absurd makes
+expiry_alone Scrub old new version extents makes is = absurd makes
+expiry_alone Listing old new version extents makes is = absurd makes
+
+pub expiry_first : (command : Command) (old new : Found) (version extents : ℕ) → MakesReady old command → IsAnswerOf new command (Ok (Expired version extents)) → arranges_first old ≡ true
+expiry_first (Backup name) old new version extents makes is = absurd is
+expiry_first Expire old new version extents makes is = makes
+expiry_first Reorganise old new version extents makes is = absurd is
+expiry_first (Restore v name) old new version extents makes is = absurd makes
+expiry_first Scrub old new version extents makes is = absurd makes
+expiry_first Listing old new version extents makes is = absurd makes
+
+-- ---- the versions
+
+module _ (command : Command) (old mid new : Shown) (makes : MakesReady old.found command) (same : IsSettledFrom old.found mid.found) (held : mid.held ≡ old.held) where
+  both_same : SameVersions mid new → SameVersions old new
+  both_same is = record { sizes = is.sizes ∙ same.sizes; base = is.base ∙ same.base; newest = is.newest ∙ same.newest; versions = is.versions ∙ same.versions; held = is.held ∙ held }
+
+  pub versions_before : (result : Result Answer StoreFault) → EndsReady result → IsAnswerOf mid.found command result → KeepsVersions mid new result → KeepsVersions old new result
+  versions_before result ends =
+      by_end (λ e. IsAnswerOf mid.found command e → KeepsVersions mid new e → KeepsVersions old new e) (record {
+        named = λ version bytes chunks fresh need answers is. record {
+          base = is.base ∙ same.base;
+          newest = is.newest ∙ ap (λ n. n + 1) same.newest;
+          extents = is.extents;
+          versions = is.versions ∙ ap (λ vs. vs ++ record { length = bytes; chunks = chunks; fresh = fresh; extents = is.extents } ∷ []) same.versions;
+        };
+        full = λ counted free held answers is. both_same is;
+        expired = λ version extents answers is. record {
+          catalogue = is.catalogue;
+          base = is.base ∙ same.base;
+          newest = is.newest ∙ same.newest;
+          versions = is.versions ∙ same.versions;
+          same = λ no. not_both (expiry_first command old.found mid.found version extents makes answers) no;
+          gone = is.gone;
+          freed = is.freed;
+        };
+        arranged = λ owned free answers is. both_same is;
+        source = λ answers is. both_same is;
+        disk = λ answers is. tt;
+        memory = λ answers is. both_same is;
+      }) result ends
+
+-- ---- what is written and read
+
+module _ (found mid : Found) (h0 h1 h2 : History) (same : IsSettledFrom found mid) (as_it_was : found.catalogue.phase ≡ Settled → mid ≡ found) (quiet : found.catalogue.phase ≡ Settled → WritesNothing h0 h1) (agrees : Agrees mid h1) (first : WritesOnly (IsBeside found) h0 h1) where
+  beside : WritesOnly (IsBeside mid) h1 h2 → WritesBeside found h0 h2
+  beside second = by found.catalogue.phase refl where
+    by : (phase : Phase) → found.catalogue.phase ≡ phase → WritesBeside found h0 h2
+    by Settled at = record {
+      arranged = found;
+      middle = h0;
+      first = made_none _ h0;
+      between = inl (refl, refl);
+      second = made_both (nothing_within _ (quiet at)) (subst (λ (f : Found). WritesOnly (IsBeside f) h1 h2) (as_it_was at) second);
+    }
+    by (Waiting cursor) at = record { arranged = mid; middle = h1; first = first; between = inr (ap waits at, same, agrees); second = second }
+
+  pub writes_before : (command : Command) → MakesReady found command → WritesReady mid command h1 h2 → WritesByCommand found command h0 h2
+  writes_before (Backup name) makes second = beside second
+  writes_before Expire makes second = beside second
+  writes_before Reorganise makes second = made_both first (nothing_within _ second)
+  writes_before (Restore v name) makes second = absurd makes
+  writes_before Scrub makes second = absurd makes
+  writes_before Listing makes second = absurd makes
+
+-- nothing more was read
+pub then_none : {places : List ℕ} {a b c : History} → ReadsOnly places a b → ReadsOnly [] b c → ReadsOnly places a c
+then_none {places} {a} {b} {c} first none = subst (λ l. ReadsOnly l a c) (append-nil places) (reads_both first none)
+
+pub then_no_looks : {Places : ℕ → Type 0} {a b c : History} → LooksOnlyAt Places a b → ReadsOnly [] b c → LooksOnlyAt Places a c
+then_no_looks {Places} first none = made_both first (looks_from Places {places = []} tt none)
+
+pub backup_reads : (found : Found) (h0 h2 : History) (result : Result Answer StoreFault) → EndsReady result → (found.catalogue.phase ≡ Settled → ReadsOnly (newest_places found) h0 h2) → BackupReads found h0 h2 result
+backup_reads found h0 h2 result ends reads =
+    by_end (BackupReads found h0 h2) (record {
+      named = λ version bytes chunks fresh need. reads;
+      full = λ counted free held. reads;
+      expired = λ version extents. reads;
+      arranged = λ owned free. reads;
+      source = reads;
+      disk = tt;
+      memory = tt;
+    }) result ends
+
+-- ---- the step
+
+-- with the older one of two versions gone, one is left
+one_left : (st : VersionState) → length st.versions - st.expired ≡ 2 → length (drop_oldest st).versions - (drop_oldest st).expired ≤ 1
+one_left st two = by (eqb (st.expired + 1) (length st.versions)) refl where
+  by : (last : Bool) → eqb (st.expired + 1) (length st.versions) ≡ last → length (drop_oldest st).versions - (drop_oldest st).expired ≤ 1
+  by true is = subst (λ (s : VersionState). length s.versions - s.expired ≤ 1) (sym (ap (λ b. cond b (record st { base = st.base + length st.versions; versions = []; expired = 0 }) (record st { expired = st.expired + 1 })) is)) (omega arith)
+  by false is = subst (λ (s : VersionState). length s.versions - s.expired ≤ 1) (sym (ap (λ b. cond b (record st { base = st.base + length st.versions; versions = []; expired = 0 }) (record st { expired = st.expired + 1 })) is)) (omega (arith, two))
+
+module _ (shape : Shape) (held : ℕ) (st : VersionState) (phase : Phase) (files : FileMap) (command : Command) (old mid : Found) (image : List ℕ) (makes : MakesReady old command) (two : arranges_first old ≡ true → length st.versions - st.expired ≡ 2) where
+  abbrev t : Task
+  t = task shape held st files command
+
+  expired_state : length st.versions - st.expired ≡ 2 → (outcome : Outcome) → LeadsTo (task shape held st files Expire) outcome → outcome.state ≡ drop_oldest st
+  expired_state both outcome leads =
+      let some : eqb (retained (history shape st)) 0 ≡ false = ap (λ n. eqb (n - st.expired) 0) (length-history shape st) ∙ ap (λ n. eqb n 0) both in
+      let is : Outcome = record (unchanged st files (Expired (oldest (history shape st)) (expired_extents shape.extent (history shape st)))) { state = drop_oldest st } in
+      let goes : Some is ≡ Some outcome = sym (ap (λ b. cond b (Some (unchanged st files (NothingRetained None))) (Some is)) some) ∙ leads in
+      let there : is ≡ outcome = cc in
+      sym (ap (λ o. o.state) there)
+
+  settles_by : (version extents : ℕ) (outcome : Outcome) → IsAnswerOf mid command (Ok (Expired version extents)) → LeadsTo t outcome → phase_after outcome.state Settled (Expired version extents) ≡ phase_after outcome.state phase (Expired version extents)
+  settles_by version extents outcome answers leads =
+      let both : length st.versions - st.expired ≡ 2 = two (expiry_first command old mid version extents makes answers) in
+      let goes : LeadsTo (task shape held st files Expire) outcome = subst (λ c. LeadsTo (task shape held st files c) outcome) (expiry_alone command old mid version extents makes answers) leads in
+      let few : length outcome.state.versions - outcome.state.expired ≤ 1 = subst (λ (s : VersionState). length s.versions - s.expired ≤ 1) (sym (expired_state both outcome goes)) (one_left st both) in
+      let is : nat_le (length outcome.state.versions - outcome.state.expired) 1 ≡ true = le-leb _ 1 few in
+      ap (λ b. cond b Settled Settled) is ∙ sym (ap (λ b. cond b Settled phase) is)
+
+  -- what it makes of the settled store it makes of the one before
+  pub step_from : (result : Result Answer StoreFault) → EndsReady result → IsAnswerOf mid command result → MakesStep t Settled image files result → MakesStep t phase image files result
+  step_from result ends =
+      by_end (λ e. IsAnswerOf mid command e → MakesStep t Settled image files e → MakesStep t phase image files e) (record {
+        named = λ version bytes chunks fresh need answers is. record { outcome = is.outcome; leads = is.leads; says = is.says; stands = is.stands; beside = is.beside };
+        full = λ counted free held answers is. record { outcome = is.outcome; leads = is.leads; says = is.says; stands = is.stands; beside = is.beside };
+        expired = λ version extents answers is. record {
+          outcome = is.outcome;
+          leads = is.leads;
+          says = is.says;
+          stands = subst (λ p. StandsFor shape is.outcome.state p held image) (settles_by version extents is.outcome answers is.leads) is.stands;
+          beside = is.beside;
+        };
+        arranged = λ owned free answers is. record { outcome = is.outcome; leads = is.leads; says = is.says; stands = is.stands; beside = is.beside };
+        source = λ answers is. is;
+        disk = λ answers is. is;
+        memory = λ answers is. is;
+      }) result ends
+
+module _ (command : Command) (held : ℕ) (old mid : Found) (h0 h1 h2 : History) (files files_now : FileMap) (result : Result Answer StoreFault) (neighbour : Marked)
+    (makes : MakesReady old command) (ends : EndsReady result) (answers : IsAnswerOf mid command result) (agrees : Agrees old h0) (states : KeepsStates {T = Marked} held h0 h1 (Ok neighbour)) where
+  pub step_before : IsOneStep command held h1 h2 files files_now result → files_now ≡ files → IsOneStep command held h0 h2 files files_now result
+  step_before step same = record {
+    each = λ shape st phase near stands.
+        let shows = stands-shows stands agrees.opens in
+        let two : arranges_first old ≡ true → length st.versions - st.expired ≡ 2 = λ first. omega (arith, shows.numbers.retained, first_two old first, length-history shape st) in
+        subst (λ m. MakesStep (task shape held st files command) phase (contents h2) m result) (sym same)
+        (step_from shape held st phase files command old mid (contents h2) makes two result ends answers
+        (subst (λ m. MakesStep (task shape held st files command) Settled (contents h2) m result) same (step.each shape st Settled near (states.contents.each shape st phase (near_state shape held st files command near) stands))));
+  }
+
+  sure_by : (t : Task) → LeavesSince (Stands t.shape t.held t.state) h0 h1 → IsSureBy t h1 h2 result → IsSureBy t h0 h2 result
+  sure_by t first done =
+      by_end (λ e. IsSureBy t h1 h2 e → IsSureBy t h0 h2 e) (record {
+        named = λ version bytes chunks fresh need is. is;
+        full = λ counted free held is. is;
+        expired = λ version extents is. is;
+        arranged = λ owned free is. is;
+        source = λ is. leaves_both first is;
+        disk = λ is. tt;
+        memory = λ is. leaves_both first is;
+      }) result ends done
+
+  pub stops_before : IsSafeAtStops command held h1 h2 files result → IsSafeAtStops command held h0 h2 files result
+  stops_before stops = record {
+    each = λ shape st near sure.
+        let first : LeavesSince (Stands shape held st) h0 h1 = states.stops.each shape st (near_state shape held st files command near) sure in
+        let second = stops.each shape st near (leaves_now first) in
+        record {
+          within = leaves_both (leaves_wider (StandsOnEitherSide (task shape held st files command)) (λ image stood. inl stood) first) second.within;
+          done = sure_by (task shape held st files command) first second.done;
+        };
+  }

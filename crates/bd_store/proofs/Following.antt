@@ -1,0 +1,167 @@
+-- A command that made the store ready meets its promise by what it does then.
+use Rattle.std.proofs.Common.{◌≡◌, ◌∙◌, Bool, refl, sym, ap, subst, Result, Ok, Err}
+use Rattle.bd_disk.specs.History.{History}
+use Rattle.bd_disk.specs.Looks.{LooksOnlyAt}
+use Rattle.bd_model.specs.declared.answer.Answer.{Answer}
+use Rattle.bd_model.specs.declared.command.Command.{Command}
+use Rattle.bd_model.specs.declared.command.Command.TheVariants.{Backup, Restore, Expire, Reorganise, Scrub, List as Listing}
+use Rattle.bd_catalog.specs.Agreement.{Agrees}
+use Rattle.bd_catalog.specs.Opening.{Found}
+use Rattle.bd_recipe.specs.Marked.{Marked}
+use Rattle.bd_store.specs.Attempts.{Attempt, Meets, Scene, attempt, DamageByCommand, GivesByCommand, HeadersByAnswer, HeadersHold, LooksByCommand, NewestEnds, ReadsByCommand, RecipeByCommand}
+use Rattle.bd_store.specs.Following.{Follows, IsMadeReady, IsMadeReadyOn, MakesReady}
+use Rattle.bd_store.specs.Naming.{NamesArranging}
+use Rattle.bd_store.specs.Readying.{IsReady}
+use Rattle.bd_store.specs.Steps.{KeepsFiles}
+use Rattle.bd_store.specs.Touches.{InArranging, ExpiryReads, IsByNumbers}
+use Rattle.bd_store.specs.declared.fault.StoreFault.{StoreFault}
+use Rattle.bd_store.proofs.Behind.{answers_before, backup_reads, step_before, stops_before, then_no_looks, then_none, versions_before, writes_before}
+use Rattle.bd_store.proofs.Ending.{gone_on, went_on, rests_not, by_end, not_both}
+
+module _ (disk files : Type 0) (command : Command) (before : Scene) (mid : Found) (worn : Bool) (h1 : History) (after : Scene) (neighbour : Marked) (result : Result Answer StoreFault)
+    (makes : MakesReady before.store.found command) (agrees : disk → Agrees before.store.found before.disk) where
+  abbrev now : Scene
+  now = gone_on before mid worn h1 before.counts.disk
+
+  abbrev whole : Attempt
+  whole = attempt command result before after
+
+  module _ (ready : IsReady before.store now.store neighbour) (readied : disk → IsMadeReadyOn before now (Ok neighbour)) (follows : Follows disk files (attempt command result now after)) where
+    reads : disk → (c : Command) → MakesReady before.store.found c → ReadsByCommand whole c
+    reads told (Backup name) may = backup_reads before.store.found before.disk after.disk result follows.ends (λ settled. then_none ((readied told).readies.answer.reads settled) (follows.on_disk told).reads)
+    reads told Expire may = by_end (ExpiryReads before.store.found after.store.found before.disk after.disk) (record {
+      named = λ version bytes chunks fresh need no. not_both may no;
+      full = λ counted free held no. not_both may no;
+      expired = λ version extents no. not_both may no;
+      arranged = λ owned free no. not_both may no;
+      source = λ no. not_both may no;
+      disk = λ no. not_both may no;
+      memory = λ no. not_both may no;
+    }) result follows.ends
+    reads told Reorganise may = λ settled. rests_not before.store.found may settled
+    reads told (Restore v name) may = absurd may
+    reads told Scrub may = absurd may
+    reads told Listing may = absurd may
+
+    looked : disk → LooksOnlyAt (InArranging before.store.found) before.disk after.disk
+    looked told = then_no_looks (readied told).looks (follows.on_disk told).reads
+
+    looks : disk → (c : Command) → MakesReady before.store.found c → LooksByCommand whole c
+    looks told (Backup name) may = looked told
+    looks told Expire may = looked told
+    looks told Reorganise may = looked told
+    looks told (Restore v name) may = absurd may
+    looks told Scrub may = absurd may
+    looks told Listing may = absurd may
+
+    names : NamesArranging before.store.found before.disk after.disk result
+    names = by_end (NamesArranging before.store.found before.disk after.disk) (record {
+      named = λ version bytes chunks fresh need. tt;
+      full = λ counted free held. tt;
+      expired = λ version extents. tt;
+      arranged = λ owned free. tt;
+      source = tt;
+      disk = tt;
+      memory = tt;
+    }) result follows.ends
+
+    damage : (c : Command) → MakesReady before.store.found c → DamageByCommand whole c
+    damage (Backup name) may = names
+    damage Expire may = names
+    damage Reorganise may = names
+    damage (Restore v name) may = absurd may
+    damage Scrub may = absurd may
+    damage Listing may = absurd may
+
+    -- the newest recipe was read
+    newest : disk → NewestEnds whole
+    newest told met some broken = let no : Err met ≡ Ok neighbour.entries = sym broken ∙ (readied told).readies.answer.found_before.some some in absurd (cc)
+
+    recipe : disk → (c : Command) → MakesReady before.store.found c → RecipeByCommand whole c
+    recipe told (Backup name) may = newest told
+    recipe told Expire may = λ first. newest told
+    recipe told Reorganise may = λ waiting. newest told
+    recipe told (Restore v name) may = absurd may
+    recipe told Scrub may = absurd may
+    recipe told Listing may = absurd may
+
+    headers : disk → HeadersByAnswer whole result
+    headers told =
+        let hold : HeadersHold whole = (readied told).readies.answer.headers in
+        by_end (HeadersByAnswer whole) (record {
+          named = λ version bytes chunks fresh need. hold;
+          full = λ counted free held. hold;
+          expired = λ version extents first. hold;
+          arranged = λ owned free. hold;
+          source = hold;
+          disk = tt;
+          memory = tt;
+        }) result follows.ends
+
+    refuses_not : IsByNumbers result → ⊥
+    refuses_not = by_end (λ e. IsByNumbers e → ⊥) (record {
+      named = λ version bytes chunks fresh need is. is;
+      full = λ counted free held is. is;
+      expired = λ version extents is. is;
+      arranged = λ owned free is. is;
+      source = λ is. is;
+      disk = λ is. is;
+      memory = λ is. is;
+    }) result follows.ends
+
+    gives : (c : Command) → MakesReady before.store.found c → GivesByCommand whole c result
+    gives (Backup name) may = tt
+    gives Expire may = tt
+    gives Reorganise may = tt
+    gives (Restore v name) may = absurd may
+    gives Scrub may = absurd may
+    gives Listing may = absurd may
+
+    same_files : (c : Command) → MakesReady before.store.found c → KeepsFiles c before.files after.files → after.files ≡ before.files
+    same_files (Backup name) may keeps = keeps
+    same_files Expire may keeps = keeps
+    same_files Reorganise may keeps = keeps
+    same_files (Restore v name) may keeps = absurd may
+    same_files Scrub may keeps = absurd may
+    same_files Listing may keeps = absurd may
+
+    ready_meets : Meets disk files whole
+    ready_meets = record {
+      bytes = follows.bytes;
+      cause = follows.cause;
+      answer = answers_before command before.store.found mid result makes ready.settled follows.ends follows.answer;
+      store = record {
+        worn = follows.store.worn;
+        sizes = λ sound. follows.store.sizes sound ∙ ready.settled.sizes;
+        held = follows.store.held;
+        versions = versions_before command before.store now.store after.store makes ready.settled refl result follows.ends follows.answer follows.store.versions;
+        settles = follows.store.settles;
+        figures = follows.store.figures;
+      };
+      untouched = λ refused. absurd (refuses_not refused);
+      on_disk = λ told. record {
+        agrees = (follows.on_disk told).agrees;
+        writes = writes_before before.store.found mid before.disk h1 after.disk ready.settled ready.same (readied told).readies.answer.writes (readied told).readies.agrees (readied told).writes command makes (follows.on_disk told).writes;
+        reads = reads told command makes;
+        looks = looks told command makes;
+        damage = damage command makes;
+        recipe = recipe told command makes;
+        headers = headers told;
+      };
+      on_files = λ told. record { beside = (follows.on_files told).beside; strays = (follows.on_files told).strays; finished = (follows.on_files told).finished };
+      on_both = λ told files_tell. record {
+        gives = gives command makes;
+        step = step_before command before.store.held before.store.found mid before.disk h1 after.disk before.files after.files result neighbour makes follows.ends follows.answer (agrees told) (readied told).readies.states (follows.on_both told files_tell).step (same_files command makes (follows.on_files files_tell).beside);
+        stops = stops_before command before.store.held before.store.found mid before.disk h1 after.disk before.files after.files result neighbour makes follows.ends follows.answer (agrees told) (readied told).readies.states (follows.on_both told files_tell).stops;
+      };
+    }
+
+-- what it does then is what it promises of the whole
+pub followed : {disk files : Type 0} {command : Command} {before now after : Scene} {neighbour : Marked} {result : Result Answer StoreFault} → MakesReady before.store.found command → (disk → Agrees before.store.found before.disk) →
+    IsMadeReady disk before now (Ok neighbour) → Follows disk files (attempt command result now after) → Meets disk files (attempt command result before after)
+followed {disk} {files} {command} {before} {now} {after} {neighbour} {result} makes agrees is follows =
+    let same : gone_on before now.store.found now.store.worn now.disk before.counts.disk ≡ now = ap (gone_on before now.store.found now.store.worn now.disk) (sym is.cause.cause) ∙ went_on is in
+    ready_meets disk files command before now.store.found now.store.worn now.disk after neighbour result makes agrees
+    (subst (λ (s : Scene). IsReady before.store s.store neighbour) (sym same) is.store)
+    (λ told. subst (λ (s : Scene). IsMadeReadyOn before s (Ok neighbour)) (sym same) (is.told told))
+    (subst (λ (s : Scene). Follows disk files (attempt command result s after)) (sym same) follows)

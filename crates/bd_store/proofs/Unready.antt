@@ -1,0 +1,269 @@
+-- What a command meets that couldn't make the store ready.
+use Rattle.std.proofs.Common.{◌≡◌, ◌↔◌, ℕ, List, Bool, true, false, inl, refl, sym, ap, subst, arith, Result, Err}
+use Rattle.bd_disk.specs.Calls.{FailsByCount as FailsByOne}
+use Rattle.bd_disk.specs.History.{History, contents}
+use Rattle.bd_disk.specs.Made.{LeavesSince, WritesOnly}
+use Rattle.bd_disk.proofs.Frames.{leaves_wider, made_none}
+use Rattle.bd_model.specs.FileMap.{FileMap}
+use Rattle.bd_model.specs.declared.answer.Answer.{Answer}
+use Rattle.bd_model.specs.declared.command.Command.{Command}
+use Rattle.bd_model.specs.declared.command.Command.TheVariants.{Backup, Restore, Expire, Reorganise, Scrub, List as Listing}
+use Rattle.bd_model.specs.declared.damage.Damage.{Damage}
+use Rattle.bd_model.specs.declared.layout.Phase.{Phase}
+use Rattle.bd_catalog.specs.Agreement.{Agrees}
+use Rattle.bd_catalog.specs.Opening.{Found}
+use Rattle.bd_catalog.specs.Standing.{Stands}
+use Rattle.bd_recipe.specs.Marked.{Marked}
+use Rattle.bd_recipe.specs.Reading.{is_disk_fault}
+use Rattle.bd_recipe.specs.declared.fault.ReadFault.{ReadFault}
+use Rattle.bd_recipe.specs.declared.fault.ReadFault.TheVariants.{DiskFault as ReadDisk, Damaged as ReadDamaged, OutOfMemory as ReadMemory}
+use Rattle.bd_volume.specs.Named.{IsBeside}
+use Rattle.bd_arrange.specs.Arranged.{Arranges, ButDiskFault, KeepsStates}
+use Rattle.bd_store.specs.Attempts.{Attempt, EndsInDamage, HeadersByAnswer, IsAnswerOf, KeepsVersions, SettlesBy, TellsFigures, WritesByCommand, Meets, Scene, attempt, DamageByCommand, FinishesByCommand, GivesByCommand, LooksByCommand, NewestEnds, ReadsByCommand, RecipeByCommand}
+use Rattle.bd_store.specs.Causes.{counts, FailsOnlyByCount}
+use Rattle.bd_store.specs.Following.{MakesReady, IsMadeReady}
+use Rattle.bd_store.specs.Naming.{fault_of_reading, NamesArranging}
+use Rattle.bd_store.specs.Readying.{AnswersReady, IsThatDamage, Readies}
+use Rattle.bd_store.specs.Shown.{SameVersions, Shown}
+use Rattle.bd_store.specs.Steps.{task, IsOneStep, KeepsFiles, MakesStep, StandsOnEitherSide, Task}
+use Rattle.bd_store.specs.Stops.{IsSafeAtStops, IsSureBy}
+use Rattle.bd_store.specs.Touches.{BackupReads}
+use Rattle.bd_store.specs.declared.fault.StoreFault.{StoreFault}
+use Rattle.bd_store.specs.declared.fault.StoreFault.TheVariants.{DiskFault}
+use Rattle.bd_store.proofs.Ending.{gone_on, went_on, rests_not, first_two, not_both}
+use Rattle.bd_store.proofs.Nearing.{near_state}
+
+-- ---- over whatever disk
+
+pub unready_cause : (fault : ReadFault) (before now n m : ℕ) → FailsByOne {T = Marked} is_disk_fault before now (Err fault) → FailsOnlyByCount (counts before n m) (counts now n m) (Err (fault_of_reading fault))
+unready_cause ReadDisk before now n m is = record { later = record { disk = is.later; sources = omega arith; targets = omega arith }; cause = (is.cause, refl, refl) }
+unready_cause (ReadDamaged damage) before now n m is = record { later = record { disk = is.later; sources = omega arith; targets = omega arith }; cause = ap (λ k. counts k n m) is.cause }
+unready_cause ReadMemory before now n m is = record { later = record { disk = is.later; sources = omega arith; targets = omega arith }; cause = ap (λ k. counts k n m) is.cause }
+
+pub unready_answer : (command : Command) (old new : Shown) (fault : ReadFault) → MakesReady old.found command → Readies old new (Err fault) → IsAnswerOf old.found command (Err (fault_of_reading fault))
+unready_answer (Backup name) old new ReadDisk makes is = makes
+unready_answer (Backup name) old new (ReadDamaged damage) makes is = (makes, is.1)
+unready_answer (Backup name) old new ReadMemory makes is = makes
+unready_answer Expire old new ReadDisk makes is = omega (arith, first_two old.found makes)
+unready_answer Expire old new (ReadDamaged damage) makes is = makes
+unready_answer Expire old new ReadMemory makes is = makes
+unready_answer Reorganise old new ReadDisk makes is = makes
+unready_answer Reorganise old new (ReadDamaged damage) makes is = makes
+unready_answer Reorganise old new ReadMemory makes is = makes
+unready_answer (Restore v name) old new fault makes is = absurd makes
+unready_answer Scrub old new fault makes is = absurd makes
+unready_answer Listing old new fault makes is = absurd makes
+
+-- what a store says that is as it was
+pub unready_same : (P : Shown → Type 0) (old new : Shown) (fault : ReadFault) → Readies old new (Err fault) → P old → (fault ≡ ReadDisk → P new) → P new
+unready_same P old new ReadDisk is before failed = failed refl
+unready_same P old new (ReadDamaged damage) is before failed = subst P (sym is.0) before
+unready_same P old new ReadMemory is before failed = subst P (sym is) before
+
+pub unready_worn : (fault : ReadFault) (worn : Bool) → (worn ≡ true) ↔ (◌≡◌ {A = Result Marked ReadFault} (Err fault) (Err ReadDisk)) → (worn ≡ true) ↔ (◌≡◌ {A = Result Answer StoreFault} (Err (fault_of_reading fault)) (Err DiskFault))
+unready_worn fault worn is = (λ gone. by_fault fault (is.0 gone), λ failed. is.1 (from_fault fault failed)) where
+  by_fault : (f : ReadFault) → ◌≡◌ {A = Result Marked ReadFault} (Err f) (Err ReadDisk) → ◌≡◌ {A = Result Answer StoreFault} (Err (fault_of_reading f)) (Err DiskFault)
+  by_fault ReadDisk e = refl
+  by_fault (ReadDamaged damage) e = absurd (cc e)
+  by_fault ReadMemory e = absurd (cc e)
+
+  from_fault : (f : ReadFault) → ◌≡◌ {A = Result Answer StoreFault} (Err (fault_of_reading f)) (Err DiskFault) → ◌≡◌ {A = Result Marked ReadFault} (Err f) (Err ReadDisk)
+  from_fault ReadDisk e = refl
+  from_fault (ReadDamaged damage) e = absurd (cc e)
+  from_fault ReadMemory e = absurd (cc e)
+
+pub unready_versions : (old new : Shown) (fault : ReadFault) → Readies old new (Err fault) → KeepsVersions old new (Err (fault_of_reading fault))
+unready_versions old new ReadDisk is = tt
+unready_versions old new (ReadDamaged damage) is = subst (SameVersions old) (sym is.0) (record { sizes = refl; base = refl; newest = refl; versions = refl; held = refl })
+unready_versions old new ReadMemory is = subst (SameVersions old) (sym is) (record { sizes = refl; base = refl; newest = refl; versions = refl; held = refl })
+
+-- nothing is said of it besides
+pub unready_settles : (new : Shown) (fault : ReadFault) → SettlesBy new (Err (fault_of_reading fault))
+unready_settles new ReadDisk = tt
+unready_settles new (ReadDamaged damage) = tt
+unready_settles new ReadMemory = tt
+
+pub unready_figures : (new : Shown) (fault : ReadFault) → TellsFigures new (Err (fault_of_reading fault))
+unready_figures new ReadDisk = tt
+unready_figures new (ReadDamaged damage) = tt
+unready_figures new ReadMemory = tt
+
+pub unready_headers : (a : Attempt) (fault : ReadFault) → HeadersByAnswer a (Err (fault_of_reading fault))
+unready_headers a ReadDisk = tt
+unready_headers a (ReadDamaged damage) = tt
+unready_headers a ReadMemory = tt
+
+-- ---- where the disk tells
+
+pub unready_writes : (command : Command) (found : Found) (h0 h1 : History) → MakesReady found command → WritesOnly (IsBeside found) h0 h1 → WritesByCommand found command h0 h1
+unready_writes (Backup name) found h0 h1 makes writes = record { arranged = found; middle = h0; first = made_none _ h0; between = inl (refl, refl); second = writes }
+unready_writes Expire found h0 h1 makes writes = record { arranged = found; middle = h0; first = made_none _ h0; between = inl (refl, refl); second = writes }
+unready_writes Reorganise found h0 h1 makes writes = writes
+unready_writes (Restore v name) found h0 h1 makes writes = absurd makes
+unready_writes Scrub found h0 h1 makes writes = absurd makes
+unready_writes Listing found h0 h1 makes writes = absurd makes
+
+pub unready_reads : (found : Found) (h0 h1 : History) (fault : ReadFault) → BackupReads found h0 h1 (Err (fault_of_reading fault))
+unready_reads found h0 h1 ReadDisk = tt
+unready_reads found h0 h1 (ReadDamaged damage) = tt
+unready_reads found h0 h1 ReadMemory = tt
+
+pub unready_agrees : (fault : ReadFault) (worn : Bool) (P : Type 0) → (worn ≡ true) ↔ (◌≡◌ {A = Result Marked ReadFault} (Err fault) (Err ReadDisk)) → ButDiskFault {T = Marked} (Err fault) P → worn ≡ false → P
+unready_agrees ReadDisk worn P fails is sound = not_both (fails.1 refl) sound
+unready_agrees (ReadDamaged damage) worn P fails is sound = is
+unready_agrees ReadMemory worn P fails is sound = is
+
+pub unready_names : (old new : Found) (h0 h1 : History) (fault : ReadFault) → AnswersReady old new h0 h1 (Err fault) → NamesArranging old h0 h1 (Err (fault_of_reading fault))
+unready_names old new h0 h1 ReadDisk is = tt
+unready_names old new h0 h1 (ReadDamaged damage) is = is
+unready_names old new h0 h1 ReadMemory is = tt
+
+pub unready_ends : (damage : Damage) (fault : ReadFault) → IsThatDamage damage (Err fault) → EndsInDamage damage (Err (fault_of_reading fault))
+unready_ends damage ReadDisk is = tt
+unready_ends damage (ReadDamaged met) is = is
+unready_ends damage ReadMemory is = tt
+
+-- ---- over every state
+
+-- no file changes
+pub files_stay_ready : (found : Found) (command : Command) (files : FileMap) → MakesReady found command → KeepsFiles command files files
+files_stay_ready found (Backup name) files makes = refl
+files_stay_ready found Expire files makes = refl
+files_stay_ready found Reorganise files makes = refl
+files_stay_ready found (Restore v name) files makes = absurd makes
+files_stay_ready found Scrub files makes = absurd makes
+files_stay_ready found Listing files makes = absurd makes
+
+unready_makes : (t : Task) (phase : Phase) (image : List ℕ) (fault : ReadFault) → KeepsFiles t.command t.files t.files → Arranges {T = Marked} t.shape t.state phase t.held image (Err fault) → MakesStep t phase image t.files (Err (fault_of_reading fault))
+unready_makes t phase image ReadDisk keeps is = record { stands = inl is; beside = keeps }
+unready_makes t phase image (ReadDamaged damage) keeps is = absurd is
+unready_makes t phase image ReadMemory keeps is = record { stands = record { phase = phase; so = is }; beside = keeps }
+
+unready_sure : (t : Task) (h0 h1 : History) (fault : ReadFault) → LeavesSince (Stands t.shape t.held t.state) h0 h1 → IsSureBy t h0 h1 (Err (fault_of_reading fault))
+unready_sure t h0 h1 ReadDisk leaves = tt
+unready_sure t h0 h1 (ReadDamaged damage) leaves = leaves
+unready_sure t h0 h1 ReadMemory leaves = leaves
+
+module _ (command : Command) (held : ℕ) (h0 h1 : History) (files : FileMap) (fault : ReadFault) (states : KeepsStates {T = Marked} held h0 h1 (Err fault)) where
+  pub unready_step : KeepsFiles command files files → IsOneStep command held h0 h1 files files (Err (fault_of_reading fault))
+  unready_step keeps = record {
+    each = λ shape st phase near stands.
+        unready_makes (task shape held st files command) phase (contents h1) fault keeps (states.contents.each shape st phase (near_state shape held st files command near) stands);
+  }
+
+  pub unready_stops : IsSafeAtStops command held h0 h1 files (Err (fault_of_reading fault))
+  unready_stops = record {
+    each = λ shape st near sure.
+        let leaves : LeavesSince (Stands shape held st) h0 h1 = states.stops.each shape st (near_state shape held st files command near) sure in
+        record {
+          within = leaves_wider (StandsOnEitherSide (task shape held st files command)) (λ image stood. inl stood) leaves;
+          done = unready_sure (task shape held st files command) h0 h1 fault leaves;
+        };
+  }
+
+-- ---- all of it
+
+module _ (disk files : Type 0) (command : Command) (before : Scene) (mid : Found) (worn : Bool) (h1 : History) (faults : ℕ) (fault : ReadFault)
+    (makes : MakesReady before.store.found command) where
+  abbrev failed : Scene
+  failed = gone_on before mid worn h1 faults
+
+  abbrev refusal : Attempt
+  refusal = attempt command (Err (fault_of_reading fault)) before failed
+
+  module _ (is : IsMadeReady disk before failed (Err fault)) where
+    refusal_reads : (c : Command) → MakesReady before.store.found c → ReadsByCommand refusal c
+    refusal_reads (Backup name) may = unready_reads before.store.found before.disk h1 fault
+    refusal_reads Expire may = λ no. not_both may no
+    refusal_reads Reorganise may = λ settled. rests_not before.store.found may settled
+    refusal_reads (Restore v name) may = absurd may
+    refusal_reads Scrub may = absurd may
+    refusal_reads Listing may = absurd may
+
+    refusal_looks : disk → (c : Command) → MakesReady before.store.found c → LooksByCommand refusal c
+    refusal_looks told (Backup name) may = (is.told told).looks
+    refusal_looks told Expire may = (is.told told).looks
+    refusal_looks told Reorganise may = (is.told told).looks
+    refusal_looks told (Restore v name) may = absurd may
+    refusal_looks told Scrub may = absurd may
+    refusal_looks told Listing may = absurd may
+
+    refusal_names : disk → NamesArranging before.store.found before.disk h1 (Err (fault_of_reading fault))
+    refusal_names told = unready_names before.store.found mid before.disk h1 fault (is.told told).readies.answer
+
+    refusal_damage : disk → (c : Command) → MakesReady before.store.found c → DamageByCommand refusal c
+    refusal_damage told (Backup name) may = refusal_names told
+    refusal_damage told Expire may = refusal_names told
+    refusal_damage told Reorganise may = refusal_names told
+    refusal_damage told (Restore v name) may = absurd may
+    refusal_damage told Scrub may = absurd may
+    refusal_damage told Listing may = absurd may
+
+    refusal_newest : disk → NewestEnds refusal
+    refusal_newest told met some broken = unready_ends met fault ((is.told told).readies.damage met some broken)
+
+    refusal_recipe : disk → (c : Command) → MakesReady before.store.found c → RecipeByCommand refusal c
+    refusal_recipe told (Backup name) may = refusal_newest told
+    refusal_recipe told Expire may = λ first. refusal_newest told
+    refusal_recipe told Reorganise may = λ waiting. refusal_newest told
+    refusal_recipe told (Restore v name) may = absurd may
+    refusal_recipe told Scrub may = absurd may
+    refusal_recipe told Listing may = absurd may
+
+    refusal_finishes : (c : Command) → MakesReady before.store.found c → FinishesByCommand c (Err (fault_of_reading fault)) before.unfinished
+    refusal_finishes (Backup name) may = tt
+    refusal_finishes Expire may = tt
+    refusal_finishes Reorganise may = tt
+    refusal_finishes (Restore v name) may = absurd may
+    refusal_finishes Scrub may = absurd may
+    refusal_finishes Listing may = absurd may
+
+    refusal_gives : (c : Command) → MakesReady before.store.found c → GivesByCommand refusal c (Err (fault_of_reading fault))
+    refusal_gives (Backup name) may = tt
+    refusal_gives Expire may = tt
+    refusal_gives Reorganise may = tt
+    refusal_gives (Restore v name) may = absurd may
+    refusal_gives Scrub may = absurd may
+    refusal_gives Listing may = absurd may
+
+    refusal_meets : Meets disk files refusal
+    refusal_meets = record {
+      bytes = refl;
+      cause = unready_cause fault before.counts.disk faults before.counts.sources before.counts.targets is.cause;
+      answer = unready_answer command before.store failed.store fault makes is.store;
+      store = record {
+        worn = unready_worn fault worn is.worn;
+        sizes = unready_same (λ (s : Shown). s.worn ≡ false → s.found.sizes ≡ before.store.found.sizes) before.store failed.store fault is.store (λ sound. refl) (λ met sound. not_both (is.worn.1 (ap (λ f. Err f) met)) sound);
+        held = refl;
+        versions = unready_versions before.store failed.store fault is.store;
+        settles = unready_settles failed.store fault;
+        figures = unready_figures failed.store fault;
+      };
+      untouched = λ refused. absurd (refused);
+      on_disk = λ told. record {
+        agrees = unready_agrees fault worn (Agrees mid h1) is.worn (is.told told).readies.agrees;
+        writes = unready_writes command before.store.found before.disk h1 makes (is.told told).writes;
+        reads = refusal_reads command makes;
+        looks = refusal_looks told command makes;
+        damage = refusal_damage told command makes;
+        recipe = refusal_recipe told command makes;
+        headers = unready_headers refusal fault;
+      };
+      on_files = λ told. record {
+        beside = files_stay_ready before.store.found command before.files makes;
+        strays = record { later = omega arith; missing = inl refl };
+        finished = refusal_finishes command makes;
+      };
+      on_both = λ told files_tell. record {
+        gives = refusal_gives command makes;
+        step = unready_step command before.store.held before.disk h1 before.files fault (is.told told).readies.states (files_stay_ready before.store.found command before.files makes);
+        stops = unready_stops command before.store.held before.disk h1 before.files fault (is.told told).readies.states;
+      };
+    }
+
+-- its fault is answered
+pub refused : {disk files : Type 0} {command : Command} {before now : Scene} {fault : ReadFault} → MakesReady before.store.found command →
+    IsMadeReady disk before now (Err fault) → Meets disk files (attempt command (Err (fault_of_reading fault)) before now)
+refused {disk} {files} {command} {before} {now} {fault} makes is =
+    subst (λ (s : Scene). Meets disk files (attempt command (Err (fault_of_reading fault)) before s)) (went_on is)
+    (refusal_meets disk files command before now.store.found now.store.worn now.disk now.counts.disk fault makes (subst (λ (s : Scene). IsMadeReady disk before s (Err fault)) (sym (went_on is)) is))
