@@ -2,6 +2,7 @@ pub mod Appended
 pub mod Beside
 pub mod ChunkCounts
 pub mod Copying
+pub mod Dropping
 pub mod Fills
 pub mod Held
 pub mod HeldRows

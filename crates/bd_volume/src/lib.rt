@@ -3,6 +3,7 @@
 
 mod append;
 mod copy;
+mod dropped;
 mod fault;
 mod filling;
 mod laws;
@@ -11,6 +12,7 @@ mod walk;
 
 pub use append::{Records, append_category, append_records};
 pub use copy::{Section, copy_range};
+pub use dropped::drop_volume;
 pub use fault::AppendFault;
 pub use filling::Filling;
 pub use laws::{layouts_are_held, named_bytes_decide};
