@@ -1,3 +1,4 @@
+pub mod Figured
 pub mod LineLemmas
 pub mod Listed
 pub mod Making

@@ -33,7 +33,7 @@ use bd_recipe::{Neighbour, ReadFault};
 
 impl Store {
     // Reads the newest recipe, and arranges the store where it waits.
-    fn ready<D: Disk>(&mut self, disk: &mut D) -> Result<Neighbour, ReadFault>
+    pub(crate) fn ready<D: Disk>(&mut self, disk: &mut D) -> Result<Neighbour, ReadFault>
         requires room { disk_bytes self.old.found.sizes ≤ D.bytes disk.old }
         requires agrees { D.tells → Agrees self.old.found (D.history disk.old) }
         requires sound { self.old.worn ≡ false }
