@@ -1,17 +1,15 @@
 -- Which end comes of what.
-use Rattle.std.specs.Prelude.{◌≡◌, ◌⊎◌, ℕ, ◌≤◌, List, true, Option, Some, Result, Ok, Err}
+use Rattle.std.specs.Prelude.{◌≡◌, ℕ, ◌≤◌, List, true, Option, Some, Result, Ok, Err}
 use Rattle.bd_disk.specs.Calls.{Rose}
 use Rattle.bd_files.specs.Sinks.{HandsPart}
 use Rattle.bd_model.specs.Texts.{answer_text}
 use Rattle.bd_model.specs.declared.answer.Answer.{Answer}
 use Rattle.bd_model.specs.declared.command.Command.{Command}
-use Rattle.bd_model.specs.declared.command.Command.TheVariants.{Backup, Restore}
-use Rattle.bd_catalog.specs.Opening.{Found}
+use Rattle.bd_model.specs.declared.command.Command.TheVariants.{Backup, Restore, Expire, Reorganise, Scrub}
 use Rattle.bd_script.specs.Long.{is_long}
-use Rattle.bd_store.specs.Attempts.{IsAnswerOf}
 use Rattle.bd_store.specs.Causes.{HasRisen, NoneFell}
 use Rattle.bd_store.specs.declared.fault.StoreFault.{StoreFault}
-use Rattle.bd_store.specs.declared.fault.StoreFault.TheVariants.{SourceFault as StoreSource, TargetFault as StoreTarget, DiskFault as StoreDisk, Damaged as StoreDamaged, OutOfMemory as StoreMemory, Unbuilt as StoreUnbuilt}
+use Rattle.bd_store.specs.declared.fault.StoreFault.TheVariants.{SourceFault as StoreSource, TargetFault as StoreTarget, DiskFault as StoreDisk, Damaged as StoreDamaged, OutOfMemory as StoreMemory}
 use Rattle.bd_session.specs.Course.{Around}
 use Rattle.bd_session.specs.declared.report.SessionEnd.{SessionEnd}
 use Rattle.bd_session.specs.declared.report.SessionEnd.TheVariants.{SourceFault, TargetFault, DiskFault, Damaged, OutputFault, OutOfMemory, Unbuilt}
@@ -23,7 +21,6 @@ end_of StoreTarget = TargetFault
 end_of StoreDisk = DiskFault
 end_of (StoreDamaged damage) = Damaged damage
 end_of StoreMemory = OutOfMemory
-end_of StoreUnbuilt = Unbuilt
 
 -- the sink wasn't asked for anything
 pub record LeavesSink (before now : Around) : Type 0 where
@@ -75,11 +72,19 @@ pub record EndsOnlyByCount (ending : SessionEnd) (before now : Around) : Type 0 
 
 -- ---- by which command
 
--- A source that fails belongs to a backup, a target that fails to a restore, and damage to either. A command that is still to come is
--- one by what the store found.
+-- the commands that read what may be damaged
+abbrev pub MayMeetDamage : Command → Type 0
+MayMeetDamage (Backup name) = Unit {0}
+MayMeetDamage (Restore v name) = Unit {0}
+MayMeetDamage Expire = Unit {0}
+MayMeetDamage Reorganise = Unit {0}
+MayMeetDamage command = ⊥
+
+-- A source that fails belongs to a backup, a target that fails to a restore, and damage to one of these or to a command that
+-- arranges. The command that is still to come is a scrub.
 abbrev pub IsMetBy : Option Command → SessionEnd → Type 0
 IsMetBy next SourceFault = (name : List ℕ) × (next ≡ Some (Backup name))
 IsMetBy next TargetFault = (v : ℕ) × (name : List ℕ) × (next ≡ Some (Restore v name))
-IsMetBy next (Damaged damage) = ((name : List ℕ) × (next ≡ Some (Backup name))) ⊎ ((v : ℕ) × (name : List ℕ) × (next ≡ Some (Restore v name)))
-IsMetBy next Unbuilt = (found : Found) × (command : Command) × (next ≡ Some command) × IsAnswerOf found command (Err StoreUnbuilt)
+IsMetBy next (Damaged damage) = (command : Command) × (next ≡ Some command) × MayMeetDamage command
+IsMetBy next Unbuilt = next ≡ Some Scrub
 IsMetBy next ending = Unit {0}

@@ -113,8 +113,8 @@ pub record NoFault (before now : Around) : Type 0 where
   pub targets : now.scene.counts.targets < 2 ^ 64 - 1
   pub sink : (now.sink_faults ≡ before.sink_faults) × (now.sink_faults < 2 ^ 64 - 1)
 
--- Over an honest disk no damage is met, and without a fault every command is answered, but for want of memory and for those
--- that are still to come.
+-- Over an honest disk no damage is met, and without a fault every command up to a scrub, which is still to come, is answered,
+-- but for want of memory.
 pub record EndsWell (c : Course) (before now : Around) : Type 0 where
   pub whole : (damage : Damage) → c.ending ≢ Damaged damage
   pub complete : NoFault before now → (c.ending ≡ Done) ⊎ ((c.ending ≡ OutOfMemory) ⊎ (c.ending ≡ Unbuilt))

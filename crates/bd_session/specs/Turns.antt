@@ -5,11 +5,12 @@ use Rattle.bd_files.specs.Sinks.{HandsOn}
 use Rattle.bd_model.specs.Texts.{answer_text}
 use Rattle.bd_model.specs.declared.answer.Answer.{Answer}
 use Rattle.bd_model.specs.declared.command.Command.{Command}
+use Rattle.bd_model.specs.declared.command.Command.TheVariants.{Scrub}
 use Rattle.bd_store.specs.Attempts.{Meets, attempt}
 use Rattle.bd_store.specs.declared.fault.StoreFault.{StoreFault}
 use Rattle.bd_session.specs.Course.{Around, Course, answered, next_command}
 use Rattle.bd_session.specs.Ends.{EndsBy}
-use Rattle.bd_session.specs.declared.report.SessionEnd.TheVariants.{Done, OutOfMemory}
+use Rattle.bd_session.specs.declared.report.SessionEnd.TheVariants.{Done, OutOfMemory, Unbuilt}
 
 -- A command was carried out and answered, and then the sink took the text of its answer, at this moment.
 pub record Turn (disk files sink : Type 0) (command : Command) (answer : Answer) (moment : ℕ) (before after : Around) : Type 0 where
@@ -47,8 +48,14 @@ pub record NoneBegun (c : Course) (last now : Around) : Type 0 where
   pub none : c.answers ≡ []
   pub same : now ≡ last
 
+-- the next command is a scrub, and wasn't begun
+pub record NotBegun (c : Course) (last now : Around) : Type 0 where
+  pub ending : c.ending ≡ Unbuilt
+  pub next : next_command c ≡ Some Scrub
+  pub same : now ≡ last
+
 -- From first to last: the turns of the commands that were answered, and how it ended.
 pub record Goes (disk files sink : Type 0) (c : Course) (first now : Around) : Type 0 where
   pub last : Around
   pub turns : Turns disk files sink c.commands first c.answers c.clocks last
-  pub ends : AllAnswered c last now ⊎ NoneBegun c last now ⊎ LastTurn disk files sink c last now
+  pub ends : AllAnswered c last now ⊎ NoneBegun c last now ⊎ NotBegun c last now ⊎ LastTurn disk files sink c last now

@@ -23,7 +23,7 @@ pub enum SessionEnd {
     /// The sink answered `Failed`. The command was carried out, and its answer isn't noted.
     OutputFault,
     OutOfMemory,
-    /// This form of the command is still to come. Nothing is changed.
+    /// A scrub, which is still to come. It isn't begun.
     Unbuilt,
 }
 
@@ -90,6 +90,5 @@ pub(crate) fn end_of(fault: StoreFault) -> SessionEnd
         StoreFault::DiskFault => SessionEnd::DiskFault,
         StoreFault::Damaged { damage } => SessionEnd::Damaged { damage },
         StoreFault::OutOfMemory => SessionEnd::OutOfMemory,
-        StoreFault::Unbuilt => SessionEnd::Unbuilt,
     }
 }

@@ -9,13 +9,13 @@ use crate::report::{SessionEnd, SessionReport, end_of};
 use crate::telling::{Untold, tell_answer};
 use bd_disk::Disk;
 use bd_files::{Files, Sink};
-use bd_model::Commands;
+use bd_model::{Command, Commands};
 use bd_store::Store;
 use std::alloc::Global;
 
 /// Carries the commands out on a store, one after the other. The text of each answer is put behind the last sync of its
-/// command and before the next command begins. The first fault, damage or want of memory ends the list. Room for all
-/// answers and clocks is taken before the first command.
+/// command and before the next command begins. The first fault, damage or want of memory ends the list, and so does a scrub,
+/// which is still to come. Room for all answers and clocks is taken before the first command.
 pub fn session<D: Disk, F: Files, O: Sink>(
     alloc: Global,
     store: &mut Store,
@@ -37,6 +37,9 @@ pub fn session<D: Disk, F: Files, O: Sink>(
         Err(_) => return SessionReport::none(alloc, SessionEnd::OutOfMemory),
     };
     for command in commands.as_slice() {
+        if let Command::Scrub = command {
+            return report.ending(SessionEnd::Unbuilt);
+        }
         match store.carry_out(disk, files, command) {
             Ok(answer) => match tell_answer(alloc, disk, out, &answer) {
                 Ok(moment) => {

@@ -14,14 +14,11 @@ use bd_session::{SessionEnd, session};
 use bd_store::{OpenFault, Store};
 use std::alloc::Global;
 
-/// Whether a command is built; the others are still to come.
+/// Whether a command is built. A scrub is still to come.
 pub fn is_built(command: &Command) -> bool
     ensures { result ≡ is_built command.now }
 {
-    matches!(
-        command,
-        Command::Backup { .. } | Command::Restore { .. } | Command::List
-    )
+    !matches!(command, Command::Scrub)
 }
 
 /// Opens the store, and carries the commands out on it, one after the other.
