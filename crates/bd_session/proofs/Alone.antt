@@ -1,5 +1,5 @@
 -- A list of one command.
-use Rattle.std.proofs.Common.{◌≡◌, ◌∙◌, ℕ, ◌+◌, List, [], ◌∷◌, ◌++◌, arith, length, refl, sym, ap, subst, Some, slice_get}
+use Rattle.std.proofs.Common.{◌≡◌, ◌∙◌, ℕ, List, [], ◌∷◌, ◌++◌, arith, length, refl, sym, ap, subst, Some, slice_get}
 use Rattle.std.proofs.lemmas.List.{length_push}
 use Rattle.bd_disk.specs.History.{contents}
 use Rattle.bd_model.specs.declared.answer.Answer.{Answer}

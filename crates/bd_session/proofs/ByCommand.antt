@@ -1,12 +1,14 @@
 -- What is said of a command by which one it is. A command that is built adds its lines here; all else goes by its answer.
-use Rattle.std.proofs.Common.{◌≡◌, ◌≤◌, ◌⊎◌, ◌∙◌, ℕ, true, inl, inr, refl, sym, ap, subst, Ok, Err, Option, Some, false, List}
+use Rattle.std.proofs.Common.{◌≡◌, ◌≤◌, ◌⊎◌, ◌∙◌, ◌&&◌, ◌==◌, ℕ, true, [], inl, inr, refl, sym, ap, subst, Ok, Err, Option, Some, false, List}
 use Rattle.std.specs.FinMap as map
 use Rattle.std.specs.Str.{bytes_eq}
+use Rattle.std.proofs.lemmas.Bool.{eqb-true}
 use Rattle.std.proofs.lemmas.Bool.Decides.{not_from_Decides}
 use Rattle.std.proofs.lemmas.Slice.Eq.{bytes_eq-Decides}
 use Rattle.bd_disk.specs.History.{clock, contents, History}
 use Rattle.bd_disk.specs.Made.{WritesOnly, WritesNothing}
-use Rattle.bd_disk.proofs.Frames.{at_start, nothing_within, writes_wider}
+use Rattle.bd_disk.specs.Trace.{ReadsOnly}
+use Rattle.bd_disk.proofs.Frames.{at_now, at_start, made_both, nothing_within, writes_wider}
 use Rattle.bd_disk.proofs.Traces.{reads_of_run}
 use Rattle.bd_model.specs.declared.answer.Answer.{Answer}
 use Rattle.bd_model.specs.declared.command.Command.{Command}
@@ -17,26 +19,34 @@ use Rattle.bd_model.specs.State.{VersionState, history}
 use Rattle.bd_model.specs.Step.{phase_after, without_room}
 use Rattle.bd_model.specs.declared.shape.Shape.{Shape}
 use Rattle.bd_model.specs.declared.layout.Phase.{Phase}
+use Rattle.bd_model.specs.declared.layout.Phase.TheVariants.{Settled, Waiting}
 use Rattle.bd_model.specs.declared.answer.Answer.TheVariants.{Restored, Expired, Scrubbed, Listed, Soaked}
+use Rattle.bd_catalog.specs.Catalogue.{retained_in}
 use Rattle.bd_catalog.specs.Opening.{Found, opened}
 use Rattle.bd_catalog.specs.Standing.{StandsFor}
 use Rattle.bd_catalog.specs.Agreement.{Agrees}
+use Rattle.bd_catalog.proofs.StandingFound.{opened-found}
 use Rattle.bd_script.specs.Long.{is_long}
-use Rattle.bd_store.specs.Attempts.{IsAnswerOf, ReadsByCommand, Scene, attempt, WritesByCommand}
+use Rattle.bd_store.specs.Attempts.{IsAnswerOf, ReadsByCommand, Scene, WritesBeside, attempt, WritesByCommand}
 use Rattle.bd_store.specs.Steps.{task, IsNear, KeepsFiles}
-use Rattle.bd_store.specs.Touches.{WalksTo}
+use Rattle.bd_store.specs.Touches.{IsLeanExpiry, WalksTo, arranges_first, waits}
 use Rattle.bd_store.specs.declared.fault.StoreFault.{StoreFault}
-use Rattle.bd_store.specs.declared.fault.StoreFault.TheVariants.{SourceFault as StoreSource, TargetFault as StoreTarget, DiskFault as StoreDisk, Damaged as StoreDamaged, OutOfMemory as StoreMemory, Unbuilt as StoreUnbuilt}
-use Rattle.bd_session.specs.Reads.{ReadsFor, RestoreReads}
+use Rattle.bd_store.specs.declared.fault.StoreFault.TheVariants.{SourceFault as StoreSource, TargetFault as StoreTarget, DiskFault as StoreDisk, Damaged as StoreDamaged, OutOfMemory as StoreMemory}
+use Rattle.bd_session.specs.Drops.{ArrangesFirst, Drops}
+use Rattle.bd_session.specs.Reads.{ExpiryDrops, ExpiryReads, ReadsFor, RestoreReads}
 use Rattle.bd_session.specs.Ends.{IsMetBy, end_of}
 use Rattle.bd_session.specs.Keeping.{IsQuiet}
+use Rattle.bd_session.proofs.Dropping.{drops_oldest}
+
+beside_beyond : {found : Found} {old new : History} → WritesBeside found old new → WritesOnly (λ place. 64 ≤ place) old new
+beside_beyond writes = made_both (writes_wider _ (λ place beside. beside.begins) writes.first) (writes_wider _ (λ place beside. beside.begins) writes.second)
 
 -- no command writes in the superblock
 pub writes_beyond : (found : Found) (command : Command) {old new : History} → WritesByCommand found command old new → WritesOnly (λ place. 64 ≤ place) old new
-writes_beyond found (Backup name) writes = writes_wider _ (λ place unnamed. unnamed.begins) writes
+writes_beyond found (Backup name) writes = beside_beyond writes
 writes_beyond found (Restore v name) writes = nothing_within _ writes
-writes_beyond found Expire writes = nothing_within _ writes
-writes_beyond found Reorganise writes = nothing_within _ writes
+writes_beyond found Expire writes = beside_beyond writes
+writes_beyond found Reorganise writes = writes_wider _ (λ place beside. beside.begins) writes
 writes_beyond found Scrub writes = nothing_within _ writes
 writes_beyond found Listing writes = nothing_within _ writes
 
@@ -68,30 +78,26 @@ target_or_kept Listing old new name same = inr (ap (λ (m : FileMap). map.get m 
 pub met_fault : (found : Found) (command : Command) (fault : StoreFault) → IsAnswerOf found command (Err fault) → (next : Option Command) → next ≡ Some command → IsMetBy next (end_of fault)
 met_fault found command StoreDisk answers next is = tt
 met_fault found command StoreMemory answers next is = tt
-met_fault found command StoreUnbuilt answers next is = (found, command, is, answers)
 met_fault found (Backup name) StoreSource answers next is = (name, is)
 met_fault found (Restore v name) StoreSource answers next is = absurd answers
 met_fault found Listing StoreSource answers next is = absurd (cc answers)
-met_fault found Expire StoreSource answers next is = absurd (cc answers)
-met_fault found Reorganise StoreSource answers next is = absurd (cc answers)
-met_fault found Scrub StoreSource answers next is = absurd (cc answers)
+met_fault found Expire StoreSource answers next is = absurd answers
+met_fault found Reorganise StoreSource answers next is = absurd answers
+met_fault found Scrub StoreSource answers next is = absurd answers
 met_fault found (Backup name) StoreTarget answers next is = absurd answers
 met_fault found (Restore v name) StoreTarget answers next is = (v, name, is)
 met_fault found Listing StoreTarget answers next is = absurd (cc answers)
-met_fault found Expire StoreTarget answers next is = absurd (cc answers)
-met_fault found Reorganise StoreTarget answers next is = absurd (cc answers)
-met_fault found Scrub StoreTarget answers next is = absurd (cc answers)
-met_fault found (Backup name) (StoreDamaged damage) answers next is = inl (name, is)
-met_fault found (Restore v name) (StoreDamaged damage) answers next is = inr (v, name, is)
+met_fault found Expire StoreTarget answers next is = absurd answers
+met_fault found Reorganise StoreTarget answers next is = absurd answers
+met_fault found Scrub StoreTarget answers next is = absurd answers
+met_fault found (Backup name) (StoreDamaged damage) answers next is = (Backup name, is, tt)
+met_fault found (Restore v name) (StoreDamaged damage) answers next is = (Restore v name, is, tt)
 met_fault found Listing (StoreDamaged damage) answers next is = absurd (cc answers)
-met_fault found Expire (StoreDamaged damage) answers next is = absurd (cc answers)
-met_fault found Reorganise (StoreDamaged damage) answers next is = absurd (cc answers)
-met_fault found Scrub (StoreDamaged damage) answers next is = absurd (cc answers)
+met_fault found Expire (StoreDamaged damage) answers next is = (Expire, is, tt)
+met_fault found Reorganise (StoreDamaged damage) answers next is = (Reorganise, is, tt)
+met_fault found Scrub (StoreDamaged damage) answers next is = absurd answers
 
 -- ---- what was answered
-
-same_answer : {answer : Answer} {fault : StoreFault} → Ok answer ≡ Err fault → ⊥
-same_answer e = cc e
 
 -- an answer of many lines is that of a list, which touches nothing
 pub long_quiet : (command : Command) (answer : Answer) (before after : Scene) → is_long answer ≡ true → IsAnswerOf before.store.found command (Ok answer) → ReadsByCommand (attempt command (Ok answer) before after) command → KeepsFiles command before.files after.files →
@@ -105,17 +111,45 @@ long_quiet (Restore v name) (Scrubbed report) before after long answers reads ke
 long_quiet (Restore v name) (Listed lines) before after long answers reads keeps = absurd answers
 long_quiet (Restore v name) (Soaked x0 x1 x2 x3 x4 x5 x6) before after long answers reads keeps = absurd answers
 long_quiet (Restore v name) _ before after long answers reads keeps = absurd (cc long)
-long_quiet Expire answer before after long answers reads keeps = absurd (same_answer answers)
-long_quiet Reorganise answer before after long answers reads keeps = absurd (same_answer answers)
-long_quiet Scrub answer before after long answers reads keeps = absurd (same_answer answers)
+long_quiet Expire (Scrubbed report) before after long answers reads keeps = absurd answers
+long_quiet Expire (Listed lines) before after long answers reads keeps = absurd answers
+long_quiet Expire (Soaked x0 x1 x2 x3 x4 x5 x6) before after long answers reads keeps = absurd answers
+long_quiet Expire _ before after long answers reads keeps = absurd (cc long)
+long_quiet Reorganise (Scrubbed report) before after long answers reads keeps = absurd answers
+long_quiet Reorganise (Listed lines) before after long answers reads keeps = absurd answers
+long_quiet Reorganise (Soaked x0 x1 x2 x3 x4 x5 x6) before after long answers reads keeps = absurd answers
+long_quiet Reorganise _ before after long answers reads keeps = absurd (cc long)
+long_quiet Scrub answer before after long answers reads keeps = absurd answers
+
+-- where an expiry arranges first
+arranging_first : (phase : Phase) (count : ℕ) → (waits phase && (count == 2)) ≡ true → ArrangesFirst phase count
+arranging_first Settled count e = absurd (cc e)
+arranging_first (Waiting cursor) count e = eqb-true count 2 e
 
 -- what was read between the clocks of a command, by its answer
-module _ (shape : Shape) (st : VersionState) (phase : Phase) (files : FileMap) (before after : Scene) (held : before.store.held ≡ 0) (agrees : Agrees before.store.found before.disk)
+module _ (shape : Shape) (st : VersionState) (phase : Phase) (files : FileMap) (before after : Scene) (held : before.store.held ≡ 0) (agrees : Agrees before.store.found before.disk) (agrees_after : Agrees after.store.found after.disk)
     (writes : WritesOnly (λ place. 64 ≤ place) before.disk after.disk) (stands : StandsFor shape st phase 0 (contents before.disk)) where
   walked : (v : ℕ) → Near (history shape st) → WalksTo before.store.held before.store.found v before.disk after.disk → RestoreReads shape st after.disk (clock before.disk) (clock after.disk) v
   walked v near walks =
       let walk = walks.each shape st phase near (subst (λ h. StandsFor shape st phase h (contents before.disk)) (sym held) stands) in
       record { found = before.store.found; before = ap opened (at_start writes) ∙ agrees.opens; places = reads_of_run walk.0; lean = walk.1 }
+
+  -- an expiry that doesn't arrange reads nothing and drops the oldest version
+  dropped : 1 ≤ retained_in before.store.found.catalogue → (arranges_first before.store.found ≡ false → IsLeanExpiry before.store.found after.store.found before.disk after.disk × ReadsOnly [] before.disk after.disk) →
+      ExpiryReads after.disk (clock before.disk) (clock after.disk)
+  dropped some lean = record {
+    before = before.store.found;
+    after = after.store.found;
+    before_it = ap opened (at_start writes) ∙ agrees.opens;
+    after_it = ap opened (at_now after.disk) ∙ agrees_after.opens;
+    so = elim (arranges_first before.store.found) as (λ b. arranges_first before.store.found ≡ b → ArrangesFirst before.store.found.catalogue.phase (retained_in before.store.found.catalogue) ⊎ ExpiryDrops after.disk (clock before.disk) (clock after.disk) before.store.found after.store.found) [
+      | true ↦ λ e. inl (arranging_first before.store.found.catalogue.phase (retained_in before.store.found.catalogue) e)
+      | false ↦ λ e. inr (record {
+        places = reads_of_run (lean e).1;
+        drops = subst (Drops (retained_in before.store.found.catalogue) before.store.found.catalogue) (sym (lean e).0.catalogue) (drops_oldest before.store.found.sizes before.store.found.catalogue (opened-found (contents before.disk) before.store.found agrees.opens).obeys some);
+      })
+    ] refl;
+  }
 
   pub reads_for : (command : Command) (answer : Answer) → IsNear (task shape 0 st files command) → IsAnswerOf before.store.found command (Ok answer) → ReadsByCommand (attempt command (Ok answer) before after) command →
       ReadsFor shape st after.disk (clock before.disk) (clock after.disk) answer
@@ -128,9 +162,13 @@ module _ (shape : Shape) (st : VersionState) (phase : Phase) (files : FileMap) (
   reads_for Listing (Restored given bytes) near answers reads = absurd (cc answers)
   reads_for Listing (Expired given extents) near answers reads = absurd (cc answers)
   reads_for Listing _ near answers reads = tt
-  reads_for Expire answer near answers reads = absurd (same_answer answers)
-  reads_for Reorganise answer near answers reads = absurd (same_answer answers)
-  reads_for Scrub answer near answers reads = absurd (same_answer answers)
+  reads_for Expire (Restored given bytes) near answers reads = absurd answers
+  reads_for Expire (Expired given extents) near answers reads = dropped answers.0 reads
+  reads_for Expire _ near answers reads = tt
+  reads_for Reorganise (Restored given bytes) near answers reads = absurd answers
+  reads_for Reorganise (Expired given extents) near answers reads = absurd answers
+  reads_for Reorganise _ near answers reads = tt
+  reads_for Scrub answer near answers reads = absurd answers
 
 -- the room in an answer's lists says nothing of the phase
 pub phase_after-room : (st : VersionState) (phase : Phase) (answer : Answer) → phase_after st phase (without_room answer) ≡ phase_after st phase answer

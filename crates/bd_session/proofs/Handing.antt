@@ -1,5 +1,5 @@
 -- What the sink was given.
-use Rattle.std.proofs.Common.{◌≡◌, ◌≢◌, ◌⊎◌, ◌∙◌, ℕ, ◌+◌, List, [], ◌∷◌, ◌++◌, length, take, inl, inr, refl, sym, ap, arith, append-nil, append_assoc, ⊎_elim, Ok, Err, Result}
+use Rattle.std.proofs.Common.{◌≡◌, ◌≢◌, ◌⊎◌, ◌∙◌, ℕ, List, [], ◌∷◌, ◌++◌, length, take, inl, inr, refl, sym, ap, arith, append-nil, append_assoc, ⊎_elim, Ok, Err, Result}
 use Rattle.std.proofs.lemmas.Grind.{flat_map-append}
 use Rattle.std.proofs.lemmas.List.{length_push}
 use Rattle.std.proofs.lemmas.List.Elements.{filter_map-append}
@@ -13,7 +13,7 @@ use Rattle.bd_store.specs.declared.fault.StoreFault.{StoreFault}
 use Rattle.bd_session.specs.Course.{Around, Course}
 use Rattle.bd_session.specs.Ends.{EndsBy}
 use Rattle.bd_session.specs.Telling.{HandsAnswers, told}
-use Rattle.bd_session.specs.Turns.{AllAnswered, Goes, LastTurn, NoneBegun, Turns, no_turn, next_turn}
+use Rattle.bd_session.specs.Turns.{AllAnswered, Goes, LastTurn, NoneBegun, NotBegun, Turns, no_turn, next_turn}
 use Rattle.bd_session.specs.declared.report.SessionEnd.TheVariants.{OutputFault}
 use Rattle.bd_session.proofs.Turning.{unsaid}
 
@@ -90,10 +90,11 @@ hands_answers {disk} {files} {sink} {c} {first} {now} goes tells = by_end goes.e
       (λ memory. whole_only far memory.2.handed)
       (unsaid sink answer c.ending goes.last now ends)
 
-  by_end : AllAnswered c goes.last now ⊎ NoneBegun c goes.last now ⊎ LastTurn disk files sink c goes.last now → HandsAnswers disk c first.handed now.handed
+  by_end : AllAnswered c goes.last now ⊎ NoneBegun c goes.last now ⊎ NotBegun c goes.last now ⊎ LastTurn disk files sink c goes.last now → HandsAnswers disk c first.handed now.handed
   by_end (inl all) = unmoved all.same
   by_end (inr (inl begun)) = unmoved begun.same
-  by_end (inr (inr turn)) = by_result turn.result turn.ends
+  by_end (inr (inr (inl not_begun))) = unmoved not_begun.same
+  by_end (inr (inr (inr turn))) = by_result turn.result turn.ends
 
 -- ---- what was written, and when
 

@@ -11,7 +11,7 @@ use Rattle.bd_model.specs.State.{VersionState}
 use Rattle.bd_model.specs.Step.{Outcome, phase_after}
 use Rattle.bd_model.specs.declared.answer.Answer.{Answer}
 use Rattle.bd_model.specs.declared.command.Command.{Command}
-use Rattle.bd_model.specs.declared.command.Command.TheVariants.{Restore}
+use Rattle.bd_model.specs.declared.command.Command.TheVariants.{Restore, Scrub}
 use Rattle.bd_model.specs.declared.damage.Damage.{Damage}
 use Rattle.bd_model.specs.declared.layout.Phase.{Phase}
 use Rattle.bd_model.specs.declared.layout.Phase.TheVariants.{Settled}
@@ -22,19 +22,19 @@ use Rattle.bd_store.specs.Causes.{Counts}
 use Rattle.bd_store.specs.Steps.{Task, task, Answered, IsNear, IsOneStep, KeepsFiles, MakesStep}
 use Rattle.bd_store.specs.Stops.{IsSafeAtStops, StopsOnEitherSide}
 use Rattle.bd_store.specs.declared.fault.StoreFault.{StoreFault}
-use Rattle.bd_store.specs.declared.fault.StoreFault.TheVariants.{SourceFault as StoreSource, TargetFault as StoreTarget, DiskFault as StoreDisk, Damaged as StoreDamaged, OutOfMemory as StoreMemory, Unbuilt as StoreUnbuilt}
+use Rattle.bd_store.specs.declared.fault.StoreFault.TheVariants.{SourceFault as StoreSource, TargetFault as StoreTarget, DiskFault as StoreDisk, Damaged as StoreDamaged, OutOfMemory as StoreMemory}
 use Rattle.bd_session.specs.Course.{Around, Course, answered}
 use Rattle.bd_session.specs.Ends.{EndsBy, EndsByCount, end_of}
 use Rattle.bd_session.specs.Headline.{IsHalfWritten, LeavesTarget, MeetsTheHeadline, NoFault, carried_out, last_state}
 use Rattle.bd_session.specs.Promised.{IsHonest, IsPromised, MarksTellApart, Start, start}
 use Rattle.bd_session.specs.Session.{MeetsHonestly}
-use Rattle.bd_session.specs.Turns.{AllAnswered, Goes, LastTurn, NoneBegun, Turns, no_turn, next_turn}
+use Rattle.bd_session.specs.Turns.{AllAnswered, Goes, LastTurn, NoneBegun, NotBegun, Turns, no_turn, next_turn}
 use Rattle.bd_session.specs.declared.report.SessionEnd.{SessionEnd}
 use Rattle.bd_session.specs.declared.report.SessionEnd.TheVariants.{Done, SourceFault, TargetFault, DiskFault, Damaged, OutputFault, OutOfMemory, Unbuilt}
 use Rattle.bd_session.proofs.ByCommand.{long_quiet, phase_after-room, reads_for, target_or_kept, writes_beyond}
 use Rattle.bd_session.proofs.Ending.{ends_done, ends_failed, ends_kept, ends_unsaid}
 use Rattle.bd_session.proofs.Going.{HasGone, goes_on, none_gone}
-use Rattle.bd_session.proofs.Turning.{IsOpen, along, by_count, damage_end, still_open, unsaid}
+use Rattle.bd_session.proofs.Turning.{IsOpen, along, by_count, damage_end, open_after, still_open, unsaid}
 
 -- ---- one command from where the others led
 
@@ -86,7 +86,7 @@ module _ {disk files sink : Type 0} {commands : List Command} {first : Around} (
       subst (λ m. HasGone s commands (answers ++ answer ∷ []) (clocks ++ m ∷ []) after.scene.disk after.scene.files) (sym (turn.clock told))
       (goes_on s commands answers clocks before.scene.disk after.scene.disk before.scene.files after.scene.files g command there done.outcome done.leads answer done.says writes
       (stands_on t g.phase answer (contents after.scene.disk) after.scene.files done) (sure_on t g.phase answer after.scene.files before.scene.disk after.scene.disk done stops) stops.within done.beside
-      (reads_for shape g.point.state g.phase g.point.files before.scene after.scene (held_on turns) ((still_open turns opened).agrees told) writes g.stands command answer near turn.meets.answer on_disk.reads))
+      (reads_for shape g.point.state g.phase g.point.files before.scene after.scene (held_on turns) ((still_open turns opened).agrees told) ((open_after turn (still_open turns opened)).agrees told) writes g.stands command answer near turn.meets.answer on_disk.reads))
 
 -- ---- the ends
 
@@ -163,7 +163,6 @@ module _ {disk files sink : Type 0} {c : Course} {first now : Around} (told : di
     by_fault StoreSource is kept stops = left (subst Leaves (sym is) leaves_source) (record { phase = Settled; so = kept.stands }) stops.done (all_kept kept.beside)
     by_fault StoreTarget is kept stops = left (subst Leaves (sym is) leaves_target) kept.stands stops.done (half_or_kept (subst LeavesTarget (sym is) tt) kept.beside)
     by_fault StoreMemory is kept stops = left (subst Leaves (sym is) leaves_memory) kept.stands stops.done (half_or_kept (subst LeavesTarget (sym is) tt) kept.beside)
-    by_fault StoreUnbuilt is kept stops = left (subst Leaves (sym is) leaves_unbuilt) kept.stands stops.done (all_kept kept.beside)
     by_fault StoreDisk is kept stops = ends_failed s c goes.last.scene.disk now.scene.disk goes.last.scene.files g writes turn.command turn.next now.scene.files is kept.stands stops.within (half_or_kept (subst LeavesTarget (sym is) tt) kept.beside)
     by_fault (StoreDamaged damage) is kept stops = absurd kept
 
@@ -195,20 +194,25 @@ module _ {disk files sink : Type 0} {c : Course} {first now : Around} (told : di
       no_memory : OutOfMemory ≡ Damaged damage → ⊥
       no_memory e = cc e
 
-  headline_met : AllAnswered c goes.last now ⊎ NoneBegun c goes.last now ⊎ LastTurn disk files sink c goes.last now → MeetsTheHeadline s (clock s.disk) c now.scene.disk now.scene.files
+  headline_met : AllAnswered c goes.last now ⊎ NoneBegun c goes.last now ⊎ NotBegun c goes.last now ⊎ LastTurn disk files sink c goes.last now → MeetsTheHeadline s (clock s.disk) c now.scene.disk now.scene.files
   unfolding g
   headline_met (inl all) = subst (λ (x : Around). MeetsTheHeadline s (clock s.disk) c x.scene.disk x.scene.files) (sym all.same) (ends_done g all.done all.all)
   headline_met (inr (inl begun)) = unmoved (subst Leaves (sym begun.memory) leaves_memory) (λ other. absurd (other begun.memory)) (ap (λ (x : Around). x.scene.disk) begun.same) (ap (λ (x : Around). x.scene.files) begun.same)
-  headline_met (inr (inr turn)) = by_result turn turn.result turn.meets turn.ends
+  headline_met (inr (inr (inl not_begun))) =
+      unmoved (subst Leaves (sym not_begun.ending) leaves_unbuilt) (λ _. slice_get_within c.commands (answered c) Scrub not_begun.next) (ap (λ (x : Around). x.scene.disk) not_begun.same) (ap (λ (x : Around). x.scene.files) not_begun.same)
+  headline_met (inr (inr (inr turn))) = by_result turn turn.result turn.meets turn.ends
 
-  damage_met : AllAnswered c goes.last now ⊎ NoneBegun c goes.last now ⊎ LastTurn disk files sink c goes.last now → (damage : Damage) → c.ending ≢ Damaged damage
+  damage_met : AllAnswered c goes.last now ⊎ NoneBegun c goes.last now ⊎ NotBegun c goes.last now ⊎ LastTurn disk files sink c goes.last now → (damage : Damage) → c.ending ≢ Damaged damage
   damage_met (inl all) damage is = clash (sym all.done ∙ is) where
     clash : Done ≡ Damaged damage → ⊥
     clash e = cc e
   damage_met (inr (inl begun)) damage is = clash (sym begun.memory ∙ is) where
     clash : OutOfMemory ≡ Damaged damage → ⊥
     clash e = cc e
-  damage_met (inr (inr turn)) damage is = no_damage turn turn.result turn.meets turn.ends damage is
+  damage_met (inr (inr (inl not_begun))) damage is = clash (sym not_begun.ending ∙ is) where
+    clash : Unbuilt ≡ Damaged damage → ⊥
+    clash e = cc e
+  damage_met (inr (inr (inr turn))) damage is = no_damage turn turn.result turn.meets turn.ends damage is
 
 -- without a fault it ends well
 complete : (ending : SessionEnd) (before now : Around) → EndsByCount ending before now → ((damage : Damage) → ending ≢ Damaged damage) → NoFault before now → (ending ≡ Done) ⊎ ((ending ≡ OutOfMemory) ⊎ (ending ≡ Unbuilt))

@@ -13,7 +13,7 @@ use Rattle.bd_store.specs.Attempts.{IsAnswerOf, Scene, attempt, Meets}
 use Rattle.bd_store.specs.declared.fault.StoreFault.{StoreFault}
 use Rattle.bd_session.specs.Course.{Around, Course, next_command, answered}
 use Rattle.bd_session.specs.Ends.{EndsBy, IsMetBy}
-use Rattle.bd_session.specs.Turns.{AllAnswered, Goes, LastTurn, NoneBegun, Turns, no_turn, next_turn}
+use Rattle.bd_session.specs.Turns.{AllAnswered, Goes, LastTurn, NoneBegun, NotBegun, Turns, no_turn, next_turn}
 use Rattle.bd_session.specs.Keeping.{ClocksRise, IsTargetBelow, KeepsOthers, StraysOnlyFor, WritesByCommands}
 use Rattle.bd_session.proofs.Turning.{unsaid, paired, to_the_end}
 use Rattle.bd_session.proofs.ByCommand.{met_fault, quiet_writes, target_or_kept, writes_beyond}
@@ -40,10 +40,11 @@ module _ {disk files sink : Type 0} {c : Course} {first now : Around} (goes : Go
     at_last : P (answered c) goes.last.scene
     at_last = turned goes.turns (omega arith)
 
-    by_end : AllAnswered c goes.last now ⊎ NoneBegun c goes.last now ⊎ LastTurn disk files sink c goes.last now → P (answered c + 1) now.scene
+    by_end : AllAnswered c goes.last now ⊎ NoneBegun c goes.last now ⊎ NotBegun c goes.last now ⊎ LastTurn disk files sink c goes.last now → P (answered c + 1) now.scene
     by_end (inl all) = subst (λ (x : Around). P (answered c + 1) x.scene) (sym all.same) (wider _ _ at_last)
     by_end (inr (inl begun)) = subst (λ (x : Around). P (answered c + 1) x.scene) (sym begun.same) (wider _ _ at_last)
-    by_end (inr (inr turn)) = one (answered c) goes.last.scene now.scene (omega arith) (record { command = turn.command; there = turn.next; result = turn.result; meets = turn.meets }) at_last
+    by_end (inr (inr (inl not_begun))) = subst (λ (x : Around). P (answered c + 1) x.scene) (sym not_begun.same) (wider _ _ at_last)
+    by_end (inr (inr (inr turn))) = one (answered c) goes.last.scene now.scene (omega arith) (record { command = turn.command; there = turn.next; result = turn.result; meets = turn.meets }) at_last
 
   -- a target below a number is one below a greater number
   below_more : (k n : ℕ) (name : List ℕ) → k ≤ n → IsTargetBelow c k name → IsTargetBelow c n name
@@ -155,10 +156,11 @@ clocks_rise {disk} {files} {sink} {c} {first} {now} goes = record {
   rise = λ told. rising told goes.turns;
   last = λ told. omega (arith, last_clock told goes.turns, ends told goes.ends);
 } where
-  ends : disk → AllAnswered c goes.last now ⊎ NoneBegun c goes.last now ⊎ LastTurn disk files sink c goes.last now → clock goes.last.scene.disk ≤ clock now.scene.disk
+  ends : disk → AllAnswered c goes.last now ⊎ NoneBegun c goes.last now ⊎ NotBegun c goes.last now ⊎ LastTurn disk files sink c goes.last now → clock goes.last.scene.disk ≤ clock now.scene.disk
   ends told (inl all) = omega (arith, ap (λ (x : Around). clock x.scene.disk) all.same)
   ends told (inr (inl begun)) = omega (arith, ap (λ (x : Around). clock x.scene.disk) begun.same)
-  ends told (inr (inr turn)) = later (writes_beyond goes.last.scene.store.found turn.command (turn.meets.on_disk told).writes)
+  ends told (inr (inr (inl not_begun))) = omega (arith, ap (λ (x : Around). clock x.scene.disk) not_begun.same)
+  ends told (inr (inr (inr turn))) = later (writes_beyond goes.last.scene.store.found turn.command (turn.meets.on_disk told).writes)
 
 -- ---- which command brought the end
 
@@ -169,7 +171,8 @@ met_by {disk} {files} {sink} {c} {first} {now} goes = by_end goes.ends where
   by_result command found (Ok answer) answers is ends =
       ⊎_elim (λ out. subst (IsMetBy (next_command c)) (sym out.0) tt) (λ memory. subst (IsMetBy (next_command c)) (sym memory.0) tt) (unsaid sink answer c.ending goes.last now ends)
 
-  by_end : AllAnswered c goes.last now ⊎ NoneBegun c goes.last now ⊎ LastTurn disk files sink c goes.last now → IsMetBy (next_command c) c.ending
+  by_end : AllAnswered c goes.last now ⊎ NoneBegun c goes.last now ⊎ NotBegun c goes.last now ⊎ LastTurn disk files sink c goes.last now → IsMetBy (next_command c) c.ending
   by_end (inl all) = subst (IsMetBy (next_command c)) (sym all.done) tt
   by_end (inr (inl begun)) = subst (IsMetBy (next_command c)) (sym begun.memory) tt
-  by_end (inr (inr turn)) = by_result turn.command goes.last.scene.store.found turn.result turn.meets.answer turn.next turn.ends
+  by_end (inr (inr (inl not_begun))) = subst (IsMetBy (next_command c)) (sym not_begun.ending) not_begun.next
+  by_end (inr (inr (inr turn))) = by_result turn.command goes.last.scene.store.found turn.result turn.meets.answer turn.next turn.ends

@@ -1,6 +1,7 @@
 pub mod Alone
 pub mod Apart
 pub mod ByCommand
+pub mod Dropping
 pub mod Ending
 pub mod Going
 pub mod Handing

@@ -4,6 +4,7 @@ use Rattle.std.proofs.lemmas.List.{length_push}
 use Rattle.std.proofs.lemmas.Option.{slice_get-get_or}
 use Rattle.bd_model.specs.declared.answer.Answer.{Answer}
 use Rattle.bd_model.specs.declared.command.Command.{Command}
+use Rattle.bd_model.specs.declared.command.Command.TheVariants.{Scrub}
 use Rattle.bd_store.specs.Attempts.{Meets, attempt}
 use Rattle.bd_store.specs.declared.fault.StoreFault.{StoreFault}
 use Rattle.bd_session.specs.Course.{Around, course}
@@ -11,7 +12,7 @@ use Rattle.bd_session.specs.Ends.{EndsBy}
 use Rattle.bd_session.specs.Session.{MeetsSession}
 use Rattle.bd_session.specs.Turns.{Turn, Turns, no_turn, next_turn}
 use Rattle.bd_session.specs.declared.report.SessionEnd.{SessionEnd}
-use Rattle.bd_session.specs.declared.report.SessionEnd.TheVariants.{OutOfMemory}
+use Rattle.bd_session.specs.declared.report.SessionEnd.TheVariants.{OutOfMemory, Unbuilt}
 use Rattle.bd_session.specs.declared.report.SessionReport.{SessionReport}
 use Rattle.bd_session.proofs.Meeting.{meets_session}
 use Rattle.bd_session.proofs.Turning.{HasTurned, IsOpen, few, open_after}
@@ -54,4 +55,11 @@ module _ {disk files sink : Type 0} (commands : List Command) (first : Around) w
       Meets disk files (attempt command result before.scene now.scene) → (ending : SessionEnd) → EndsBy sink result ending before now → (last : SessionReport) → last ≡ record report { end = ending } → MeetsSession disk files sink (course commands last) first now
   ended report index before opened far command there result now meets ending ends last is =
       subst (λ (r : SessionReport). MeetsSession disk files sink (course commands r) first now) (sym is)
-      (meets_session opened (record { last = before; turns = far.turns; ends = inr (inr (record { command = command; next = ap (slice_get commands) far.count ∙ there; result = result; meets = meets; ends = ends })) }))
+      (meets_session opened (record { last = before; turns = far.turns; ends = inr (inr (inr (record { command = command; next = ap (slice_get commands) far.count ∙ there; result = result; meets = meets; ends = ends }))) }))
+
+  -- the next command is a scrub
+  pub not_begun : (report : SessionReport) (index : ℕ) (now : Around) → IsOpen disk first → HasTurned disk files sink commands first report index now → slice_get commands index ≡ Some Scrub → (last : SessionReport) → last ≡ record report { end = Unbuilt } →
+      MeetsSession disk files sink (course commands last) first now
+  not_begun report index now opened far there last is =
+      subst (λ (r : SessionReport). MeetsSession disk files sink (course commands r) first now) (sym is)
+      (meets_session opened (record { last = now; turns = far.turns; ends = inr (inr (inl (record { ending = refl; next = ap (slice_get commands) far.count ∙ there; same = refl }))) }))

@@ -1,5 +1,5 @@
 -- What holds along the turns of a list, and up to its end.
-use Rattle.std.proofs.Common.{◌≡◌, ◌≢◌, ◌⊎◌, ◌↔◌, ◌∙◌, ℕ, ◌+◌, ◌≤◌, Bool, true, false, List, [], length, inl, inr, refl, sym, ap, subst, arith, ⊎_elim, Ok, Err, Result}
+use Rattle.std.proofs.Common.{◌≡◌, ◌≢◌, ◌⊎◌, ◌↔◌, ◌∙◌, ℕ, ◌+◌, ◌≤◌, true, false, List, [], length, inl, inr, refl, sym, ap, subst, arith, ⊎_elim, Ok, Err, Result}
 use Rattle.std.proofs.lemmas.Bool.{false_from_ne_true}
 use Rattle.std.proofs.lemmas.List.{length_push}
 use Rattle.std.proofs.lemmas.Option.{slice_get_within}
@@ -14,11 +14,11 @@ use Rattle.bd_script.specs.Long.{is_long}
 use Rattle.bd_store.specs.Attempts.{Meets, Scene, attempt}
 use Rattle.bd_store.specs.Causes.{Counts, HasRisen, NoneFell}
 use Rattle.bd_store.specs.declared.fault.StoreFault.{StoreFault}
-use Rattle.bd_store.specs.declared.fault.StoreFault.TheVariants.{SourceFault as StoreSource, TargetFault as StoreTarget, DiskFault as StoreDisk, Damaged as StoreDamaged, OutOfMemory as StoreMemory, Unbuilt as StoreUnbuilt}
+use Rattle.bd_store.specs.declared.fault.StoreFault.TheVariants.{SourceFault as StoreSource, TargetFault as StoreTarget, DiskFault as StoreDisk, Damaged as StoreDamaged, OutOfMemory as StoreMemory}
 use Rattle.bd_session.specs.Course.{Around, Course}
 use Rattle.bd_session.specs.Ends.{FailsSink, LeavesSink, EndsBy, EndsByCount, EndsOnlyByCount, LeavesCounts, end_of}
 use Rattle.bd_session.specs.Keeping.{KeepsStore}
-use Rattle.bd_session.specs.Turns.{AllAnswered, Goes, LastTurn, NoneBegun, Turn, Turns, no_turn, next_turn}
+use Rattle.bd_session.specs.Turns.{AllAnswered, Goes, LastTurn, NoneBegun, NotBegun, Turn, Turns, no_turn, next_turn}
 use Rattle.bd_session.specs.declared.report.SessionEnd.{SessionEnd}
 use Rattle.bd_session.specs.declared.report.SessionEnd.TheVariants.{Done, SourceFault, TargetFault, DiskFault, Damaged, OutputFault, OutOfMemory, Unbuilt}
 use Rattle.bd_session.specs.declared.report.SessionReport.{SessionReport}
@@ -102,10 +102,11 @@ module _ {disk files sink : Type 0} {c : Course} {first now : Around} (goes : Go
   pub to_the_end : (R : Scene → Scene → Type 0) → ((a : Scene) → R a a) → ((a b c : Scene) → R a b → R b c → R a c) →
       ((command : Command) → (result : Result Answer StoreFault) → (a b : Scene) → Meets disk files (attempt command result a b) → R a b) → R first.scene now.scene
   to_the_end R none both one = both _ _ _ (along R none both one goes.turns) (last goes.ends) where
-    last : AllAnswered c goes.last now ⊎ NoneBegun c goes.last now ⊎ LastTurn disk files sink c goes.last now → R goes.last.scene now.scene
+    last : AllAnswered c goes.last now ⊎ NoneBegun c goes.last now ⊎ NotBegun c goes.last now ⊎ LastTurn disk files sink c goes.last now → R goes.last.scene now.scene
     last (inl all) = subst (λ (x : Around). R goes.last.scene x.scene) (sym all.same) (none _)
     last (inr (inl begun)) = subst (λ (x : Around). R goes.last.scene x.scene) (sym begun.same) (none _)
-    last (inr (inr turn)) = one _ _ _ _ turn.meets
+    last (inr (inr (inl not_begun))) = subst (λ (x : Around). R goes.last.scene x.scene) (sym not_begun.same) (none _)
+    last (inr (inr (inr turn))) = one _ _ _ _ turn.meets
 
   pub bytes_stay : now.scene.disk_bytes ≡ first.scene.disk_bytes
   bytes_stay = to_the_end (λ a b. b.disk_bytes ≡ a.disk_bytes) (λ a. refl) (λ a b c e f. f ∙ e) (λ command result a b meets. meets.bytes)
@@ -139,7 +140,6 @@ disk_end StoreSource e = absurd (cc e)
 disk_end StoreTarget e = absurd (cc e)
 disk_end (StoreDamaged damage) e = absurd (cc e)
 disk_end StoreMemory e = absurd (cc e)
-disk_end StoreUnbuilt e = absurd (cc e)
 
 pub damage_end : (fault : StoreFault) (damage : Damage) → end_of fault ≡ Damaged damage → fault ≡ StoreDamaged damage
 damage_end (StoreDamaged found) damage e = cc e
@@ -147,7 +147,6 @@ damage_end StoreSource damage e = absurd (cc e)
 damage_end StoreTarget damage e = absurd (cc e)
 damage_end StoreDisk damage e = absurd (cc e)
 damage_end StoreMemory damage e = absurd (cc e)
-damage_end StoreUnbuilt damage e = absurd (cc e)
 
 -- a fault of the disk ends the list, and is that of its last command
 disk_ends : (sink : Type 0) (result : Result Answer StoreFault) (ending : SessionEnd) (last now : Around) → EndsBy sink result ending last now → (result ≡ Err StoreDisk) ↔ (ending ≡ DiskFault)
@@ -174,7 +173,6 @@ last_cause sink (Err fault) ending first last now counts sinks command meets end
   by_fault StoreDisk rose = record { store = rose; sink = stays }
   by_fault (StoreDamaged damage) same = record { store = same; sink = stays }
   by_fault StoreMemory same = record { store = same; sink = stays }
-  by_fault StoreUnbuilt same = record { store = same; sink = stays }
 last_cause sink (Ok answer) ending first last now counts sinks command meets ends =
     ⊎_elim
     (λ out. subst (λ e. EndsByCount e first now) (sym out.0) (record { store = meets.cause.cause ∙ counts; sink = subst (λ n. Rose n now.sink_faults) sinks out.1.faults }))
@@ -191,15 +189,17 @@ by_count {disk} {files} {sink} {c} {first} {now} goes = record { later = none_fe
   same : now ≡ goes.last → LeavesCounts first now
   same e = record { store = ap (λ (x : Around). x.scene.counts) e ∙ counts_stay goes.turns; sink = ap (λ (x : Around). x.sink_faults) e ∙ sink_stays goes.turns }
 
-  sinks : AllAnswered c goes.last now ⊎ NoneBegun c goes.last now ⊎ LastTurn disk files sink c goes.last now → first.sink_faults ≤ now.sink_faults
+  sinks : AllAnswered c goes.last now ⊎ NoneBegun c goes.last now ⊎ NotBegun c goes.last now ⊎ LastTurn disk files sink c goes.last now → first.sink_faults ≤ now.sink_faults
   sinks (inl all) = omega (arith, (same all.same).sink)
   sinks (inr (inl begun)) = omega (arith, (same begun.same).sink)
-  sinks (inr (inr turn)) = omega (arith, sink_stays goes.turns, last_sink sink turn.result c.ending goes.last now turn.ends)
+  sinks (inr (inr (inl not_begun))) = omega (arith, (same not_begun.same).sink)
+  sinks (inr (inr (inr turn))) = omega (arith, sink_stays goes.turns, last_sink sink turn.result c.ending goes.last now turn.ends)
 
-  cause : AllAnswered c goes.last now ⊎ NoneBegun c goes.last now ⊎ LastTurn disk files sink c goes.last now → EndsByCount c.ending first now
+  cause : AllAnswered c goes.last now ⊎ NoneBegun c goes.last now ⊎ NotBegun c goes.last now ⊎ LastTurn disk files sink c goes.last now → EndsByCount c.ending first now
   cause (inl all) = subst (λ e. EndsByCount e first now) (sym all.done) (same all.same)
   cause (inr (inl begun)) = subst (λ e. EndsByCount e first now) (sym begun.memory) (same begun.same)
-  cause (inr (inr turn)) = last_cause sink turn.result c.ending first goes.last now (counts_stay goes.turns) (sink_stays goes.turns) turn.command turn.meets turn.ends
+  cause (inr (inr (inl not_begun))) = subst (λ e. EndsByCount e first now) (sym not_begun.ending) (same not_begun.same)
+  cause (inr (inr (inr turn))) = last_cause sink turn.result c.ending first goes.last now (counts_stay goes.turns) (sink_stays goes.turns) turn.command turn.meets turn.ends
 
 -- ---- the store
 
@@ -230,10 +230,11 @@ keeps_store {disk} {files} {sink} {c} {first} {now} opened goes = by_end goes.en
   not_disk : {e : SessionEnd} → c.ending ≡ e → (e ≡ DiskFault → ⊥) → c.ending ≢ DiskFault
   not_disk is other d = other (sym is ∙ d)
 
-  by_end : AllAnswered c goes.last now ⊎ NoneBegun c goes.last now ⊎ LastTurn disk files sink c goes.last now → KeepsStore disk c.ending first.scene now.scene
+  by_end : AllAnswered c goes.last now ⊎ NoneBegun c goes.last now ⊎ NotBegun c goes.last now ⊎ LastTurn disk files sink c goes.last now → KeepsStore disk c.ending first.scene now.scene
   by_end (inl all) = unmoved all.same (not_disk all.done (λ e. cc e))
   by_end (inr (inl begun)) = unmoved begun.same (not_disk begun.memory (λ e. cc e))
-  by_end (inr (inr turn)) =
+  by_end (inr (inr (inl not_begun))) = unmoved not_begun.same (not_disk not_begun.ending (λ e. cc e))
+  by_end (inr (inr (inr turn))) =
       let disk_end = disk_ends sink turn.result c.ending goes.last now turn.ends in
       record {
         worn = (λ worn. disk_end.0 (turn.meets.store.worn.0 worn), λ d. turn.meets.store.worn.1 (disk_end.1 d));

@@ -1,6 +1,6 @@
-use Rattle.std.proofs.Common.{◌∙◌, Err, ap, arith, length, refl}
+use Rattle.std.proofs.Common.{◌∙◌, Err, Some, ap, arith, length, refl}
 use Rattle.bd_session.specs.declared.report.SessionEnd.TheVariants.{OutputFault, OutOfMemory}
-use Rattle.bd_session.proofs.Stepping.{all_turned, command_at, ended, none_begun, none_turned, turned}
+use Rattle.bd_session.proofs.Stepping.{all_turned, command_at, ended, none_begun, not_begun, none_turned, turned}
 use Rattle.bd_session.proofs.turns.session.Goals as goal
 
 pub returns-in-Err : goal.returns-in-Err
@@ -19,6 +19,12 @@ loop-command-init g c = record {
 pub returns : goal.returns
 returns g c = record { meets = all_turned _ _ _ c.loop-command.command-index _ (record { sound = c.requires.sound; room = c.requires.room; agrees = c.requires.agrees }) c.loop-command.invariant (omega (arith, c.loop-command-test.false, ap length c.as_slice-command-items.ensures)) }
 
+pub returns-in-Scrub : goal.returns-in-Scrub
+returns-in-Scrub g c = record {
+  meets = not_begun _ _ _ _ _ (record { sound = c.requires.sound; room = c.requires.room; agrees = c.requires.agrees }) c.loop-command.invariant
+      (command_at _ _ _ _ c.as_slice-command-items.ensures c.loop-command-test.true c.command-item.is ∙ ap Some c.in-Scrub.is) _ c.ending.ensures;
+}
+
 pub returns-in-Err-carry_out : goal.returns-in-Err-carry_out
 returns-in-Err-carry_out g c = record {
   meets = ended _ _ _ _ _ (record { sound = c.requires.sound; room = c.requires.room; agrees = c.requires.agrees }) c.loop-command.invariant _ (command_at _ _ _ _ c.as_slice-command-items.ensures c.loop-command-test.true c.command-item.is) _ _
@@ -28,7 +34,7 @@ returns-in-Err-carry_out g c = record {
 pub returns-in-Err-Output : goal.returns-in-Err-Output
 returns-in-Err-Output g c = record {
   meets = ended _ _ _ _ _ (record { sound = c.requires.sound; room = c.requires.room; agrees = c.requires.agrees }) c.loop-command.invariant _ (command_at _ _ _ _ c.as_slice-command-items.ensures c.loop-command-test.true c.command-item.is) _ _
-      c.in-Ok-carry_out.ensures.meets OutputFault (record { later = c.tell_answer.ensures.later; faults = rw c.in-Err-Output.field-0-is at c.in-Err-Output.ensures.cause; handed = c.in-Err-Output.ensures.part }) _ c.ending.ensures;
+      c.in-Ok-carry_out.ensures.meets OutputFault (record { later = c.tell_answer.ensures.later; faults = rw c.in-Err-Output.field-0-is at c.in-Err-Output.ensures.cause; handed = c.in-Err-Output.ensures.part }) _ c.ending-in-Err-Output.ensures;
 }
 
 pub returns-in-Err-Memory : goal.returns-in-Err-Memory
