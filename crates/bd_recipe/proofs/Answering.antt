@@ -32,11 +32,11 @@ answers_on P expected fault (Err e) is p step = subst (λ f. AnswersRecipe expec
   same (Damaged damage) p = step damage p
   same OutOfMemory p = tt
 
-pub damaged_on : (P R : Damage → Type 0) (fault : ReadFault) (result : Result (Roomy RecipeEntry) ReadFault) → IsErrAnd result (λ e. e ≡ fault) →
-    IfDamaged {T = Roomy RecipeEntry} (Err fault) P → ((damage : Damage) → P damage → R damage) → IfDamaged result R
-damaged_on P R fault (Ok value) is p step = absurd is
-damaged_on P R fault (Err e) is p step = subst (λ f. IfDamaged {T = Roomy RecipeEntry} (Err f) R) (sym is) (same fault p) where
-  same : (f : ReadFault) → IfDamaged {T = Roomy RecipeEntry} (Err f) P → IfDamaged {T = Roomy RecipeEntry} (Err f) R
+-- what follows of a damage that is passed on
+pub damaged_on : (T : Type 0) {U : Type 0} (P R : Damage → Type 0) (fault : ReadFault) (result : Result U ReadFault) → IsErrAnd result (λ e. e ≡ fault) → IfDamaged {T = T} (Err fault) P → ((damage : Damage) → P damage → R damage) → IfDamaged result R
+damaged_on T P R fault (Ok value) is p step = absurd is
+damaged_on T {U} P R fault (Err e) is p step = subst (λ f. IfDamaged {T = U} (Err f) R) (sym is) (same fault p) where
+  same : (f : ReadFault) → IfDamaged {T = T} (Err f) P → IfDamaged {T = U} (Err f) R
   same DiskFault p = tt
   same (Damaged damage) p = step damage p
   same OutOfMemory p = tt

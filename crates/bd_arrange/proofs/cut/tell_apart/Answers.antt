@@ -6,10 +6,10 @@ use Rattle.bd_model.specs.declared.damage.Damage.{Damage}
 use Rattle.bd_catalog.specs.Catalogue.{Catalogue}
 use Rattle.bd_catalog.specs.Rows.{open_row, spot_in}
 use Rattle.bd_catalog.specs.Shown.{open_entry}
+use Rattle.bd_recipe.proofs.Answering.{damaged_on}
 use Rattle.bd_volume.specs.Headers.{IsRefused}
 use Rattle.bd_arrange.specs.Cuts.{IsDamageIn, IsFound}
 use Rattle.bd_arrange.specs.declared.cut.Stretch.{Stretch}
-use Rattle.bd_arrange.proofs.Faults.{damaged_by}
 use Rattle.bd_arrange.proofs.Stretches.{cut_more, cut_none, sorts_none}
 use Rattle.bd_arrange.proofs.Telling.{Told, all_told, bad_header, bad_row, told_more, told_none}
 use Rattle.bd_arrange.proofs.cut.tell_apart.Goals as goal
@@ -49,10 +49,9 @@ returns-in_err-record-clause-damage g c =
     let image = contents first in
     let P : Damage → Type 0 = λ damage. g.D.Disk.tells → IsRefused s p (spot_in s (contents before) p at) damage before after in
     let Q : Damage → Type 0 = λ damage. g.D.Disk.tells → (c' : Catalogue) → IsDamageIn s c' image (p ∷ []) damage first after in
-    damaged_by Stretch P Q c.in_err-record.field-0.0 c.from_residual.result c.from_residual.ensures.1
+    damaged_on Stretch P Q c.in_err-record.field-0.0 c.from_residual.result c.from_residual.ensures.1 c.in_err-record.ensures.damage
     (λ damage met told c'. bad_header s image c.args.neighbour.now.entries a c.loop-done.cut c' c.loop-done.done at damage c.loop-done-test.true (nothing_written inv.disk told)
     (subst (λ i. IsRefused s p (spot_in s i p at) damage before after) (same_contents inv.disk told) (met told)) (inv.told told))
-    c.in_err-record.ensures.damage
 
 pub loop-done-preserved : goal.loop-done-preserved
 loop-done-preserved g c =

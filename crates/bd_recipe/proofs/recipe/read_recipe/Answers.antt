@@ -1,6 +1,8 @@
 use Rattle.std.proofs.Common.{◌*◌, ◌≤◌, ◌^◌, ◌∙◌, ap, sym, arith, length}
 use Rattle.bd_disk.specs.History.{contents}
+use Rattle.bd_model.specs.Roomy.{Roomy}
 use Rattle.bd_model.specs.Sizes.{sizes_of}
+use Rattle.bd_model.specs.declared.layout.RecipeEntry.{RecipeEntry}
 use Rattle.bd_extio.proofs.Places.{range_small}
 use Rattle.bd_recipe.specs.Reading.{total}
 use Rattle.bd_recipe.proofs.Answering.{answers_on, damaged_on}
@@ -14,7 +16,7 @@ pub returns-in_err-recipe-clause-entries : goal.returns-in_err-recipe-clause-ent
 returns-in_err-recipe-clause-entries g c = λ told. answers_on _ _ c.in_err-recipe.field-0.0 c.from_residual.result c.from_residual.ensures.1 c.in_err-recipe.ensures.damage (λ damage bad. finds_damage c.locate-place.ensures (contents (g.D.Disk.history c.args.disk.now)) (bad told))
 
 pub returns-in_err-recipe-clause-seen : goal.returns-in_err-recipe-clause-seen
-returns-in_err-recipe-clause-seen g c = damaged_on _ _ c.in_err-recipe.field-0.0 c.from_residual.result c.from_residual.ensures.1 c.in_err-recipe.ensures.damage (λ damage bad told. sees_damage c.locate-place.ensures (contents (g.D.Disk.history c.args.disk.now)) (bad told))
+returns-in_err-recipe-clause-seen g c = damaged_on (Roomy RecipeEntry) _ _ c.in_err-recipe.field-0.0 c.from_residual.result c.from_residual.ensures.1 c.in_err-recipe.ensures.damage (λ damage bad told. sees_damage c.locate-place.ensures (contents (g.D.Disk.history c.args.disk.now)) (bad told))
 
 pub total_of-found-requires-clause-few : goal.total_of-found-requires-clause-few
 total_of-found-requires-clause-few g c =
