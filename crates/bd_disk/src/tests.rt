@@ -55,51 +55,6 @@ fn a_stop_inside_a_write_leaves_any_bytes_in_its_range(rt: HostRuntime) -> Resul
 }
 
 #[test]
-fn calls_fail_exactly_where_they_are_set_to(rt: HostRuntime) -> Result<(), Fail> {
-    let mut disk = MemDisk::blank(rt.alloc(), 4)?;
-    disk.fail_from(2);
-    disk.fail_at(1);
-    for call in 0..6 {
-        if call == 4 {
-            disk.fail_at(0);
-            disk.fail_from(5);
-        }
-        let mut into = [0u8; 4];
-        let done = if disk.size() < 4 || call % 3 == 2 {
-            disk.sync()
-        } else if call % 3 == 1 {
-            disk.read(0, &mut into)
-        } else {
-            disk.write(0, &[5])
-        };
-        let failed = call == 1 || call == 5;
-        assert_eq!(rt; done.is_err(), failed, "call {call}");
-    }
-    assert_eq!(rt; (disk.clock(), disk.faults()), (6, 2));
-    Ok(())
-}
-
-#[test]
-fn at_the_clock_s_last_value_a_call_touches_nothing(rt: HostRuntime) -> Result<(), Fail> {
-    let alloc = rt.alloc();
-    let mut disk = MemDisk::after_refusals(alloc, &[1, 2], u64::MAX - 1)?;
-    if disk.size() == 2 {
-        disk.write(0, &[9])?;
-        assert_eq!(rt; disk.clock(), u64::MAX);
-        assert_eq!(rt; disk.write(1, &[9]), Err(Failed));
-        assert_eq!(rt; disk.read(0, &mut [0u8]), Err(Failed));
-    }
-    assert_eq!(rt; disk.sync(), Err(Failed));
-    assert_eq!(rt; disk.clock(), u64::MAX);
-    assert_eq!(rt; disk.trace().len(), 1);
-    assert_eq!(rt; disk.contents(), [9, 2].as_slice());
-    let image = crash_image(alloc, &disk, 7)?;
-    assert_eq!(rt; image.as_slice(), [7, 2].as_slice());
-    assert_eq!(rt; (disk.faults(), disk.refused()), (u64::MAX, u64::MAX - 1));
-    Ok(())
-}
-
-#[test]
 fn a_blank_disk_has_zeros_or_is_refused(rt: HostRuntime) -> Result<(), Fail> {
     let disk = MemDisk::blank(rt.alloc(), 3)?;
     assert_eq!(rt; disk.contents(), [0, 0, 0].as_slice());

@@ -1,6 +1,6 @@
-//! Files and sinks, in memory and real.
+//! Files of the folder.
 use super::*;
-use bd_disk::{Failed, MemDisk};
+use bd_disk::Failed;
 use bd_model::Name;
 use std::fs;
 use std::os::unix::fs::symlink;
@@ -12,16 +12,6 @@ fn round_trip<F: Files>(files: &mut F, name: &Name, into: &mut [u8]) -> Result<u
     files.put(name, 1, &[7, 8])?;
     files.finish(name)?;
     files.fetch(name, 0, into)
-}
-
-#[test]
-fn a_file_in_memory_is_filled(rt: HostRuntime) -> Result<(), Fail> {
-    let name = Name::new(rt.alloc(), "name")?;
-    let mut into = [9u8; 6];
-    let given = round_trip(&mut MemFiles::new(rt.alloc()), &name, &mut into);
-    assert_eq!(rt; given, Ok(4));
-    assert_eq!(rt; into, [0, 7, 8, 0, 9, 9]);
-    Ok(())
 }
 
 #[test]
@@ -94,38 +84,5 @@ fn a_write_that_fails_is_told_by_finish(rt: HostRuntime) -> Result<(), Fail> {
     let finished = files.finish(&name);
     fs::remove_file(&rt, "bd_files.full")?;
     assert_eq!(rt; finished, Err(Failed));
-    Ok(())
-}
-
-#[test]
-fn a_spared_file_is_no_target(rt: HostRuntime) -> Result<(), Fail> {
-    fs::write(&rt, "bd_files.store", b"store".as_slice())?;
-    symlink(&rt, "bd_files.store", "bd_files.link")?;
-    let linked = Name::new(rt.alloc(), "bd_files.link")?;
-    let mut files = RealFiles::new(rt);
-    files.spare(FileIdentity::of(&fs::metadata(&rt, "bd_files.store")?));
-    let begun = files.begin(&linked, 2);
-    let bytes = fs::metadata(&rt, "bd_files.store")?.len();
-    fs::remove_file(&rt, "bd_files.store")?;
-    fs::remove_file(&rt, "bd_files.link")?;
-    assert_eq!(rt; (begun, bytes), (Err(Failed), 5));
-    Ok(())
-}
-
-#[test]
-fn a_sink_in_memory_takes_text(rt: HostRuntime) -> Result<(), Fail> {
-    let disk = MemDisk::blank(rt.alloc(), 8)?;
-    let mut out = MemSink::new(rt.alloc());
-    assert_eq!(rt; tell(&disk, &mut out, b"told"), Ok(0));
-    assert_eq!(rt; out.written(), b"told".as_slice());
-    assert_eq!(rt; out.moments(), [0].as_slice());
-    Ok(())
-}
-
-#[test]
-fn standard_output_takes_text(rt: HostRuntime) -> Result<(), Fail> {
-    let disk = MemDisk::blank(rt.alloc(), 0)?;
-    let told = tell(&disk, &mut StdSink::new(rt.stdout()), b"told\n");
-    assert_eq!(rt; told, Ok(0));
     Ok(())
 }

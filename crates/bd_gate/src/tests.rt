@@ -1,4 +1,4 @@
-//! Halves that are the newest, and images that a stop leaves.
+//! Commits, and the images that a stop leaves.
 ghost use Rattle.std.specs.Prelude.{◌≤◌, length, OnOk};
 ghost use Rattle.bd_disk.specs.History.{contents};
 ghost use Rattle.bd_disk.specs.Made.{IsSettled};
@@ -39,14 +39,6 @@ fn image_of(alloc: Global, gates: [u8; 2], turns: [u8; 2]) -> Result<Vec<u8>, Ou
     Ok(image)
 }
 
-// The newest half, where the disk has room for a store.
-fn found(disk: &mut MemDisk, shape: &Shape) -> Option<Result<Half, GateFault>> {
-    if disk.size() < shape.disk_bytes() {
-        return None;
-    }
-    Some(newest_half(disk, shape))
-}
-
 // Puts a payload of two bytes in the place of the newest half, as a caller does.
 fn commit_pair(disk: &mut MemDisk, shape: &Shape, pair: [u8; 2]) -> Result<(), GateFault>
     requires room { disk_bytes (sizes_of shape.now) ≤ length (contents disk.old.history) }
@@ -58,68 +50,6 @@ fn commit_pair(disk: &mut MemDisk, shape: &Shape, pair: [u8; 2]) -> Result<(), G
     let turn = (half.turn + 1) % 3;
     let frame = [turn, 0, 0, 0, 0, 0, 0, 0, 2, pair[0], pair[1], 0];
     commit_frame(disk, shape, 1 - half.number, half.other_open, &frame)?;
-    Ok(())
-}
-
-#[test]
-fn the_newest_half_is_told_by_gates_and_turns(rt: HostRuntime) -> Result<(), Fail> {
-    let alloc = rt.alloc();
-    let shape = Shape::new(64, 16, 4, 4, 0, 4)?;
-    let cases = [
-        ([OPEN, 0], [0, 0], Some(0)),
-        ([OPEN, 0xFF], [2, 0], Some(0)),
-        ([OPEN, 0], [3, 0], None),
-        ([0, OPEN], [7, 1], Some(1)),
-        ([0, OPEN], [2, 3], None),
-        ([OPEN, OPEN], [0, 1], Some(1)),
-        ([OPEN, OPEN], [1, 2], Some(1)),
-        ([OPEN, OPEN], [2, 0], Some(1)),
-        ([OPEN, OPEN], [1, 0], Some(0)),
-        ([OPEN, OPEN], [2, 1], Some(0)),
-        ([OPEN, OPEN], [0, 2], Some(0)),
-        ([OPEN, OPEN], [1, 1], None),
-        ([OPEN, OPEN], [0, 3], None),
-        ([OPEN, OPEN], [3, 0], None),
-        ([OPEN, OPEN], [255, 0], None),
-        ([0x4E, 0x50], [0, 1], None),
-        ([0, 0], [0, 0], None),
-    ];
-    for (gates, turns, wanted) in cases.iter() {
-        let image = image_of(alloc, *gates, *turns)?;
-        let mut disk = MemDisk::from_bytes(alloc, &image)?;
-        let half = match wanted {
-            Some(0) => Ok(Half {
-                number: 0,
-                turn: turns[0],
-                length: 5,
-                other_open: gates[1] == OPEN,
-            }),
-            Some(_) => Ok(Half {
-                number: 1,
-                turn: turns[1],
-                length: 3,
-                other_open: gates[0] == OPEN,
-            }),
-            None => Err(GateFault::NoHalf {
-                gates: *gates,
-                turns: *turns,
-            }),
-        };
-        assert_eq!(rt; found(&mut disk, &shape), Some(half));
-        assert_eq!(rt; disk.trace().len(), 2);
-    }
-    Ok(())
-}
-
-#[test]
-fn a_fault_of_the_disk_is_told_apart(rt: HostRuntime) -> Result<(), Fail> {
-    let alloc = rt.alloc();
-    let shape = Shape::new(64, 16, 4, 4, 0, 4)?;
-    for call in 0..2 {
-        let mut disk = MemDisk::from_bytes(alloc, &image_of(alloc, [OPEN, 0], [0, 0])?)?;
-        disk.fail_at(call);
-        assert_eq!(rt; found(&mut disk, &shape), Some(Err(GateFault::DiskFault)));
-    }
     Ok(())
 }
 

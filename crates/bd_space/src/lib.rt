@@ -37,36 +37,6 @@ mod tests {
     }
 
     #[test]
-    fn what_was_given_back_is_taken_first(rt: HostRuntime) -> Result<(), Fail> {
-        let alloc = rt.alloc();
-        let mut space = Space::new(alloc, 6)?;
-        let mut first = Owned::none(alloc);
-        let mut second = Owned::none(alloc);
-        if space.extend(&mut first, 2).is_ok() {
-            assert_eq!(rt; space.extend(&mut second, 3), Ok(()));
-            assert_eq!(rt; space.free(), 1);
-            space.give_back(first);
-        }
-        assert_eq!(rt; space.free(), 3);
-        assert_eq!(rt; space.extend(&mut second, 3), Ok(()));
-        assert_eq!(rt; second.numbers(), [2u32, 3, 4, 0, 1, 5].as_slice());
-        Ok(())
-    }
-
-    #[test]
-    fn claimed_numbers_are_passed_over(rt: HostRuntime) -> Result<(), Fail> {
-        let alloc = rt.alloc();
-        let mut space = Space::new(alloc, 4)?;
-        let found = Owned::of(alloc, &[3, 1])?;
-        space.claim(&found);
-        assert_eq!(rt; space.free(), 2);
-        let mut owner = Owned::none(alloc);
-        assert_eq!(rt; space.extend(&mut owner, 2), Ok(()));
-        assert_eq!(rt; owner.numbers(), [0u32, 2].as_slice());
-        Ok(())
-    }
-
-    #[test]
     fn a_list_goes_behind_another_in_room_that_was_made(rt: HostRuntime) -> Result<(), Fail> {
         let alloc = rt.alloc();
         let mut owner = Owned::of(alloc, &[9, 4])?;

@@ -24,34 +24,4 @@ mod tests {
         );
         Ok(())
     }
-
-    #[test]
-    fn a_cursor_stays_where_too_few_bytes_are_left(rt: HostRuntime) -> Result<(), Fail> {
-        let bytes = [7u8, 0xde, 0xad, 0xbe, 0xef, 0, 0, 0, 0, 0, 0, 3, 232, 9];
-        let mut cursor = Cursor::new(&bytes);
-        assert_eq!(rt; cursor.take_u8(), Some(7));
-        assert_eq!(rt; cursor.take_u32(), Some(3_735_928_559));
-        assert_eq!(rt; cursor.take_32(), None);
-        assert_eq!(rt; cursor.take_u64(), Some(1000));
-        assert_eq!(rt; cursor.left(), 1);
-        assert_eq!(rt; cursor.take_u32(), None);
-        assert_eq!(rt; cursor.take_u64(), None);
-        assert_eq!(rt; cursor.take_u8(), Some(9));
-        assert_eq!(rt; cursor.take_u8(), None);
-        Ok(())
-    }
-
-    #[test]
-    fn a_mark_is_taken_whole(rt: HostRuntime) -> Result<(), Fail> {
-        let mut bytes = [5u8; 33];
-        bytes[31] = 6;
-        bytes[32] = 7;
-        let mut cursor = Cursor::new(&bytes);
-        let taken = cursor.take_32();
-        let mut mark = [5u8; 32];
-        mark[31] = 6;
-        assert_eq!(rt; taken, Some(mark));
-        assert_eq!(rt; cursor.left(), 1);
-        Ok(())
-    }
 }
