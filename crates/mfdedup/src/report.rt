@@ -50,7 +50,7 @@ pub enum End {
     /// A text couldn't be put.
     OutputFault,
     OutOfMemory,
-    /// What is asked is still to come. Nothing is changed.
+    /// What is asked is still to come, and wasn't begun.
     Unbuilt,
 }
 
