@@ -1,6 +1,8 @@
 -- What a copy leaves of the bytes of both owners.
-use Rattle.std.proofs.Common.{◌≡◌, ℕ, ◌+◌, ◌*◌, ◌≤◌, List, ◌++◌, length, take, drop, refl, sym, ◌∙◌, ap, subst, arith, length-take, length-drop}
+use Rattle.std.proofs.Common.{◌≡◌, ℕ, ◌+◌, ◌*◌, ◌<◌, ◌≤◌, List, ◌++◌, length, take, drop, refl, sym, ◌∙◌, ap, subst, arith, length-take, length-drop}
+use Rattle.std.specs.Prelude.{All}
 use Rattle.std.proofs.Math.Seq.{take-add}
+use Rattle.std.proofs.lemmas.List.Elements.{All-append}
 use Rattle.bd_disk.specs.History.{History, contents}
 use Rattle.bd_disk.specs.Images.{overwritten}
 use Rattle.bd_disk.specs.Made.{WritesOnly}
@@ -64,6 +66,14 @@ copy_more source first before now at place done n total fits inside room so_far 
     ∙ overwritten-append first place (take done all) part (omega (arith, known, size, room, fits))
     ∙ ap (λ bytes. overwritten first place (take done all ++ bytes)) (sub_bytes at total done n source fits)
     ∙ ap (overwritten first place) (sym (take-add done n all))
+
+-- one part more is bytes
+pub bytes_more : (source : List ℕ) (at done n total : ℕ) → done + n ≤ total → All (λ b. b < 256) (take done (take total (drop at source))) → All (λ b. b < 256) (take n (drop (at + done) source)) →
+    All (λ b. b < 256) (take (done + n) (take total (drop at source)))
+bytes_more source at done n total fits before more =
+    let all = take total (drop at source) in
+    subst (All (λ b. b < 256)) (sym (take-add done n all))
+    (All-append (λ b. b < 256) (take done all) (take n (drop done all)) before (subst (All (λ b. b < 256)) (sub_bytes at total done n source fits) more))
 
 -- a section has as many bytes as it says
 pub length-section : (s : Sizes) (section : Section) (image : List ℕ) → 1 ≤ s.extent → disk_bytes s ≤ length image → IsSection s section →

@@ -1,9 +1,10 @@
 //! Records, appended to a closed volume.
-ghost use Rattle.std.specs.Prelude.{◌≡◌, ◌+◌, ◌*◌, ◌≤◌, length, OnOk, IfErr, Err};
+ghost use Rattle.std.specs.Prelude.{◌≡◌, ◌+◌, ◌*◌, ◌<◌, ◌≤◌, All, length, OnOk, IfErr, Err};
 ghost use Rattle.bd_disk.specs.Calls.{FailsByCount};
 ghost use Rattle.bd_disk.specs.Runs.{Writes};
 ghost use Rattle.bd_model.specs.Sizes.{sizes_of, disk_bytes};
 ghost use Rattle.bd_category.specs.Records.{record_with};
+ghost use Rattle.bd_volume.specs.Copies.{bytes_on};
 ghost use Rattle.bd_volume.specs.Growing.{AddsExtents, Appends, AppendsFrom, AreCounted, Behind, CanGrow, HasFree, IsSource, KeepsRows, Moves, NoneLater, is_disk_fault, rows_after};
 
 use crate::copy::{Section, copy_range};
@@ -53,6 +54,7 @@ pub fn append_records<D: Disk>(
     ensures grows { OnOk result (CanGrow (sizes_of shape.now) space.new filling.new) }
     ensures memory { result ≡ Err AppendFault.OutOfMemory → (disk.new ≡ disk.old) × (space.new ≡ space.old) × (filling.new.numbers ≡ filling.old.numbers) }
     ensures written { OnOk result (AppendsFrom D.Disk (sizes_of shape.now) filling.old filling.new moved.now.from disk.old disk.new) }
+    ensures bytes { OnOk result (D.tells → All (λ b. b < 256) (bytes_on D.Disk (sizes_of shape.now) moved.now.from disk.old)) }
 {
     let place = filling.bytes();
     filling.make_room(shape, space, moved.from.bytes)?;

@@ -1,5 +1,5 @@
 //! Bytes of one owner, copied among those of another.
-ghost use Rattle.std.specs.Prelude.{◌≡◌, ◌+◌, ◌-◌, ◌%◌, ◌≤◌, min, length, OnOk};
+ghost use Rattle.std.specs.Prelude.{◌≡◌, ◌+◌, ◌-◌, ◌%◌, ◌<◌, ◌≤◌, All, min, length, OnOk};
 ghost use Rattle.bd_disk.specs.Calls.{HasCause};
 ghost use Rattle.bd_disk.specs.Runs.{Works};
 ghost use Rattle.bd_model.specs.Sizes.{sizes_of, disk_bytes};
@@ -39,6 +39,7 @@ fn copy_part<D: Disk>(
     ensures disk { Works D.Disk (InSection (sizes_of shape.now) from.now) (InOwner (sizes_of shape.now) to.now place from.now.bytes) disk.old disk.new }
     ensures cause { HasCause (D.faults disk.old) (D.faults disk.new) result }
     ensures copied { OnOk result (Overwrites D.Disk (sizes_of shape.now) to.now place (bytes_on D.Disk (sizes_of shape.now) from.now disk.old) disk.old disk.new) }
+    ensures bytes { OnOk result (D.tells → All (λ b. b < 256) (bytes_on D.Disk (sizes_of shape.now) from.now disk.old)) }
 {
     read_at(disk, shape, from.extents, from.at, buffer)?;
     write_at(disk, shape, to, place, buffer)?;
@@ -46,7 +47,7 @@ fn copy_part<D: Disk>(
 }
 
 /// Copies the bytes among those of another owner, from `place` on, through the buffer. A part of them ends where an extent
-/// of the target does, so that it is written in one call.
+/// of the target does, so that it is written in one call. Each number that was copied is a byte.
 pub fn copy_range<D: Disk>(
     disk: &mut D,
     shape: &Shape,
@@ -64,6 +65,7 @@ pub fn copy_range<D: Disk>(
     ensures disk { Works D.Disk (InSection (sizes_of shape.now) from.now) (InOwner (sizes_of shape.now) to.now place from.now.bytes) disk.old disk.new }
     ensures cause { HasCause (D.faults disk.old) (D.faults disk.new) result }
     ensures copied { OnOk result (Overwrites D.Disk (sizes_of shape.now) to.now place (bytes_on D.Disk (sizes_of shape.now) from.now disk.old) disk.old disk.new) }
+    ensures bytes { OnOk result (D.tells → All (λ b. b < 256) (bytes_on D.Disk (sizes_of shape.now) from.now disk.old)) }
 {
     let mut done = 0;
     while done < from.bytes {

@@ -1,4 +1,6 @@
-use Rattle.std.proofs.Common.{◌≡◌, ◌+◌, ◌≤◌, ◌∙◌, ap, arith, length, refl, sym, take, drop}
+use Rattle.std.proofs.Common.{◌≡◌, ◌+◌, ◌<◌, ◌≤◌, ◌∙◌, ap, arith, length, refl, subst, sym, take, drop}
+use Rattle.std.specs.Prelude.{All}
+use Rattle.std.proofs.lemmas.List.Elements.{All-nil}
 use Rattle.bd_disk.specs.History.{contents}
 use Rattle.bd_disk.specs.Images.{overwritten}
 use Rattle.bd_disk.proofs.RunLemmas.{work_written}
@@ -7,7 +9,7 @@ use Rattle.bd_model.specs.Sizes.{disk_bytes, sizes_of}
 use Rattle.bd_extio.specs.Owned.{owned_on}
 use Rattle.bd_extio.proofs.Places.{length-owner_bytes, range_small}
 use Rattle.bd_extio.proofs.Ranges.{overwritten-none}
-use Rattle.bd_volume.proofs.Copying.{copy_more, no_work, other_stays, works_on}
+use Rattle.bd_volume.proofs.Copying.{bytes_more, copy_more, no_work, other_stays, works_on}
 use Rattle.bd_volume.proofs.copy.copy_range.Goals as goal
 
 pub loop-done-init : goal.loop-done-init
@@ -16,6 +18,7 @@ loop-done-init g c = record {
   faults = refl;
   within = omega arith;
   copied = λ told. sym (overwritten-none (owned_on g.D.Disk (sizes_of c.args.shape.now) c.args.to.now c.args.disk.now) c.args.place);
+  bytes = λ told. All-nil (λ b. b < 256);
 }
 
 pub overflow_add-place : goal.overflow_add-place
@@ -48,6 +51,12 @@ loop-done-preserved g c =
       disk = works_on s from.extents.now to from.at c.args.place done n from.bytes fits c.loop-done.invariant.disk c.copy_part.ensures.disk;
       faults = c.in_ok-copy_part.ensures.cause.kept ∙ c.loop-done.invariant.faults;
       within = fits;
+      bytes = λ told.
+          let source = owned_on g.D.Disk s from.extents.now c.args.disk.now in
+          let same : owned_on g.D.Disk s from.extents.now c.loop-done.disk ≡ source =
+          other_stays s from.extents.now to some c.args.place from.bytes c.requires.range c.requires.apart (work_written c.loop-done.invariant.disk told) in
+          bytes_more source from.at done n from.bytes fits (c.loop-done.invariant.bytes told)
+          (subst (λ xs. All (λ b. b < 256) (take n (drop (from.at + done) xs))) same (c.in_ok-copy_part.ensures.bytes told));
       copied = λ told.
           let first = contents (g.D.Disk.history c.args.disk.now) in
           let room : disk_bytes s ≤ length first = omega (arith, g.met.D.Disk.sized told c.args.disk.now, c.requires.room) in

@@ -1,4 +1,5 @@
-use Rattle.std.proofs.Common.{◌≡◌, ◌-◌, ◌≤◌, take}
+use Rattle.std.proofs.Common.{◌≡◌, ◌-◌, ◌<◌, ◌≤◌, take}
+use Rattle.std.specs.Prelude.{All}
 use Rattle.bd_disk.specs.Images.{overwritten}
 use Rattle.bd_disk.specs.Runs.{Works}
 use Rattle.bd_model.specs.Sizes.{sizes_of}
@@ -13,6 +14,7 @@ invariant-loop-done g l = record {
   faults : g.D.Disk.faults l.disk ≡ g.D.Disk.faults l.fn.disk;
   within : l.done ≤ l.from.bytes;
   copied : g.D.Disk.tells → owned_on g.D.Disk (sizes_of l.shape) l.to l.disk ≡ overwritten (owned_on g.D.Disk (sizes_of l.shape) l.to l.fn.disk) l.place (take l.done (bytes_on g.D.Disk (sizes_of l.shape) l.from l.fn.disk));
+  bytes : g.D.Disk.tells → All (λ b. b < 256) (take l.done (bytes_on g.D.Disk (sizes_of l.shape) l.from l.fn.disk));
 }
 
 abbrev pub decreases-loop-done : goal.decreases-loop-done
