@@ -1,9 +1,14 @@
 pub mod AllTurns
 pub mod DueHeld
 mod Faults
+pub mod InGrown
 pub mod LastVolume
+pub mod MoreMoved
+pub mod OneStretch
 pub mod OneTurn
 pub mod OpenRows
+pub mod Picked
+pub mod RowsThen
 pub mod Settling
 pub mod StandsArranged
 mod Stretches

@@ -1,4 +1,5 @@
 pub mod Arranged
 pub mod Cuts
 pub mod Desks
+pub mod Moving
 pub mod Turns

@@ -5,6 +5,7 @@ mod arranging;
 mod cut;
 mod desk;
 mod laws;
+mod moving;
 
 pub use arranging::arrange;
 pub use laws::arranged_stores_stand;
