@@ -10,7 +10,11 @@ pub mod OpenRows
 pub mod Picked
 pub mod RowsThen
 pub mod Settling
+pub mod SplitExtents
+pub mod SplitMoves
 pub mod StandsArranged
 mod Stretches
 mod Telling
 pub mod Told
+pub mod Turning
+pub mod WrittenRecords

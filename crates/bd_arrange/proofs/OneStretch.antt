@@ -32,7 +32,7 @@ use Rattle.bd_arrange.proofs.InGrown.{in_added}
 pub apart_back : (one other : List ℕ) → AreApart one other → AreApart other one
 apart_back one other apart = record { each = λ n there here. apart.each n here there }
 
-rows_then-some : (f : Filled) (start n bytes : ℕ) → 1 ≤ n → rows_then f start n bytes ≡ rows_after f start n bytes
+pub rows_then-some : (f : Filled) (start n bytes : ℕ) → 1 ≤ n → rows_then f start n bytes ≡ rows_after f start n bytes
 rows_then-some f start zero bytes some = absurd (omega (arith, some))
 rows_then-some f start (suc n) bytes some = refl
 

@@ -28,6 +28,15 @@ bytes-push xs x = omega (arith, sum_by-append (λ (y : Stretch). y.bytes) xs (x 
 pub going-part : (way : Bool) (xs more : List Stretch) → bytes_of (going way xs) ≤ bytes_of (going way (xs ++ more))
 going-part way xs more = omega (arith, ap bytes_of (filter-append (goes way) xs more), sum_by-append (λ (y : Stretch). y.bytes) (going way xs) (going way more))
 
+pub going-le : (way : Bool) (xs : List Stretch) → bytes_of (going way xs) ≤ bytes_of xs
+going-le way [] = omega arith
+going-le way (x ∷ xs) =
+    let first = sum_by-cons (λ (y : Stretch). y.bytes) x xs in
+    elim (goes way x) as (λ t. bytes_of (cond t (x ∷ going way xs) (going way xs)) ≤ bytes_of (x ∷ xs)) [
+      | true ↦ omega (arith, first, sum_by-cons (λ (y : Stretch). y.bytes) x (going way xs), going-le way xs)
+      | false ↦ omega (arith, first, going-le way xs)
+    ]
+
 pub bytes-part : (xs more : List Stretch) → bytes_of xs ≤ bytes_of (xs ++ more)
 bytes-part xs more = omega (arith, sum_by-append (λ (y : Stretch). y.bytes) xs more)
 

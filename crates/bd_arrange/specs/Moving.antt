@@ -1,19 +1,28 @@
 -- Stretches of records, each moved to its side.
-use Rattle.std.specs.Prelude.{◌≡◌, ◌⊎◌, ℕ, suc, zero, ◌+◌, ◌<◌, Bool, true, false, not, List, [], ◌∷◌, ◌++◌, take, drop, sum_by, All, if◌then◌else◌}
+use Rattle.std.specs.Prelude.{◌≡◌, ◌⊎◌, ℕ, zero, suc, ◌+◌, ◌<◌, ◌≤◌, ◌==◌, Bool, true, false, not, List, [], ◌∷◌, ◌++◌, length, take, drop, sum_by, All, if◌then◌else◌}
 use Rattle.bd_disk.specs.declared.disk.Disk.{Ghosts}
+use Rattle.bd_model.specs.Room.{up}
 use Rattle.bd_model.specs.Sizes.{Sizes}
 use Rattle.bd_model.specs.declared.layout.CategoryRow.{CategoryRow}
 use Rattle.bd_extio.specs.Owned.{owned_on}
 use Rattle.bd_extio.specs.Ranges.{AreExtents, InOwner, IsWithin}
 use Rattle.bd_space.specs.Allotment.{Allotment, IsTaken}
+use Rattle.bd_catalog.specs.Catalogue.{OpenEntry, bytes_of_rows}
+use Rattle.bd_catalog.specs.Splitting.{SplitEntry}
+use Rattle.bd_recipe.specs.declared.fault.ReadFault.{ReadFault}
+use Rattle.bd_recipe.specs.declared.fault.ReadFault.TheVariants.{DiskFault as ReadDiskFault, OutOfMemory as ReadOutOfMemory}
 use Rattle.bd_volume.specs.Copies.{AreApart, bytes_on}
 use Rattle.bd_volume.specs.Filled.{Filled}
 use Rattle.bd_volume.specs.Growing.{Appends, AreCounted, CanGrow, rows_after}
 use Rattle.bd_volume.specs.declared.append.Records.{Records}
 use Rattle.bd_volume.specs.declared.copy.Section.{Section}
+use Rattle.bd_volume.specs.declared.fault.AppendFault.{AppendFault}
+use Rattle.bd_volume.specs.declared.fault.AppendFault.TheVariants.{DiskFault, OutOfMemory}
 use Rattle.bd_arrange.specs.Cuts.{going}
-use Rattle.bd_arrange.specs.Desks.{InFree, InRest}
+use Rattle.bd_arrange.specs.Desks.{BecomesSplit, InFree, InRest, OnDesk}
+use Rattle.bd_arrange.specs.declared.cut.Cut.{Cut}
 use Rattle.bd_arrange.specs.declared.cut.Stretch.{Stretch}
+use Rattle.bd_arrange.specs.declared.cut.Tally.{Tally}
 use Rattle.bd_arrange.specs.declared.moving.Errand.{Errand}
 use Rattle.bd_arrange.specs.declared.moving.Target.{Target}
 
@@ -92,3 +101,38 @@ pub record Moves {D : Type 0} (d : Ghosts D) (s : Sizes) (start : ℕ) (from to 
   pub archived : Appends d s old new (picked false xs (owned_on d s from disk)) disk disk_now
   pub source : d.tells → owned_on d s from disk_now ≡ owned_on d s from disk
   pub bytes : d.tells → All (λ b. b < 256) (take (bytes_of xs) (owned_on d s from disk))
+
+-- ---- a category that is split
+
+-- a category is split so: something of it is archived, no row of the volume begins after this start, and so many free extents
+-- suffice
+pub record CanSplit (s : Sizes) (free : ℕ) (f : Filled) (latest : ℕ) (cut : Cut) : Type 0 where
+  pub some : 1 ≤ cut.archived.chunks
+  pub order : All (λ row. row.start ≤ latest) f.rows
+  pub room : up s.extent (bytes_of_rows f.rows + cut.archived.bytes) + up s.extent cut.kept.bytes ≤ length f.numbers + free
+
+-- what stands in its place, in these extents
+abbrev pub kept_entries : ℕ → Tally → List ℕ → List OpenEntry
+kept_entries start kept numbers = if kept.chunks == 0 then [] else record { row = record { start = start; chunks = kept.chunks; bytes = kept.bytes }; extents = numbers } ∷ []
+
+-- what is kept of it: as much as the cut says, from the first byte of the extents on
+pub record IsKeptBy {D : Type 0} (d : Ghosts D) (s : Sizes) (a : OpenEntry) (cut : Cut) (disk disk_now : D) (k : OpenEntry) : Type 0 where
+  pub chunks : k.row.chunks ≡ cut.kept.chunks
+  pub bytes : k.row.bytes ≡ cut.kept.bytes
+  pub records : d.tells → take cut.kept.bytes (owned_on d s k.extents disk_now) ≡ picked true cut.stretches.items (owned_on d s a.extents disk)
+
+-- A category was split by a cut. Its bytes are such.
+pub record SplitsBy {D : Type 0} (d : Ghosts D) (s : Sizes) (a : OpenEntry) (cut : Cut) (old new : OnDesk) (disk disk_now : D) : Type 0 where
+  pub entry : SplitEntry
+  pub becomes : BecomesSplit s a old new entry
+  pub chunks : entry.chunks ≡ cut.archived.chunks
+  pub bytes : entry.bytes ≡ cut.archived.bytes
+  pub kept : All (IsKeptBy d s a cut disk disk_now) entry.kept
+  pub none : entry.kept ≡ [] → cut.kept.chunks ≡ 0
+  pub archives : Appends d s old.filling new.filling (picked false cut.stretches.items (owned_on d s a.extents disk)) disk disk_now
+  pub raw : d.tells → All (λ b. b < 256) (take a.row.bytes (owned_on d s a.extents disk))
+
+-- why nothing was moved, as a reader says it
+abbrev pub as_read : AppendFault → ReadFault
+as_read DiskFault = ReadDiskFault
+as_read OutOfMemory = ReadOutOfMemory
