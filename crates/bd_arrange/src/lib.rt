@@ -4,6 +4,7 @@
 mod arranging;
 mod cut;
 mod desk;
+mod ending;
 mod laws;
 mod moving;
 

@@ -1,0 +1,13 @@
+use Rattle.std.proofs.Common.{◌≡◌, ◌+◌, length, map}
+use Rattle.bd_space.specs.Allotment.{Allotment}
+use Rattle.bd_catalog.specs.Giving.{AreOwned, GivesUp}
+use Rattle.bd_catalog.specs.Splitting.{kept_extents}
+use Rattle.bd_catalog.specs.Steps.{kept_entry}
+use Rattle.bd_arrange.proofs.ending.free_splits.Given as goal
+
+abbrev pub invariant-loop : goal.invariant-loop
+invariant-loop l = record {
+  left : length l.splits.items + l.counter ≡ length l.initial.splits.items;
+  owned : AreOwned l.space (kept_extents (map kept_entry l.splits.items));
+  gives : (last : Allotment) → GivesUp (kept_extents (map kept_entry l.splits.items)) l.space last → GivesUp (kept_extents (map kept_entry l.initial.splits.items)) l.initial.space last;
+}
