@@ -3,3 +3,4 @@ pub mod Cuts
 pub mod Desks
 pub mod Moving
 pub mod Turns
+pub mod Underway
