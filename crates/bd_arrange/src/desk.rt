@@ -34,8 +34,8 @@ const BUFFER: usize = 1 << 20;
 #[derive(Drop)]
 pub(crate) struct Desk {
     alloc: Global,
-    filling: Filling,
-    splits: Splits,
+    pub(crate) filling: Filling,
+    pub(crate) splits: Splits,
     oldest: u32,
     buffer: Vec<u8>,
 }

@@ -20,7 +20,7 @@ use Rattle.bd_volume.proofs.Copying.{no_work}
 use Rattle.bd_arrange.specs.Arranged.{AnswersDue, HasGoodDue, InDue, IsAllotted, IsDamageOfDue, KeepsStates}
 use Rattle.bd_arrange.specs.Turns.{due}
 use Rattle.bd_arrange.specs.Underway.{IsUnderway}
-use Rattle.bd_arrange.proofs.ArrangedStands.{arranged_stands}
+use Rattle.bd_arrange.proofs.StandsArranged.{arranged_store_stands}
 use Rattle.bd_arrange.proofs.Laps.{work_told}
 use Rattle.bd_arrange.proofs.Committing.{agrees_now, answers_named, answers_refused, but_refused, fits_desk, if_told, keeps_all, keeps_either, keeps_refused, keeps_settled, no_headers}
 use Rattle.bd_arrange.proofs.arranging.arrange.Goals as goal
@@ -109,7 +109,7 @@ returns-in-Ok-clause-states g c = λ told.
     let newest : recipe_found found.sizes found.catalogue (contents h0) found.catalogue.newest ≡ Ok entries =
     subst (λ (f : Found). recipe_found f.sizes f.catalogue (contents h0) f.catalogue.newest ≡ Ok entries) (sym same) (c.requires.newest told (λ settled. c.in_default.not-Settled (c.phase.ensures ∙ settled))) in
     let allotted : IsAllotted found c.args.space.now = subst (λ (f : Found). IsAllotted f c.args.space.now) (sym same) c.requires.allotted in
-    keeps_either found h0 (d.history c.arrange_all.new.disk) (agrees told) (work_written c.arrange_all.ensures.disk told) arranged_stands entries c.args.space.now c.arrange_all.new.desk u.splits waits newest allotted u.has u.may (u.told told)
+    keeps_either found h0 (d.history c.arrange_all.new.disk) (agrees told) (work_written c.arrange_all.ensures.disk told) arranged_store_stands entries c.args.space.now c.arrange_all.new.desk u.splits waits newest allotted u.has u.may (u.told told)
     (d.history c.name_all.new.disk) d.tells told c.name_all.result c.name_all.ensures.named.fails c.name_all.ensures.named.done (c.name_all.ensures.named.either told)
 
 pub returns-in-Err-clause-disk : goal.returns-in-Err-clause-disk
