@@ -1,17 +1,27 @@
 -- A command that made the store ready meets its promise by what it does then.
-use Rattle.std.proofs.Common.{◌≡◌, ◌∙◌, Bool, refl, sym, ap, subst, Result, Ok, Err}
+use Rattle.std.proofs.Common.{◌↔◌, true, false, ◌≡◌, ◌∙◌, Bool, refl, sym, ap, subst, Result, Ok, Err}
+use Rattle.std.proofs.lemmas.Bool.{false_from_ne_true}
+use Rattle.bd_recipe.specs.Reading.{is_disk_fault}
+use Rattle.bd_volume.specs.Named.{IsBeside}
+use Rattle.bd_recipe.specs.declared.fault.ReadFault.{ReadFault}
+use Rattle.bd_recipe.specs.declared.fault.ReadFault.TheVariants.{DiskFault as ReadDisk}
+use Rattle.bd_disk.specs.Calls.{FailsByCount}
 use Rattle.bd_disk.specs.History.{History}
 use Rattle.bd_disk.specs.Looks.{LooksOnlyAt}
+use Rattle.bd_disk.specs.Runs.{Works}
+use Rattle.bd_disk.specs.declared.disk.Disk.{Ghosts as DiskGhosts}
+use Rattle.bd_disk.proofs.RunLemmas.{work_looked, work_written}
 use Rattle.bd_model.specs.declared.answer.Answer.{Answer}
 use Rattle.bd_model.specs.declared.command.Command.{Command}
 use Rattle.bd_model.specs.declared.command.Command.TheVariants.{Backup, Restore, Expire, Reorganise, Scrub, List as Listing}
 use Rattle.bd_catalog.specs.Agreement.{Agrees}
 use Rattle.bd_catalog.specs.Opening.{Found}
 use Rattle.bd_recipe.specs.Marked.{Marked}
-use Rattle.bd_store.specs.Attempts.{Attempt, Meets, Scene, attempt, DamageByCommand, GivesByCommand, HeadersByAnswer, HeadersHold, LooksByCommand, NewestEnds, ReadsByCommand, RecipeByCommand}
+use Rattle.bd_store.specs.Attempts.{Beside, scene_beside, Attempt, Meets, Scene, attempt, DamageByCommand, GivesByCommand, HeadersByAnswer, HeadersHold, LooksByCommand, NewestEnds, ReadsByCommand, RecipeByCommand}
 use Rattle.bd_store.specs.Following.{Follows, IsMadeReady, IsMadeReadyOn, MakesReady}
 use Rattle.bd_store.specs.Naming.{NamesArranging}
-use Rattle.bd_store.specs.Readying.{IsReady}
+use Rattle.bd_store.specs.Readying.{IsReady, Readies, ReadiesOn}
+use Rattle.bd_store.specs.Shown.{Shown}
 use Rattle.bd_store.specs.Steps.{KeepsFiles}
 use Rattle.bd_store.specs.Touches.{InArranging, ExpiryReads, IsByNumbers}
 use Rattle.bd_store.specs.declared.fault.StoreFault.{StoreFault}
@@ -165,3 +175,21 @@ followed {disk} {files} {command} {before} {now} {after} {neighbour} {result} ma
     (subst (λ (s : Scene). IsReady before.store s.store neighbour) (sym same) is.store)
     (λ told. subst (λ (s : Scene). IsMadeReadyOn before s (Ok neighbour)) (sym same) (is.told told))
     (subst (λ (s : Scene). Follows disk files (attempt command result s after)) (sym same) follows)
+
+-- a store and its disk that were made ready, whatever files are beside them
+pub made_ready : {D : Type 0} (d : DiskGhosts D) (beside : Beside) (old new : Shown) (disk0 disk1 : D) (result : Result Marked ReadFault) → Works d (InArranging old.found) (IsBeside old.found) disk0 disk1 →
+    FailsByCount is_disk_fault (d.faults disk0) (d.faults disk1) result → (new.worn ≡ true) ↔ (result ≡ Err ReadDisk) → new.held ≡ old.held → Readies old new result →
+    (d.tells → ReadiesOn old.held old.found new.found (d.history disk0) (d.history disk1) result) → IsMadeReady d.tells (scene_beside d beside old disk0) (scene_beside d beside new disk1) result
+made_ready d beside old new disk0 disk1 result works cause worn held store told = record {
+  bytes = works.bytes;
+  beside = record { files = refl; unfinished = refl; sources = refl; targets = refl; strays = refl };
+  cause = cause;
+  worn = worn;
+  held = held;
+  store = store;
+  told = λ tells. record { looks = work_looked works tells; writes = work_written works tells; readies = told tells };
+}
+
+-- a store that was made ready isn't worn
+pub ready_sound : {T E : Type 0} {worn : Bool} {value : T} {fault : E} → (worn ≡ true) ↔ (◌≡◌ {A = Result T E} (Ok value) (Err fault)) → worn ≡ false
+ready_sound {worn = worn} fails = false_from_ne_true worn (λ gone. let no = fails.0 gone in absurd (cc))

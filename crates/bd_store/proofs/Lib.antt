@@ -17,3 +17,6 @@ pub mod Ending
 pub mod Behind
 pub mod Unready
 pub mod Following
+pub mod Reorganising
+pub mod Staying
+pub mod Readying

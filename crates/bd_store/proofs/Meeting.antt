@@ -1,4 +1,4 @@
--- What a command that touched nothing meets, and what versions that stay leave.
+-- What a command that touched nothing meets.
 use Rattle.std.proofs.Common.{◌≡◌, ℕ, false, true, inl, refl, sym, ◌∙◌, subst, arith, Result, Ok, Err}
 use Rattle.bd_disk.specs.History.{History}
 use Rattle.bd_disk.proofs.Frames.{made_none}
@@ -9,41 +9,26 @@ use Rattle.bd_model.specs.declared.command.Command.{Command}
 use Rattle.bd_model.specs.declared.command.Command.TheVariants.{Backup, Restore, Expire, Reorganise, Scrub, List as Listing}
 use Rattle.bd_catalog.specs.Agreement.{Agrees}
 use Rattle.bd_catalog.specs.Opening.{Found}
-use Rattle.bd_store.specs.Attempts.{Scene, Attempt, attempt, DamageByCommand, FinishesByCommand, GivesByCommand, IsAnswerOf, KeepsVersions, LooksByCommand, Meets, ReadsByCommand, RecipeByCommand, WritesByCommand}
+use Rattle.bd_store.specs.Attempts.{Scene, Attempt, attempt, DamageByCommand, FinishesByCommand, GivesByCommand, HeadersByAnswer, IsAnswerOf, KeepsVersions, LooksByCommand, Meets, ReadsByCommand, RecipeByCommand, SettlesBy, TellsFigures, WritesBeside, WritesByCommand}
 use Rattle.bd_store.specs.Causes.{ByCount}
 use Rattle.bd_store.specs.Shown.{Shown, SameVersions}
 use Rattle.bd_store.specs.Steps.{IsOneStep, KeepsFiles}
 use Rattle.bd_store.specs.Stops.{IsSafeAtStops}
 use Rattle.bd_store.specs.declared.fault.StoreFault.{StoreFault}
-use Rattle.bd_store.specs.declared.fault.StoreFault.TheVariants.{SourceFault, TargetFault, DiskFault, Damaged, OutOfMemory, Unbuilt}
+use Rattle.bd_store.specs.declared.fault.StoreFault.TheVariants.{SourceFault, TargetFault, DiskFault, Damaged, OutOfMemory}
 
--- versions that stay do so at every answer
-pub same_kept : (old new : Shown) (result : Result Answer StoreFault) → SameVersions old new → KeepsVersions old new result
-same_kept old new (Ok (BackedUp version bytes chunks fresh need)) same = tt
-same_kept old new (Ok (Expired version extents)) same = tt
-same_kept old new (Ok (Restored version bytes)) same = same
-same_kept old new (Ok (Arranged owned free)) same = same
-same_kept old new (Ok (Scrubbed report)) same = same
-same_kept old new (Ok (Listed lines)) same = same
-same_kept old new (Ok FullNumbers) same = same
-same_kept old new (Ok (FullVersions retained)) same = same
-same_kept old new (Ok (FullExtents counted free held)) same = same
-same_kept old new (Ok (NoVersion asked oldest newest)) same = same
-same_kept old new (Ok (NothingRetained asked)) same = same
-same_kept old new (Ok Formatted) same = same
-same_kept old new (Ok (Blanked length)) same = same
-same_kept old new (Ok (Soaked a b c d e f g)) same = same
-same_kept old new (Err DiskFault) same = tt
-same_kept old new (Err SourceFault) same = same
-same_kept old new (Err TargetFault) same = same
-same_kept old new (Err (Damaged damage)) same = same
-same_kept old new (Err OutOfMemory) same = same
-same_kept old new (Err Unbuilt) same = same
+-- the same store has the same versions
+pub same_versions : (s : Shown) → SameVersions s s
+same_versions s = record { sizes = refl; base = refl; newest = refl; versions = refl; held = refl }
+
+-- nothing is written
+beside_none : (found : Found) (h : History) → WritesBeside found h h
+beside_none found h = record { arranged = found; middle = h; first = made_none _ h; between = inl (refl, refl); second = made_none _ h }
 
 writes_none : (found : Found) (command : Command) (h : History) → WritesByCommand found command h h
-writes_none found (Backup name) h = made_none _ h
+writes_none found (Backup name) h = beside_none found h
 writes_none found (Restore version name) h = made_none _ h
-writes_none found Expire h = made_none _ h
+writes_none found Expire h = beside_none found h
 writes_none found Reorganise h = made_none _ h
 writes_none found Scrub h = made_none _ h
 writes_none found Listing h = made_none _ h
@@ -51,8 +36,8 @@ writes_none found Listing h = made_none _ h
 looks_none : (command other : Command) (result : Result Answer StoreFault) (s : Scene) → LooksByCommand (attempt other result s s) command
 looks_none (Backup name) other result s = made_none _ s.disk
 looks_none (Restore version name) other result s = made_none _ s.disk
-looks_none Expire other result s = tt
-looks_none Reorganise other result s = tt
+looks_none Expire other result s = made_none _ s.disk
+looks_none Reorganise other result s = made_none _ s.disk
 looks_none Scrub other result s = tt
 looks_none Listing other result s = tt
 
@@ -64,10 +49,7 @@ files_stay Reorganise files = refl
 files_stay Scrub files = refl
 files_stay Listing files = refl
 
--- what is still to come, and what memory wasn't there for, is no step
-pub unbuilt_step : (command : Command) (held : ℕ) (h : History) (files : FileMap) → IsOneStep command held h h files files (Err Unbuilt)
-unbuilt_step command held h files = record { each = λ shape st phase near stands. record { stands = record { phase = phase; so = stands }; beside = refl } }
-
+-- what memory wasn't there for is no step
 pub memory_step : (command : Command) (held : ℕ) (h : History) (files : FileMap) → IsOneStep command held h h files files (Err OutOfMemory)
 memory_step command held h files = record { each = λ shape st phase near stands. record { stands = record { phase = phase; so = stands }; beside = files_stay command files } }
 
@@ -90,9 +72,13 @@ module _ (command : Command) (result : Result Answer StoreFault) (s : Scene) whe
     pub cause : ByCount result s.counts s.counts
     pub has_disk : HasDisk result
     pub answer : IsAnswerOf s.store.found command result
+    pub versions : KeepsVersions s.store s.store result
+    pub settles : SettlesBy s.store result
+    pub figures : TellsFigures s.store result
     pub reads : ReadsByCommand still command
     pub damage : DamageByCommand still command
     pub recipe : RecipeByCommand still command
+    pub headers : HeadersByAnswer still result
     pub finished : FinishesByCommand command result s.unfinished
     pub gives : GivesByCommand still command result
 
@@ -107,7 +93,9 @@ module _ (command : Command) (result : Result Answer StoreFault) (s : Scene) whe
       worn = (λ worn. let no : true ≡ false = sym worn ∙ sound in cc, λ failed. absurd (subst HasDisk failed is.has_disk));
       sizes = λ _. refl;
       held = refl;
-      versions = same_kept s.store s.store result (record { sizes = refl; base = refl; newest = refl; versions = refl; held = refl });
+      versions = is.versions;
+      settles = is.settles;
+      figures = is.figures;
     };
     untouched = λ _. refl;
     on_disk = λ told. record {
@@ -117,6 +105,7 @@ module _ (command : Command) (result : Result Answer StoreFault) (s : Scene) whe
       looks = looks_none command command result s;
       damage = is.damage;
       recipe = is.recipe;
+      headers = is.headers;
     };
     on_files = λ told. record {
       beside = files_stay command s.files;
@@ -125,3 +114,16 @@ module _ (command : Command) (result : Result Answer StoreFault) (s : Scene) whe
     };
     on_both = λ told files_tell. record { gives = is.gives; step = step told files_tell; stops = stops told files_tell };
   }
+
+-- what is met whether or not the files tell
+pub meets_told : {disk : Type 0} (files : Type 0) {a : Attempt} → Meets disk (Unit {0}) a → Meets disk files a
+meets_told files meets = record {
+  bytes = meets.bytes;
+  cause = meets.cause;
+  answer = meets.answer;
+  store = meets.store;
+  untouched = meets.untouched;
+  on_disk = meets.on_disk;
+  on_files = λ told. meets.on_files tt;
+  on_both = λ told files_tell. meets.on_both told tt;
+}

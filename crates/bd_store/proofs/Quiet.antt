@@ -6,7 +6,7 @@ use Rattle.bd_disk.proofs.Frames.{leaves_both, leaves_quiet, leaves_wider, made_
 use Rattle.bd_model.specs.FileMap.{FileMap}
 use Rattle.bd_model.specs.declared.command.Command.{Command}
 use Rattle.bd_store.specs.declared.fault.StoreFault.{StoreFault}
-use Rattle.bd_store.specs.declared.fault.StoreFault.TheVariants.{SourceFault, TargetFault, DiskFault, Damaged, OutOfMemory, Unbuilt}
+use Rattle.bd_store.specs.declared.fault.StoreFault.TheVariants.{SourceFault, TargetFault, DiskFault, Damaged, OutOfMemory}
 use Rattle.bd_catalog.specs.Standing.{StandsFor}
 use Rattle.bd_model.specs.declared.answer.Answer.{Answer}
 use Rattle.bd_store.specs.Steps.{Task, task, IsOneStep}
@@ -18,7 +18,6 @@ sure_quiet t SourceFault quiet sure = leaves_quiet quiet sure
 sure_quiet t TargetFault quiet sure = leaves_quiet quiet sure
 sure_quiet t (Damaged damage) quiet sure = leaves_quiet quiet sure
 sure_quiet t OutOfMemory quiet sure = leaves_quiet quiet sure
-sure_quiet t Unbuilt quiet sure = leaves_quiet quiet sure
 
 pub safe_quiet : (command : Command) (held : ℕ) {h0 h1 : History} (files : FileMap) (fault : StoreFault) → WritesNothing h0 h1 → IsSafeAtStops command held h0 h1 files (Err fault)
 safe_quiet command held files fault quiet = record {
@@ -31,29 +30,3 @@ safe_quiet command held files fault quiet = record {
 -- the same of a call that did nothing
 pub safe_untouched : (command : Command) (held : ℕ) (h : History) (files : FileMap) (fault : StoreFault) → IsSafeAtStops command held h h files (Err fault)
 safe_untouched command held h files fault = safe_quiet command held files fault (made_none _ h)
-
--- ---- a command that reads first
-
--- its step is that of what comes behind the reading
-pub step_behind : (command : Command) (held : ℕ) {h0 h1 h2 : History} (files files_now : FileMap) (result : Result Answer StoreFault) → WritesNothing h0 h1 → IsOneStep command held h1 h2 files files_now result → IsOneStep command held h0 h2 files files_now result
-step_behind command held files files_now result quiet step = record { each = λ shape st phase near stands. step.each shape st phase near (subst (StandsFor shape st phase held) (sym (unchanged quiet)) stands) }
-
-done_behind : (t : Task) {h0 h1 : History} (h2 : History) (result : Result Answer StoreFault) → WritesNothing h0 h1 → IsSureOf t h0 → IsSureBy t h1 h2 result → IsSureBy t h0 h2 result
-done_behind t h2 (Ok answer) quiet sure done = done
-done_behind t h2 (Err DiskFault) quiet sure done = tt
-done_behind t h2 (Err SourceFault) quiet sure done = leaves_both (leaves_quiet quiet sure) done
-done_behind t h2 (Err TargetFault) quiet sure done = leaves_both (leaves_quiet quiet sure) done
-done_behind t h2 (Err (Damaged damage)) quiet sure done = leaves_both (leaves_quiet quiet sure) done
-done_behind t h2 (Err OutOfMemory) quiet sure done = leaves_both (leaves_quiet quiet sure) done
-done_behind t h2 (Err Unbuilt) quiet sure done = leaves_both (leaves_quiet quiet sure) done
-
--- and so are its stops
-pub safe_behind : (command : Command) (held : ℕ) {h0 h1 h2 : History} (files : FileMap) (result : Result Answer StoreFault) → WritesNothing h0 h1 → IsSafeAtStops command held h1 h2 files result → IsSafeAtStops command held h0 h2 files result
-safe_behind command held files result quiet safe = record {
-  each = λ shape st near sure.
-      let is = safe.each shape st near (still_now quiet sure) in
-      record {
-        within = leaves_both (leaves_wider _ (λ image stands. inl stands) (leaves_quiet quiet sure)) is.within;
-        done = done_behind (task shape held st files command) _ result quiet sure is.done;
-      };
-}

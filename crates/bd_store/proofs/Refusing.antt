@@ -1,7 +1,7 @@
 -- An answer that touches nothing is its step, and safe at every stop.
 use Rattle.std.proofs.Common.{◌≡◌, ℕ, ◌<◌, ◌≤◌, List, inl, refl, sym, ◌∙◌, ap, subst, arith, ◌&&◌, ◌||◌, true, false, nat_lt, Some, Ok}
 use Rattle.std.specs.Prelude.{not}
-use Rattle.std.proofs.lemmas.Bool.{and_right, le-ltb, lt-ltb, ne_eqb}
+use Rattle.std.proofs.lemmas.Bool.{ne_eqb, or_from}
 use Rattle.bd_disk.specs.History.{History, contents}
 use Rattle.bd_disk.proofs.Frames.{contents_now, leaves_same, leaves_wider}
 use Rattle.bd_model.specs.FileMap.{FileMap}
@@ -21,7 +21,7 @@ use Rattle.bd_catalog.proofs.Standing.{stands-shows}
 use Rattle.bd_catalog.proofs.StandingAnswers.{full_numbers, full_versions}
 use Rattle.bd_store.specs.Steps.{task, LeadsTo, IsOneStep}
 use Rattle.bd_store.specs.Stops.{IsSafeAtStops}
-use Rattle.bd_store.specs.Touches.{is_unbuilt, numbers_used_up, versions_used_up}
+use Rattle.bd_store.specs.Touches.{is_full, numbers_used_up, versions_used_up}
 
 module _ (command : Command) (held : ℕ) (h : History) (files : FileMap) (answer : Answer) where
   -- the answer is the step's, whatever state the contents stand for
@@ -64,19 +64,9 @@ versions_refuse held h files name found count agrees below used same shape st ph
     full_versions shape held st files name (subst (λ n. n < last_number) shows.numbers.newest below) (sym shows.numbers.retained ∙ used ∙ most)
     ∙ ap (λ n. Some (unchanged st files (FullVersions n))) (sym most ∙ sym used ∙ same)
 
--- a backup that is refused by no number is still to come where more than one version is retained
-pub backup_unbuilt : (found : Found) → (found.catalogue.newest ≡ last_number → ⊥) → (retained_in found.catalogue ≡ found.sizes.retain → ⊥) → 1 < retained_in found.catalogue → is_unbuilt found ≡ true
-backup_unbuilt found numbers versions some =
-    let numbers_left : numbers_used_up found ≡ false = ne_eqb found.catalogue.newest last_number numbers in
-    let versions_left : versions_used_up found ≡ false = ne_eqb (retained_in found.catalogue) found.sizes.retain versions in
-    let more : nat_lt 1 (retained_in found.catalogue) ≡ true = lt-ltb 1 (retained_in found.catalogue) some in
-    λ k. not (numbers_left k || versions_left k) && more k
-
--- else it goes on
-pub backup_goes_on : (found : Found) → found.catalogue.newest < last_number → retained_in found.catalogue < found.sizes.retain → retained_in found.catalogue ≤ 1 →
-    (numbers_used_up found || versions_used_up found ≡ false) × (is_unbuilt found ≡ false)
-backup_goes_on found below fewer few =
-    let numbers_left : numbers_used_up found ≡ false = ne_eqb found.catalogue.newest last_number (λ e. absurd (omega (arith, e, below))) in
-    let versions_left : versions_used_up found ≡ false = ne_eqb (retained_in found.catalogue) found.sizes.retain (λ e. absurd (omega (arith, e, fewer))) in
-    let nothing : nat_lt 1 (retained_in found.catalogue) ≡ false = le-ltb 1 (retained_in found.catalogue) few in
-    (λ k. numbers_left k || versions_left k, and_right (not (numbers_used_up found || versions_used_up found)) (nat_lt 1 (retained_in found.catalogue)) nothing)
+-- a backup that is refused by no number goes on
+pub backup_goes_on : (found : Found) → found.catalogue.newest < last_number → retained_in found.catalogue < found.sizes.retain → is_full found ≡ false
+backup_goes_on found below fewer =
+    or_from (numbers_used_up found) (versions_used_up found)
+    (ne_eqb found.catalogue.newest last_number (λ e. absurd (omega (arith, e, below))))
+    (ne_eqb (retained_in found.catalogue) found.sizes.retain (λ e. absurd (omega (arith, e, fewer))))

@@ -18,7 +18,7 @@ ghost use Rattle.bd_store.specs.Newest.{IsNewestRecipe};
 ghost use Rattle.bd_store.specs.Readying.{Readies, ReadiesOn};
 ghost use Rattle.bd_store.specs.Touches.{InArranging};
 
-use crate::fault::{StoreFault, fault_of_reading, is_disk_fault, refusal_of};
+use crate::fault::{StoreFault, fault_of_reading, is_disk_fault, is_read_fault, refusal_of};
 use crate::figures::Figures;
 use crate::naming::name_version;
 use crate::newest::newest_recipe;
@@ -44,18 +44,27 @@ impl Store {
         ensures store { Readies self.old self.new result }
         ensures told { D.tells → ReadiesOn self.old.held self.old.found self.new.found (D.history disk.old) (D.history disk.new) result }
     {
-        let read = newest_recipe(self.alloc, disk, &self.catalog).and_then(|neighbour| {
-            arrange(
-                self.alloc,
-                disk,
-                &mut self.catalog,
-                &mut self.space,
-                &neighbour,
-            )?;
-            Ok(neighbour)
-        });
-        self.worn = matches!(read, Err(ReadFault::DiskFault));
-        read
+        let _shape = self.catalog.shape();
+        let neighbour = match newest_recipe(self.alloc, disk, &self.catalog) {
+            Ok(neighbour) => neighbour,
+            Err(fault) => {
+                self.worn = is_read_fault(fault);
+                return Err(fault);
+            }
+        };
+        match arrange(
+            self.alloc,
+            disk,
+            &mut self.catalog,
+            &mut self.space,
+            &neighbour,
+        ) {
+            Ok(()) => Ok(neighbour),
+            Err(fault) => {
+                self.worn = is_read_fault(fault);
+                Err(fault)
+            }
+        }
     }
 
     /// Stores the named source as the next version. The newest recipe is read before it, and one that doesn't hold is
@@ -155,12 +164,18 @@ impl Store {
         requires sound { self.old.worn ≡ false }
         ensures meets { (beside : Beside) → Meets D.tells (Unit {0}) (attempt Reorganise result (scene_beside D.Disk beside self.old disk.old) (scene_beside D.Disk beside self.new disk.new)) }
     {
-        if self.catalog.phase() != Phase::Settled {
-            if let Err(fault) = self.ready(disk) {
-                return Err(fault_of_reading(fault));
+        match self.catalog.phase() {
+            Phase::Settled => {
+                let Figures { owned, free, .. } = self.figures();
+                Ok(Answer::Arranged { owned, free })
             }
+            Phase::Waiting { .. } => match self.ready(disk) {
+                Ok(_neighbour) => {
+                    let Figures { owned, free, .. } = self.figures();
+                    Ok(Answer::Arranged { owned, free })
+                }
+                Err(fault) => Err(fault_of_reading(fault)),
+            },
         }
-        let Figures { owned, free, .. } = self.figures();
-        Ok(Answer::Arranged { owned, free })
     }
 }

@@ -33,6 +33,13 @@ pub(crate) fn is_disk_fault(outcome: &Result<Answer, StoreFault>) -> bool
     matches!(outcome, Err(StoreFault::DiskFault))
 }
 
+/// Whether a reading met a fault of the disk.
+pub(crate) fn is_read_fault(fault: ReadFault) -> bool
+    ensures { (result ≡ true) ↔ (fault ≡ ReadFault.DiskFault) }
+{
+    matches!(fault, ReadFault::DiskFault)
+}
+
 /// What a refused intake is answered with.
 pub(crate) fn refusal_of(fault: IntakeFault) -> Result<Answer, StoreFault>
     ensures { result ≡ refusal_of fault }

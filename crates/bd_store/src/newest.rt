@@ -5,6 +5,7 @@ ghost use Rattle.bd_disk.specs.History.{contents};
 ghost use Rattle.bd_disk.specs.Runs.{Reads};
 ghost use Rattle.bd_disk.specs.Trace.{ReadsOnly};
 ghost use Rattle.bd_model.specs.Sizes.{disk_bytes};
+ghost use Rattle.bd_catalog.specs.Catalogue.{retained_in};
 ghost use Rattle.bd_catalog.specs.Damages.{IsSeen};
 ghost use Rattle.bd_intake.specs.Given.{IsRecipeOrNone};
 ghost use Rattle.bd_recipe.specs.Reading.{IfDamaged, InRecipe, is_disk_fault};
@@ -25,6 +26,7 @@ pub(crate) fn newest_recipe<D: Disk>(
     ensures disk { Reads D.Disk (InRecipe catalog.now.found.sizes catalog.now.found.catalogue catalog.now.found.catalogue.newest) disk.old disk.new }
     ensures cause { FailsByCount is_disk_fault (D.faults disk.old) (D.faults disk.new) result }
     ensures recipe { IfOk result (λ n. IsRecipeOrNone catalog.now.found.sizes catalog.now.found.catalogue n.entries) }
+    ensures some { IfDamaged result (λ damage. 1 ≤ retained_in catalog.now.found.catalogue) }
     ensures entries { D.tells → AnswersNewest catalog.now.found (contents (D.history disk.old)) result }
     ensures places { OnOk result (D.tells → ReadsOnly (newest_places catalog.now.found) (D.history disk.old) (D.history disk.new)) }
     ensures seen { IfDamaged result (λ damage. D.tells → IsSeen catalog.now.found.sizes catalog.now.found.catalogue (contents (D.history disk.old)) [] damage (D.history disk.old) (D.history disk.new)) }
