@@ -9,9 +9,7 @@ pub mod Quiet
 pub mod Refusing
 pub mod Restoring
 pub mod Asking
-pub mod BackingUp
 pub mod Giving
-pub mod Unnamed
 pub mod Nearing
 pub mod Ending
 pub mod Behind
@@ -20,3 +18,4 @@ pub mod Following
 pub mod Reorganising
 pub mod Staying
 pub mod Readying
+pub mod TakingIn

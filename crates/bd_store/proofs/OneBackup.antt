@@ -2,7 +2,6 @@
 -- stop.
 use Rattle.std.proofs.Common.{◌≡◌, inl, inr, ⊎_elim, ℕ, ◌+◌, ◌<◌, ◌≤◌, false, ◌||◌, cond, List, [], ◌++◌, length, refl, sym, ◌∙◌, ap, subst, arith, map as each_of, append-nil, Option, Some, None, Result, Ok, Err}
 use Rattle.std.proofs.lemmas.Bool.{cases_lt, ne_eqb}
-use Rattle.std.specs.Prelude.{option_to_list}
 use Rattle.std.specs.FinMap as map
 use Rattle.std.proofs.lemmas.Simd.{map-map}
 use Rattle.bd_disk.specs.History.{History, contents}
@@ -29,8 +28,6 @@ use Rattle.bd_model.specs.Step.{Outcome, free_extents, phase_after, unchanged}
 use Rattle.bd_model.proofs.FromRecipesLemmas.{recipes_give_the_counts}
 use Rattle.bd_model.proofs.GrownLemmas.{recipes_stay}
 use Rattle.bd_model.proofs.HistoryLemmas.{version-base, version-grown, version-newest}
-use Rattle.bd_model.proofs.MarkLemmas.{marks_tell_chunks_apart}
-use Rattle.bd_model.proofs.StepLemmas.{history-grown}
 use Rattle.bd_space.specs.Allotment.{Allotment, extent_count, free_count, held_count, TakenExactly}
 use Rattle.bd_files.specs.Files.{Holds, Lacks}
 use Rattle.bd_catalog.specs.Agreement.{Agrees}
@@ -58,6 +55,7 @@ use Rattle.bd_intake.specs.Places.{InFree}
 use Rattle.bd_store.specs.Naming.{refusal_of}
 use Rattle.bd_store.specs.Newest.{IsNewestRecipe}
 use Rattle.bd_store.specs.Steps.{Task, task, is_full, versions_with, IsNear, Answered, LeadsTo, MakesStep, KeptOrMade, StandsOnEitherSide}
+use Rattle.bd_store.proofs.Nearing.{near_before, near_grown}
 use Rattle.bd_store.specs.Stops.{IsSureOf, IsSureAfter, IsSureBy, StopsOnEitherSide}
 
 entries_are : (old : List RecipeEntry) (v : ℕ) (w : List (List ℕ)) → AreEntriesOf (entries_in old v w) w
@@ -67,44 +65,17 @@ entries_are old v w = record { marks = map-map (λ e. e.mark.0) _ w; lengths = m
 
 module _ (shape : Shape) (held : ℕ) (st : VersionState) (files : FileMap) (name : List ℕ) (number_left : newest (history shape st) < last_number) (version_left : retained (history shape st) < shape.retain)
     (near : IsNear (task shape held st files (Backup name))) where
-  abbrev t : Task
-  t = task shape held st files (Backup name)
-
   abbrev before : Versions
   before = history shape st
 
-  not_full : is_full t ≡ false
+  not_full : is_full (task shape held st files (Backup name)) ≡ false
   not_full = λ k. ne_eqb (newest before) last_number (λ e. absurd (omega (arith, e, number_left))) k || ne_eqb (retained before) shape.retain (λ e. absurd (omega (arith, e, version_left))) k
 
-  abbrev as_version : List ℕ → Version
-  as_version bytes = record { stream = bytes }
-
-  abbrev with_more : List Version → VersionState
-  with_more more = record st { versions = st.versions ++ more }
-
-  with_source : (got : Option (List ℕ)) → map.get files name ≡ got → versions_with t (Backup name) ≡ with_more (each_of as_version (option_to_list got))
-  with_source got there =
-      ap (λ full. with_more (cond full [] (each_of as_version (option_to_list (map.get files name))))) not_full
-      ∙ ap (λ o. with_more (each_of as_version (option_to_list o))) there
-
-  module _ (stream : List ℕ) (there : map.get files name ≡ Some stream) where
-    near_grown : Near (grown before (chunks (cut_of shape) stream))
-    near_grown = subst Near (ap (history shape) (with_source (Some stream) there) ∙ history-grown shape st stream) near
-
-    pub apart : Distinct (version before (newest before) ++ chunks (cut_of shape) stream)
-    apart =
-        let w : List (List ℕ) = chunks (cut_of shape) stream in
-        subst (λ vs. Distinct (vs ++ w)) (version-grown before w (newest before) (omega arith)) (subst (λ vs. Distinct (version (grown before w) (newest before) ++ vs)) (version-newest before w) (near_grown (newest before)))
-
-    near_with : Near before
-    near_with = marks_tell_chunks_apart.before before (chunks (cut_of shape) stream) near_grown
-
-  near_without : map.get files name ≡ None → Near before
-  near_without none = subst (λ s. Near (history shape s)) (with_source None none ∙ (λ k. record st { versions = append-nil st.versions k })) near
-
-  -- they tell those of the state apart
-  pub near_before : Near before
-  near_before = elim (map.get files name) as (λ o. map.get files name ≡ o → Near before) [ None ↦ λ e. near_without e | Some stream ↦ λ e. near_with stream e ] refl
+  pub apart : (stream : List ℕ) → map.get files name ≡ Some stream → Distinct (version before (newest before) ++ chunks (cut_of shape) stream)
+  apart stream there =
+      let w : List (List ℕ) = chunks (cut_of shape) stream in
+      let near_both : Near (grown before w) = near_grown shape held st files name stream not_full there near in
+      subst (λ vs. Distinct (vs ++ w)) (version-grown before w (newest before) (omega arith)) (subst (λ vs. Distinct (version (grown before w) (newest before) ++ vs)) (version-newest before w) (near_both (newest before)))
 
 -- ---- the command
 
@@ -171,7 +142,7 @@ module _ (shape : Shape) (held : ℕ) (st : VersionState) (phase : Phase) (files
     some_is some =
         let read : recipe_found found.sizes found.catalogue (contents h0) (newest h) ≡ Ok old = subst (λ n. recipe_found found.sizes found.catalogue (contents h0) n ≡ Ok old) shows.numbers.newest (is_old.some some) in
         let stood : recipe_found found.sizes found.catalogue (contents h0) (newest h) ≡ Ok (recipe h (newest h)) =
-        recipe_stands shape st phase held (contents h0) found stands agrees.opens (near_before shape held st files name number_left version_left near) (newest h) (omega (arith, shows.numbers.retained, some)) (omega arith) in
+        recipe_stands shape st phase held (contents h0) found stands agrees.opens (near_before shape held st files name near) (newest h) (omega (arith, shows.numbers.retained, some)) (omega arith) in
         let same : Ok old ≡ Ok (recipe h (newest h)) = sym read ∙ stood in
         cc
 

@@ -43,30 +43,8 @@ use Rattle.bd_store.specs.Newest.{AnswersNewest, IsNewestRecipe}
 use Rattle.bd_store.specs.Steps.{task, Answered, IsNear, MakesStep, IsOneStep}
 use Rattle.bd_store.specs.Stops.{IsSafeAtStops}
 use Rattle.bd_store.specs.declared.fault.StoreFault.TheVariants.{DiskFault}
-use Rattle.bd_store.proofs.OneBackup.{near_before, refused_makes, refused_stops, commit_makes, commit_fails, all_stops, committed_sure}
+use Rattle.bd_store.proofs.OneBackup.{refused_makes, refused_stops, commit_makes, commit_fails, all_stops, committed_sure}
 
--- the newest recipe couldn't be read
-module _ (found : Found) (name : List ℕ) (held : ℕ) (files : FileMap) (h0 h1 : History) (agrees : Agrees found h0) (below : found.catalogue.newest < last_number) (fewer : retained_in found.catalogue < found.sizes.retain) (quiet : WritesNothing h0 h1) where
-  no_damage : (shape : Shape) (st : VersionState) (phase : Phase) → IsNear (task shape held st files (Backup name)) → StandsFor shape st phase held (contents h0) →
-      (damage : Damage) → 1 ≤ retained_in found.catalogue → recipe_found found.sizes found.catalogue (contents h0) found.catalogue.newest ≡ Err damage → ⊥
-  no_damage shape st phase near stands damage some broken =
-      let shows = stands-shows stands agrees.opens in
-      let number_left : newest (history shape st) < last_number = subst (λ n. n < last_number) shows.numbers.newest below in
-      let version_left : retained (history shape st) < shape.retain = omega (arith, fewer, shows.numbers.retained, ap (λ s. s.retain) shows.sizes) in
-      let stood : recipe_found found.sizes found.catalogue (contents h0) (newest (history shape st)) ≡ Ok (recipe (history shape st) (newest (history shape st))) =
-      recipe_stands shape st phase held (contents h0) found stands agrees.opens (near_before shape held st files name number_left version_left near) (newest (history shape st)) (omega (arith, shows.numbers.retained, some)) (omega arith) in
-      let no : Err damage ≡ Ok (recipe (history shape st) (newest (history shape st))) = sym broken ∙ subst (λ n. recipe_found found.sizes found.catalogue (contents h0) n ≡ Ok (recipe (history shape st) (newest (history shape st)))) (sym shows.numbers.newest) stood in
-      absurd (cc)
-
-  pub unread_one_step : (fault : ReadFault) → AnswersNewest found (contents h0) (Err fault) → IsOneStep (Backup name) held h0 h1 files files (Err (fault_of_reading fault))
-  unread_one_step fault answers = record { each = λ shape st phase near stands. by shape st phase near stands fault answers } where
-    by : (shape : Shape) (st : VersionState) (phase : Phase) → IsNear (task shape held st files (Backup name)) → StandsFor shape st phase held (contents h0) → (fault : ReadFault) → AnswersNewest found (contents h0) (Err fault) →
-        MakesStep (task shape held st files (Backup name)) phase (contents h1) files (Err (fault_of_reading fault))
-    by shape st phase near stands ReadDisk answers = record { stands = inl (record { phase = phase; so = subst (StandsFor shape st phase held) (sym (unchanged quiet)) stands }); beside = refl }
-    by shape st phase near stands ReadMemory answers = record { stands = record { phase = phase; so = subst (StandsFor shape st phase held) (sym (unchanged quiet)) stands }; beside = refl }
-    by shape st phase near stands (ReadDamaged damage) answers = no_damage shape st phase near stands damage answers.0 answers.1
-
--- it was read
 module _ (found : Found) (name : List ℕ) (files files_now : FileMap) (same_files : files_now ≡ files) (h0 h1 : History) (space : Allotment)
     (agrees : Agrees found h0) (settled : found.catalogue.phase ≡ Settled) (below : found.catalogue.newest < last_number) (fewer : retained_in found.catalogue < found.sizes.retain)
     (writes : WritesOnly (InFree found.sizes space) h0 h1) (count : extent_count space ≡ found.sizes.extents) (owners : TakenExactly space (all_extents found.catalogue))

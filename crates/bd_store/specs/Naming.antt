@@ -29,6 +29,11 @@ refusal_of SourceFault = Err SourceFailed
 refusal_of DiskFault = Err DiskFailed
 refusal_of OutOfMemory = Err MemoryFailed
 
+-- the same fault; a want of room with what a store has
+abbrev pub with_room : ℕ → ℕ → IntakeFault → IntakeFault
+with_room free held (Full counted was kept) = Full counted free held
+with_room free held fault = fault
+
 -- what the commit of what is staged answers
 abbrev pub AnswersNaming : ℕ → Staged → Result Answer StoreFault → Type 0
 AnswersNaming number staged (Ok answer) = answer ≡ BackedUp number staged.version.length staged.version.chunks staged.version.fresh staged.need

@@ -18,7 +18,7 @@ ghost use Rattle.bd_store.specs.Newest.{IsNewestRecipe};
 ghost use Rattle.bd_store.specs.Readying.{Readies, ReadiesOn};
 ghost use Rattle.bd_store.specs.Touches.{InArranging};
 
-use crate::fault::{StoreFault, fault_of_reading, is_disk_fault, is_read_fault, refusal_of};
+use crate::fault::{StoreFault, fault_of_reading, is_disk_fault, is_read_fault, refusal_of, with_room};
 use crate::figures::Figures;
 use crate::naming::name_version;
 use crate::newest::newest_recipe;
@@ -130,6 +130,7 @@ impl Store {
         requires newest { D.tells → IsNewestRecipe self.old.found (contents (D.history disk.old)) neighbour.now.entries }
         ensures follows { Follows D.tells F.tells (attempt (Backup name.now) result (scene D.Disk F.Files self.old disk.old files.old) (scene D.Disk F.Files self.new disk.new files.new)) }
     {
+        let _shape = self.catalog.shape();
         if self.catalog.reserve().is_err() {
             return Err(StoreFault::OutOfMemory);
         }
@@ -150,7 +151,8 @@ impl Store {
                 named
             }
             Err(fault) => {
-                let refused = refusal_of(fault);
+                let Figures { free, held, .. } = self.figures();
+                let refused = refusal_of(with_room(fault, free, held));
                 self.worn = is_disk_fault(&refused);
                 refused
             }

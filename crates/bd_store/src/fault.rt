@@ -1,6 +1,6 @@
 //! Why a command on a store isn't carried out.
 ghost use Rattle.std.specs.Prelude.{◌≡◌, ◌↔◌, true, Err};
-ghost use Rattle.bd_store.specs.Naming.{fault_of_reading, fault_of_restore, refusal_of};
+ghost use Rattle.bd_store.specs.Naming.{fault_of_reading, fault_of_restore, refusal_of, with_room};
 
 use bd_intake::IntakeFault;
 use bd_model::{Answer, Damage};
@@ -38,6 +38,20 @@ pub(crate) fn is_read_fault(fault: ReadFault) -> bool
     ensures { (result ≡ true) ↔ (fault ≡ ReadFault.DiskFault) }
 {
     matches!(fault, ReadFault::DiskFault)
+}
+
+/// The same fault; a want of room with what the store has now.
+pub(crate) fn with_room(fault: IntakeFault, free: u64, held: u64) -> IntakeFault
+    ensures { result ≡ with_room free held fault }
+{
+    match fault {
+        IntakeFault::Full { counted, .. } => IntakeFault::Full {
+            counted,
+            free,
+            held,
+        },
+        other => other,
+    }
 }
 
 /// What a refused intake is answered with.
