@@ -31,16 +31,15 @@ use Rattle.bd_restore.specs.Walk.{InRows}
 use Rattle.bd_volume.specs.Headers.{HasGoodHeaders}
 use Rattle.bd_restore.specs.declared.fault.RestoreFault.{RestoreFault}
 use Rattle.bd_restore.specs.declared.fault.RestoreFault.TheVariants.{TargetFault as RestoreTarget, DiskFault as RestoreDisk, Damaged as RestoreDamaged, OutOfMemory as RestoreMemory}
-use Rattle.bd_store.specs.Attempts.{Scene, Attempt, attempt, scene, EndsInDamage, KeepsStore, Meets, RestoreReads}
+use Rattle.bd_store.specs.Attempts.{Scene, Attempt, attempt, scene, EndsInDamage, HeadersByAnswer, KeepsStore, KeepsVersions, Meets, RestoreReads, SettlesBy, TellsFigures}
 use Rattle.bd_store.specs.Causes.{counts, FailsOnlyByCount}
 use Rattle.bd_store.specs.Naming.{fault_of_reading, fault_of_restore}
-use Rattle.bd_store.specs.Shown.{Shown}
+use Rattle.bd_store.specs.Shown.{SameVersions, Shown}
 use Rattle.bd_store.specs.Touches.{is_retained, AnswersByVersion, InRestore}
 use Rattle.bd_store.specs.declared.fault.StoreFault.{StoreFault}
 use Rattle.bd_store.specs.declared.fault.StoreFault.TheVariants.{DiskFault}
 use Rattle.bd_store.proofs.Asking.{retained_is}
 use Rattle.bd_store.proofs.Giving.{agrees_quiet, reading_names, reading_one_step, restored_content, restored_one_step, restored_safe, restored_walks, walk_names, walk_one_step}
-use Rattle.bd_store.proofs.Meeting.{same_kept}
 use Rattle.bd_store.proofs.Quiet.{safe_quiet}
 
 -- what is told of the files whose target was changed
@@ -62,13 +61,36 @@ module _ {D F : Type 0} (d : DiskGhosts D) (f : FilesGhosts F) (found : Found) (
   retained : is_retained found v ≡ true
   retained = retained_is found v from to
 
+  -- what is said of an answer besides
+  record Beside (result : Result Answer StoreFault) (worn : Bool) (disk : D) (files : F) : Type 0 where
+    versions : KeepsVersions (store false) (store worn) result
+    settles : SettlesBy (store worn) result
+    figures : TellsFigures (store worn) result
+    headers : HeadersByAnswer (ended result worn disk files) result
+
+  same : (worn : Bool) → SameVersions (store false) (store worn)
+  same worn = record { sizes = refl; base = refl; newest = refl; versions = refl; held = refl }
+
+  beside_unread : (fault : ReadFault) (worn : Bool) (disk : D) (files : F) → Beside (Err (fault_of_reading fault)) worn disk files
+  beside_unread ReadDisk worn disk files = record { versions = tt; settles = tt; figures = tt; headers = tt }
+  beside_unread (ReadDamaged damage) worn disk files = record { versions = same worn; settles = tt; figures = tt; headers = tt }
+  beside_unread ReadMemory worn disk files = record { versions = same worn; settles = tt; figures = tt; headers = tt }
+
+  beside_stopped : (fault : RestoreFault) (worn : Bool) (disk : D) (files : F) → Beside (Err (fault_of_restore fault)) worn disk files
+  beside_stopped RestoreTarget worn disk files = record { versions = same worn; settles = tt; figures = tt; headers = tt }
+  beside_stopped RestoreDisk worn disk files = record { versions = tt; settles = tt; figures = tt; headers = tt }
+  beside_stopped (RestoreDamaged damage) worn disk files = record { versions = same worn; settles = tt; figures = tt; headers = tt }
+  beside_stopped RestoreMemory worn disk files = record { versions = same worn; settles = tt; figures = tt; headers = tt }
+
   -- the store in memory goes on as it was
-  store_kept : (result : Result Answer StoreFault) (worn : Bool) (disk : D) (files : F) → ((worn ≡ true) ↔ (result ≡ Err DiskFault)) → KeepsStore (ended result worn disk files)
-  store_kept result worn disk files is = record {
+  store_kept : (result : Result Answer StoreFault) (worn : Bool) (disk : D) (files : F) → Beside result worn disk files → ((worn ≡ true) ↔ (result ≡ Err DiskFault)) → KeepsStore (ended result worn disk files)
+  store_kept result worn disk files says is = record {
     worn = is;
     sizes = λ _. refl;
     held = refl;
-    versions = same_kept (store false) (store worn) result (record { sizes = refl; base = refl; newest = refl; versions = refl; held = refl });
+    versions = says.versions;
+    settles = says.settles;
+    figures = says.figures;
   }
 
   in_recipe : (place : ℕ) → InRecipe found.sizes found.catalogue v place → InRestore found v place
@@ -109,7 +131,7 @@ module _ {D F : Type 0} (d : DiskGhosts D) (f : FilesGhosts F) (found : Found) (
       bytes = is.disk.bytes;
       cause = unread_cause fault is (f.source_faults files0) (f.target_faults files0);
       answer = unread_answer fault;
-      store = store_kept (Err (fault_of_reading fault)) worn disk1 files0 fails;
+      store = store_kept (Err (fault_of_reading fault)) worn disk1 files0 (beside_unread fault worn disk1 files0) fails;
       untouched = λ refused. absurd refused;
       on_disk = λ told. record {
         agrees = λ _. agrees_quiet found (nothing_written is.disk told) (agrees told);
@@ -118,6 +140,7 @@ module _ {D F : Type 0} (d : DiskGhosts D) (f : FilesGhosts F) (found : Found) (
         looks = looked (wider_reads (InRestore found v) in_recipe is.disk) told;
         damage = reading_names found v (d.history disk0) (d.history disk1) told fault (is.entries told) is.seen;
         recipe = unread_ends fault is told;
+        headers = (beside_unread fault worn disk1 files0).headers;
       };
       on_files = λ told. record { beside = record { others = λ other differ. refl }; strays = record { later = omega arith; missing = inl refl }; finished = tt };
       on_both = λ told files_tell. record {
@@ -169,7 +192,7 @@ module _ {D F : Type 0} (d : DiskGhosts D) (f : FilesGhosts F) (found : Found) (
         cause = λ k. counts ((ran.cause.disk.cause ∙ read.faults) k) (ran.files.sources k) (ran.cause.target.cause k);
       };
       answer = (omega (arith, from, to), retained, refl, gave.length ∙ read.recipe.sum);
-      store = store_kept (Ok (Restored v given)) false disk2 files2 (λ e. let no : false ≡ true = e in absurd (cc), λ e. let no : ◌≡◌ {A = Result Answer StoreFault} (Ok (Restored v given)) (Err DiskFault) = e in absurd (cc));
+      store = store_kept (Ok (Restored v given)) false disk2 files2 (record { versions = same false; settles = tt; figures = tt; headers = tt }) (λ e. let no : false ≡ true = e in absurd (cc), λ e. let no : ◌≡◌ {A = Result Answer StoreFault} (Ok (Restored v given)) (Err DiskFault) = e in absurd (cc));
       untouched = λ refused. absurd refused;
       on_disk = λ told. record {
         agrees = λ _. agrees_quiet found (nothing_written (reads (Ok given) ran) told) (agrees told);
@@ -178,6 +201,7 @@ module _ {D F : Type 0} (d : DiskGhosts D) (f : FilesGhosts F) (found : Found) (
         looks = looked (reads (Ok given) ran) told;
         damage = tt;
         recipe = λ damage broken. let no : Err damage ≡ Ok plan.entries = sym broken ∙ read.entries told in absurd (cc);
+        headers = tt;
       };
       on_files = λ told. record { beside = (changed_target ran.files told).1; strays = record { later = omega (arith, (changed_target ran.files told).0); missing = inl (changed_target ran.files told).0 }; finished = gave.finished told };
       on_both = λ told files_tell. record {
@@ -230,7 +254,7 @@ module _ {D F : Type 0} (d : DiskGhosts D) (f : FilesGhosts F) (found : Found) (
       bytes = (reads _ ran).bytes;
       cause = stopped_cause fault ran;
       answer = stopped_answer fault;
-      store = store_kept (Err (fault_of_restore fault)) worn disk2 files2 fails;
+      store = store_kept (Err (fault_of_restore fault)) worn disk2 files2 (beside_stopped fault worn disk2 files2) fails;
       untouched = λ refused. absurd refused;
       on_disk = λ told. record {
         agrees = λ _. agrees_quiet found (nothing_written (reads (Err fault) ran) told) (agrees told);
@@ -239,6 +263,7 @@ module _ {D F : Type 0} (d : DiskGhosts D) (f : FilesGhosts F) (found : Found) (
         looks = looked (reads (Err fault) ran) told;
         damage = walk_names found v (d.history disk0) (d.history disk1) told plan (read.entries told) read.made.version (nothing_written read.disk told) (read.places told) (d.history disk2) fault met;
         recipe = λ damage broken. let no : Err damage ≡ Ok plan.entries = sym broken ∙ read.entries told in absurd (cc);
+        headers = (beside_stopped fault worn disk2 files2).headers;
       };
       on_files = λ told. record { beside = (changed_target ran.files told).1; strays = record { later = omega (arith, (changed_target ran.files told).0); missing = inl (changed_target ran.files told).0 }; finished = tt };
       on_both = λ told files_tell. record {

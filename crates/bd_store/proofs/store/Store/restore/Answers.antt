@@ -2,7 +2,7 @@ use Rattle.std.proofs.Common.{◌≡◌, ◌-◌, ◌<◌, ◌∙◌, ⊎_elim, 
 use Rattle.bd_catalog.specs.Catalogue.{oldest_in, retained_in}
 use Rattle.bd_store.specs.Shown.{Shown}
 use Rattle.bd_store.proofs.Asking.{none_beside, nothing_refuses, number_refuses}
-use Rattle.bd_store.proofs.Meeting.{meets_untouched}
+use Rattle.bd_store.proofs.Meeting.{meets_untouched, same_versions}
 use Rattle.bd_store.proofs.Refusing.{refused_step, refused_stops}
 use Rattle.bd_store.proofs.store.Store.restore.Goals as goal
 
@@ -11,7 +11,7 @@ returns-then-retained-eq0 g c =
     let none : retained_in c.args.self.now.found.catalogue ≡ 0 = ap (λ (s : Shown). retained_in s.found.catalogue) (sym c.self.view_is) ∙ sym c.retained-retained.ensures ∙ c.if-retained-eq0.true in
     record {
       meets = meets_untouched _ _ _ c.requires.sound c.requires.agrees
-          (record { cause = refl; has_disk = tt; answer = (none, refl); reads = refl; damage = tt; recipe = λ damage is. tt; finished = tt; gives = tt })
+          (record { cause = refl; has_disk = tt; answer = (none, refl); versions = same_versions c.args.self.now; settles = tt; figures = tt; reads = refl; damage = tt; recipe = λ damage is. tt; headers = tt; finished = tt; gives = tt })
           (λ told files_tell. refused_step _ _ _ _ _ (nothing_refuses _ _ _ _ _ c.args.self.now.found (c.requires.agrees told) none) refl (λ st phase. refl))
           (λ told files_tell. refused_stops _ _ _ _ _ (nothing_refuses _ _ _ _ _ c.args.self.now.found (c.requires.agrees told) none));
     }
@@ -28,9 +28,13 @@ returns-then-version-oldest g c =
             cause = refl;
             has_disk = tt;
             answer = (some, none_beside c.args.self.now.found c.args.version (⊎_elim (λ below. inl (omega (arith, below, low))) (λ above. inr (omega (arith, above.1, high))) c.then-version-oldest.either), refl, low, high);
+            versions = same_versions c.args.self.now;
+            settles = tt;
+            figures = tt;
             reads = refl;
             damage = tt;
             recipe = λ damage is. tt;
+            headers = tt;
             finished = tt;
             gives = tt;
           })
