@@ -19,3 +19,4 @@ pub mod Reorganising
 pub mod Staying
 pub mod Readying
 pub mod TakingIn
+pub mod LeanExpiry

@@ -1,10 +1,11 @@
 //! The oldest version, given up.
-ghost use Rattle.std.specs.Prelude.{◌≡◌, ◌≤◌, false};
+ghost use Rattle.std.specs.Prelude.{◌≡◌, ◌≤◌, true, false};
 ghost use Rattle.bd_model.specs.Sizes.{disk_bytes};
 ghost use Rattle.bd_model.specs.declared.command.Command.TheVariants.{Expire};
 ghost use Rattle.bd_catalog.specs.Agreement.{Agrees};
 ghost use Rattle.bd_catalog.specs.Splitting.{FitsExpire};
 ghost use Rattle.bd_store.specs.Attempts.{Beside, Meets, attempt, scene_beside};
+ghost use Rattle.bd_store.specs.Touches.{arranges_first};
 
 use crate::fault::{StoreFault, fault_of_reading};
 use crate::store::Store;
@@ -22,16 +23,29 @@ impl Store {
         requires sound { self.old.worn ≡ false }
         ensures meets { (beside : Beside) → Meets D.tells (Unit {0}) (attempt Expire result (scene_beside D.Disk beside self.old disk.old) (scene_beside D.Disk beside self.new disk.new)) }
     {
+        let _shape = self.catalog.shape();
         let retained = self.catalog.retained();
         if retained == 0 {
             return Ok(Answer::NothingRetained { asked: None });
         }
         if retained == 2 && self.catalog.phase() != Phase::Settled {
-            if let Err(fault) = self.ready(disk) {
-                return Err(fault_of_reading(fault));
-            }
+            return self.arrange_and_give_up(disk);
         }
         self.give_up_oldest(disk)
+    }
+
+    // Arranges the store, and gives up the older of its two versions.
+    fn arrange_and_give_up<D: Disk>(&mut self, disk: &mut D) -> Result<Answer, StoreFault>
+        requires first { arranges_first self.old.found ≡ true }
+        requires room { disk_bytes self.old.found.sizes ≤ D.bytes disk.old }
+        requires agrees { D.tells → Agrees self.old.found (D.history disk.old) }
+        requires sound { self.old.worn ≡ false }
+        ensures meets { (beside : Beside) → Meets D.tells (Unit {0}) (attempt Expire result (scene_beside D.Disk beside self.old disk.old) (scene_beside D.Disk beside self.new disk.new)) }
+    {
+        match self.ready(disk) {
+            Ok(_) => self.give_up_oldest(disk),
+            Err(fault) => Err(fault_of_reading(fault)),
+        }
     }
 
     // Gives up the oldest version by one commit. It reads nothing, and takes no memory.

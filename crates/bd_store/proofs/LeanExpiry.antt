@@ -1,0 +1,317 @@
+-- An expiry by one commit: one step from any state for which the contents stand, and safe at every stop.
+use Rattle.std.proofs.Common.{◌≡◌, ◌∙◌, ◌⊎◌, inl, inr, ⊎_elim, ◌≤◌, ℕ, Bool, true, false, List, [], length, refl, sym, ap, subst, arith, cond, None, Some, Result, Ok, Err}
+use Rattle.std.proofs.lemmas.Bool.{and_left, and_right, cases_lt, eq-eqb, ne_eqb}
+use Rattle.std.specs.Prelude.{◌==◌, IsTrue, OnOk}
+use Rattle.std.specs.Result.{is_err}
+use Rattle.bd_disk.specs.Calls.{HasCause, Rose}
+use Rattle.bd_disk.specs.History.{History, contents}
+use Rattle.bd_disk.specs.Made.{LeavesNow, LeavesSince, WritesOnly}
+use Rattle.bd_disk.specs.Runs.{Writes}
+use Rattle.bd_disk.specs.Trace.{ReadsOnly}
+use Rattle.bd_disk.specs.declared.disk.Disk.{Ghosts as DiskGhosts}
+use Rattle.bd_disk.specs.declared.disk.Failed.{Failed}
+use Rattle.bd_disk.proofs.Frames.{contents_now, made_none, writes_wider}
+use Rattle.bd_disk.proofs.Looking.{looks_from}
+use Rattle.bd_disk.proofs.RunLemmas.{nothing_read, written}
+use Rattle.bd_model.specs.FileMap.{FileMap}
+use Rattle.bd_model.specs.declared.shape.Shape.{Shape}
+use Rattle.bd_model.specs.declared.layout.Phase.{Phase}
+use Rattle.bd_model.specs.declared.layout.Phase.TheVariants.{Settled}
+use Rattle.bd_model.specs.declared.answer.Answer.{Answer}
+use Rattle.bd_model.specs.declared.answer.Answer.TheVariants.{Expired, NothingRetained}
+use Rattle.bd_model.specs.declared.command.Command.TheVariants.{Expire}
+use Rattle.bd_model.specs.History.{History as Versions, oldest, retained}
+use Rattle.bd_model.specs.Sizes.{Sizes}
+use Rattle.bd_model.specs.State.{VersionState, history}
+use Rattle.bd_model.specs.Step.{Outcome, drop_oldest, expired_extents, phase_after, unchanged}
+use Rattle.bd_space.specs.Allotment.{Allotment, extent_count, TakenExactly}
+use Rattle.bd_catalog.specs.declared.step.Step.TheVariants.{Expire as Dropping}
+use Rattle.bd_catalog.specs.Agreement.{Agrees}
+use Rattle.bd_catalog.specs.Catalogue.{Catalogue, all_extents, oldest_in, retained_in}
+use Rattle.bd_catalog.specs.Opening.{Found}
+use Rattle.bd_catalog.specs.Rules.{obeys}
+use Rattle.bd_catalog.specs.Splitting.{FitsExpire, expired}
+use Rattle.bd_catalog.specs.Standing.{Stands, StandsFor}
+use Rattle.bd_catalog.specs.Steps.{after_step, HasCommitted, InOtherHalf, IsMade, IsOldOrCommitted, LeavesEither}
+use Rattle.bd_catalog.proofs.Committing.{number-small}
+use Rattle.bd_catalog.proofs.Staged.{InUnowned, either_stands, staged_commit, unowned_unnamed}
+use Rattle.bd_catalog.proofs.Standing.{stands-shows}
+use Rattle.bd_catalog.proofs.StandingAnswers.{IsAnswered}
+use Rattle.bd_catalog.proofs.StandingExpired.{expired-count, expired_answered}
+use Rattle.bd_catalog.proofs.StandingNamed.{settled_with_few}
+use Rattle.bd_volume.specs.Named.{IsBeside}
+use Rattle.bd_volume.proofs.Beside.{half_beside}
+use Rattle.bd_arrange.specs.Arranged.{IsSettledFrom}
+use Rattle.bd_store.specs.Attempts.{Beside, Meets, Scene, WritesBeside, attempt, scene_beside}
+use Rattle.bd_store.specs.Causes.{counts}
+use Rattle.bd_store.specs.Following.{EndsReady, Follows}
+use Rattle.bd_store.specs.Kept.{IsKept}
+use Rattle.bd_store.specs.Steps.{Answered, IsOneStep, LeadsTo, StandsOnEitherSide, Task, task}
+use Rattle.bd_store.specs.Stops.{IsSafeAtStops}
+use Rattle.bd_store.specs.Touches.{AnswersExpiry, ExpiryReads, arranges_first, is_waiting, waits}
+use Rattle.bd_store.specs.declared.fault.StoreFault.{StoreFault}
+use Rattle.bd_store.specs.declared.fault.StoreFault.TheVariants.{Damaged, DiskFault, OutOfMemory, SourceFault, TargetFault}
+use Rattle.bd_store.proofs.Ending.{by_end, not_both}
+use Rattle.bd_store.proofs.Refusing.{Refuses}
+
+-- an expiry that fits doesn't arrange first
+pub lean : (found : Found) → FitsExpire found.catalogue → arranges_first found ≡ false
+lean found fits =
+    ⊎_elim
+    (λ settled. and_left (is_waiting found) (retained_in found.catalogue == 2) (ap waits settled))
+    (λ three. and_right (is_waiting found) (retained_in found.catalogue == 2) (ne_eqb (retained_in found.catalogue) 2 (λ e. absurd (omega (arith, e, three))))) fits.arranged
+
+-- other than two versions may be expired at once: a single one is settled
+pub fits_but_two : (s : Sizes) (c : Catalogue) → IsTrue (obeys s c) → 1 ≤ retained_in c → (retained_in c ≡ 2 → ⊥) → FitsExpire c
+fits_but_two s c rules some two = record {
+  some = some;
+  arranged = ⊎_elim (λ few. inl (settled_with_few s c rules (omega (arith, few)))) (λ more. inr (omega (arith, more, two))) (cases_lt (retained_in c) 2);
+}
+
+-- a store that retains nothing answers that
+pub nothing_expires : (held : ℕ) (h : History) (files : FileMap) (found : Found) → Agrees found h → retained_in found.catalogue ≡ 0 → Refuses Expire held h files (NothingRetained None)
+nothing_expires held h files found agrees none shape st phase stands =
+    let versions : Versions = history shape st in
+    ap (λ t. cond t (Some (unchanged st files (NothingRetained None))) (Some (record (unchanged st files (Expired (oldest versions) (expired_extents shape.extent versions))) { state = drop_oldest st })))
+    (eq-eqb (retained versions) 0 (sym (stands-shows stands agrees.opens).numbers.retained ∙ none))
+
+-- ---- over states
+
+module _ (found : Found) (held : ℕ) (files : FileMap) (h0 h1 : History) (agrees : Agrees found h0) (fits : FitsExpire found.catalogue) where
+  abbrev after : Found
+  after = after_step found Dropping
+
+  -- an image that has what was committed stands for what the step leaves
+  answered : (shape : Shape) (st : VersionState) (phase : Phase) → StandsFor shape st phase held (contents h0) → (image : List ℕ) → HasCommitted found after (contents h0) image →
+      Answered (task shape held st files Expire) phase (Expired (oldest_in found.catalogue) (length (expired found.catalogue))) image files
+  answered shape st phase stands image made =
+      let h : Versions = history shape st in
+      let shows = stands-shows stands agrees.opens in
+      let is : IsAnswered shape held st phase files Expire (Expired (oldest h) (expired_extents shape.extent h)) image files = expired_answered shape st phase held (contents h0) image found after stands agrees.opens fits made refl refl files in
+      let same : oldest_in found.catalogue ≡ oldest h = omega (arith, shows.numbers.newest, shows.numbers.retained, fits.some) in
+      let count : length (expired found.catalogue) ≡ expired_extents shape.extent h = expired-count shape st phase held (contents h0) image found after stands agrees.opens fits made refl refl in
+      record {
+        outcome = is.outcome;
+        leads = is.leads;
+        says = (λ k. Expired (same k) (count k)) ∙ is.says;
+        stands = is.stands;
+        beside = is.keeps;
+      }
+
+  -- an image stands for a state that the step leads to
+  abbrev IsAfter : Task → List ℕ → Type 0
+  IsAfter t image = (o : Outcome) × LeadsTo t o × Stands t.shape t.held o.state image
+
+  is_after : (shape : Shape) (st : VersionState) (phase : Phase) → StandsFor shape st phase held (contents h0) → (image : List ℕ) → HasCommitted found after (contents h0) image → IsAfter (task shape held st files Expire) image
+  is_after shape st phase stands image made =
+      let a = answered shape st phase stands image made in
+      (a.outcome, a.leads, record { phase = phase_after a.outcome.state phase (Expired (oldest_in found.catalogue) (length (expired found.catalogue))); so = a.stands })
+
+  -- at every moment an image stands for the state before, or for one after
+  within : (shape : Shape) (st : VersionState) → LeavesNow (Stands shape held st) h0 → LeavesSince (IsOldOrCommitted found after h0) h0 h1 → LeavesSince (StandsOnEitherSide (task shape held st files Expire)) h0 h1
+  within shape st sure stops =
+      let now : Stands shape held st (contents h0) = sure.each (contents h0) (contents_now h0) in
+      staged_commit found (InUnowned found.sizes found.catalogue) (unowned_unnamed shape held st found) agrees (made_none _ h0) sure (IsAfter (task shape held st files Expire)) after (is_after shape st now.phase now.so) stops
+
+  -- the commit was made
+  module _ (version extents : ℕ) (is_version : version ≡ oldest_in found.catalogue) (is_extents : extents ≡ length (expired found.catalogue)) (made : IsMade found after h0 h1) (stops : LeavesSince (IsOldOrCommitted found after h0) h0 h1) where
+    pub expired_step : IsOneStep Expire held h0 h1 files files (Ok (Expired version extents))
+    expired_step = record {
+      each = λ shape st phase near stands.
+          subst (λ (a : Answer). Answered (task shape held st files Expire) phase a (contents h1) files) (λ k. Expired (sym is_version k) (sym is_extents k)) (answered shape st phase stands (contents h1) made.kept);
+    }
+
+    pub expired_stops : IsSafeAtStops Expire held h0 h1 files (Ok (Expired version extents))
+    expired_stops = record {
+      each = λ shape st near sure.
+          let now : Stands shape held st (contents h0) = sure.each (contents h0) (contents_now h0) in
+          let is = is_after shape st now.phase now.so (contents h1) made.kept in
+          record {
+            within = within shape st sure stops;
+            done = record { outcome = is.0; leads = is.1; sure = record { each = λ image last. subst (Stands shape held is.0.state) (sym (made.settled.each image last)) is.2 } };
+          };
+    }
+
+  -- the disk failed
+  module _ (either : LeavesEither found after h0 h1) where
+    pub failed_step : IsOneStep Expire held h0 h1 files files (Err DiskFault)
+    failed_step = record {
+      each = λ shape st phase near stands.
+          let t : Task = task shape held st files Expire in
+          let as_before : StandsFor shape st phase held (contents h1) → StandsOnEitherSide t (contents h1) = λ same. inl (record { phase = phase; so = same }) in
+          let as_after : IsAfter t (contents h1) → StandsOnEitherSide t (contents h1) = λ made. inr made in
+          record {
+            stands = ⊎_elim as_before as_after (either_stands phase (IsAfter t) found after (contents h0) (contents h1) agrees.opens stands (is_after shape st phase stands) either.contents);
+            beside = refl;
+          };
+    }
+
+    pub failed_stops : IsSafeAtStops Expire held h0 h1 files (Err DiskFault)
+    failed_stops = record { each = λ shape st near sure. record { within = within shape st sure either.stops; done = tt } }
+
+-- ---- all that is promised
+
+-- what its commit is answered with
+abbrev pub answer_of : ℕ → ℕ → Result (Unit {0}) Failed → Result Answer StoreFault
+answer_of version extents (Ok u) = Ok (Expired version extents)
+answer_of version extents (Err failed) = Err DiskFault
+
+-- an expiry of a store and its disk, whatever files are beside them
+module _ {D : Type 0} (d : DiskGhosts D) (beside : Beside) (found : Found) (held : ℕ) (disk0 disk1 : D) (agrees : d.tells → Agrees found (d.history disk0)) (fits : FitsExpire found.catalogue) (writes : Writes d (InOtherHalf found) disk0 disk1) (files : Type 0) where
+  abbrev h0 : History
+  h0 = d.history disk0
+
+  abbrev h1 : History
+  h1 = d.history disk1
+
+  abbrev before : Scene
+  before = scene_beside d beside (record { found = found; held = held; worn = false }) disk0
+
+  abbrev after_it : Found → Bool → Scene
+  after_it now worn = scene_beside d beside (record { found = now; held = held; worn = worn }) disk1
+
+  writes_beside : d.tells → WritesBeside found h0 h1
+  writes_beside told = record {
+    arranged = found;
+    middle = h0;
+    first = made_none _ h0;
+    between = inl (refl, refl);
+    second = writes_wider _ (half_beside found (number-small found h0 (agrees told))) (written writes told);
+  }
+
+  pub expired_meets : (version extents : ℕ) → version ≡ oldest_in found.catalogue → extents ≡ length (expired found.catalogue) → d.faults disk1 ≡ d.faults disk0 → (d.tells → IsMade found (after_step found Dropping) h0 h1) →
+      (d.tells → LeavesEither found (after_step found Dropping) h0 h1) → Meets d.tells files (attempt Expire (Ok (Expired version extents)) before (after_it (after_step found Dropping) false))
+  expired_meets version extents is_version is_extents same made either = record {
+    bytes = writes.bytes;
+    cause = record { later = record { disk = omega (arith, same); sources = omega arith; targets = omega arith }; cause = ap (λ n. counts n beside.source_faults beside.target_faults) same };
+    answer = (fits.some, is_version);
+    store = record {
+      worn = (λ no. absurd (cc no), λ no. absurd (cc no));
+      sizes = λ _. refl;
+      held = refl;
+      versions = record { catalogue = found.catalogue; base = refl; newest = refl; versions = refl; same = λ _. refl; gone = refl; freed = is_extents };
+      settles = tt;
+      figures = tt;
+    };
+    untouched = λ no. absurd no;
+    on_disk = λ told. record {
+      agrees = λ _. (made told).agrees;
+      writes = writes_beside told;
+      reads = λ _. (record { catalogue = refl; made = made told }, nothing_read writes told);
+      looks = looks_from _ {places = []} tt (nothing_read writes told);
+      damage = tt;
+      recipe = λ first. not_both first (lean found fits);
+      headers = λ first. not_both first (lean found fits);
+    };
+    on_files = λ told. record { beside = refl; strays = record { later = omega arith; missing = inl refl }; finished = tt };
+    on_both = λ told files_tell. record {
+      gives = tt;
+      step = expired_step found held beside.files h0 h1 (agrees told) fits version extents is_version is_extents (made told) (either told).stops;
+      stops = expired_stops found held beside.files h0 h1 (agrees told) fits version extents is_version is_extents (made told) (either told).stops;
+    };
+  }
+
+  pub failed_meets : (now : Found) → d.faults disk0 ≤ d.faults disk1 → Rose (d.faults disk0) (d.faults disk1) → (d.tells → LeavesEither found (after_step found Dropping) h0 h1) → Meets d.tells files (attempt Expire (Err DiskFault) before (after_it now true))
+  failed_meets now later rose either = record {
+    bytes = writes.bytes;
+    cause = record { later = record { disk = later; sources = omega arith; targets = omega arith }; cause = (rose, refl, refl) };
+    answer = fits.some;
+    store = record {
+      worn = (λ _. refl, λ _. refl);
+      sizes = λ no. absurd (cc no);
+      held = refl;
+      versions = tt;
+      settles = tt;
+      figures = tt;
+    };
+    untouched = λ no. absurd no;
+    on_disk = λ told. record {
+      agrees = λ no. absurd (cc no);
+      writes = writes_beside told;
+      reads = λ _. nothing_read writes told;
+      looks = looks_from _ {places = []} tt (nothing_read writes told);
+      damage = tt;
+      recipe = λ first. not_both first (lean found fits);
+      headers = tt;
+    };
+    on_files = λ told. record { beside = refl; strays = record { later = omega arith; missing = inl refl }; finished = tt };
+    on_both = λ told files_tell. record {
+      gives = tt;
+      step = failed_step found held beside.files h0 h1 (agrees told) fits (either told);
+      stops = failed_stops found held beside.files h0 h1 (agrees told) fits (either told);
+    };
+  }
+
+  -- what its commit promises
+  pub record IsCommitted (now : Found) (result : Result (Unit {0}) Failed) : Type 0 where
+    pub cause : HasCause (d.faults disk0) (d.faults disk1) result
+    pub either : d.tells → LeavesEither found (after_step found Dropping) h0 h1
+    pub made : OnOk result (now ≡ after_step found Dropping)
+    pub done : OnOk result (d.tells → IsMade found (after_step found Dropping) h0 h1)
+
+  pub expiry_meets : (version extents : ℕ) → version ≡ oldest_in found.catalogue → extents ≡ length (expired found.catalogue) → (now : Found) (worn : Bool) (result : Result (Unit {0}) Failed) → IsCommitted now result → worn ≡ is_err result →
+      Meets d.tells files (attempt Expire (answer_of version extents result) before (after_it now worn))
+  expiry_meets version extents is_version is_extents now worn (Ok u) is same =
+      subst (λ (f : Found). Meets d.tells files (attempt Expire (Ok (Expired version extents)) before (after_it f worn))) (sym is.made)
+      (subst (λ b. Meets d.tells files (attempt Expire (Ok (Expired version extents)) before (after_it (after_step found Dropping) b))) (sym same) (expired_meets version extents is_version is_extents is.cause.kept is.done is.either))
+  expiry_meets version extents is_version is_extents now worn (Err failed) is same =
+      subst (λ b. Meets d.tells files (attempt Expire (Err DiskFault) before (after_it now b))) (sym same) (failed_meets now is.cause.later is.cause.failed is.either)
+
+-- what it gave up is free again, and what the catalogue owns is taken
+pub kept_expired : (found now : Found) (space : Allotment) (worn : Bool) (result : Result (Unit {0}) Failed) → worn ≡ is_err result → OnOk result (now ≡ after_step found Dropping) → OnOk result (TakenExactly space (all_extents now.catalogue)) →
+    extent_count space ≡ found.sizes.extents → IsKept now space worn
+kept_expired found now space worn (Ok u) same made owners count = record { count = λ sound. count ∙ ap (λ (f : Found). f.sizes.extents) (sym made); owners = λ sound. owners }
+kept_expired found now space worn (Err failed) same made owners count = record { count = λ sound. not_both same sound; owners = λ sound. not_both same sound }
+
+-- ---- behind what made the store ready
+
+-- where it doesn't arrange, it ends in its answer or in a fault of the disk
+ends_lean : (found : Found) (result : Result Answer StoreFault) → arranges_first found ≡ false → 1 ≤ retained_in found.catalogue → AnswersExpiry found result → EndsReady result
+ends_lean found (Ok (NothingRetained asked)) rests some is = absurd (omega (arith, is.0, some))
+ends_lean found (Ok (Expired version extents)) rests some is = tt
+ends_lean found (Ok answer) rests some is = absurd is
+ends_lean found (Err SourceFault) rests some is = absurd is
+ends_lean found (Err TargetFault) rests some is = absurd is
+ends_lean found (Err DiskFault) rests some is = tt
+ends_lean found (Err OutOfMemory) rests some is = tt
+ends_lean found (Err (Damaged damage)) rests some is = not_both is rests
+
+-- a store that doesn't wait is written beside what is found
+quiet_first : (found : Found) (old new : History) → is_waiting found ≡ false → WritesBeside found old new → WritesOnly (IsBeside found) old new
+quiet_first found old new rests is = by is.between where
+  by : ((is.arranged ≡ found) × (is.middle ≡ old)) ⊎ ((is_waiting found ≡ true) × IsSettledFrom found is.arranged × Agrees is.arranged is.middle) → WritesOnly (IsBeside found) old new
+  by (inl same) = subst (λ (f : Found). WritesOnly (IsBeside f) old new) same.0 (subst (λ h. WritesOnly (IsBeside is.arranged) h new) same.1 is.second)
+  by (inr waited) = not_both waited.0 rests
+
+-- what it promises of a settled store is what it does then
+pub lean_follows : {disk files : Type 0} {result : Result Answer StoreFault} {before after : Scene} → before.store.found.catalogue.phase ≡ Settled → 1 ≤ retained_in before.store.found.catalogue →
+    Meets disk files (attempt Expire result before after) → Follows disk files (attempt Expire result before after)
+lean_follows {disk} {files} {result} {before} {after} settled some meets =
+    let found : Found = before.store.found in
+    let no : arranges_first found ≡ false = lean found (record { some = some; arranged = inl settled }) in
+    let ends : EndsReady result = ends_lean found result no some meets.answer in
+    let rests : is_waiting found ≡ false = ap waits settled in
+    record {
+      bytes = meets.bytes;
+      cause = meets.cause;
+      ends = ends;
+      answer = meets.answer;
+      store = meets.store;
+      on_disk = λ told.
+          let is = meets.on_disk told in
+          record {
+            agrees = is.agrees;
+            writes = quiet_first found before.disk after.disk rests is.writes;
+            reads = by_end (λ e. ExpiryReads found after.store.found before.disk after.disk e → ReadsOnly [] before.disk after.disk) (record {
+              named = λ version bytes chunks fresh need read. (read no).1;
+              full = λ counted free held read. (read no).1;
+              expired = λ version extents read. (read no).1;
+              arranged = λ owned free read. (read no).1;
+              source = λ read. read no;
+              disk = λ read. read no;
+              memory = λ read. read no;
+            }) result ends is.reads;
+          };
+      on_files = meets.on_files;
+      on_both = λ told files_tell. record { step = (meets.on_both told files_tell).step; stops = (meets.on_both told files_tell).stops };
+    }
