@@ -3,11 +3,13 @@ use Rattle.std.proofs.Common.{◌≡◌, ◌∙◌, ℕ, inl, refl, sym, ap, sub
 use Rattle.bd_disk.specs.History.{History, contents}
 use Rattle.bd_disk.proofs.Frames.{leaves_same, leaves_wider}
 use Rattle.bd_model.specs.FileMap.{FileMap}
+use Rattle.bd_model.specs.Roomy.{Roomy}
 use Rattle.bd_model.specs.State.{VersionState, history}
 use Rattle.bd_model.specs.Step.{Outcome, unchanged, version_lines, without_room}
 use Rattle.bd_model.specs.declared.shape.Shape.{Shape}
 use Rattle.bd_model.specs.declared.answer.Answer.{Answer}
 use Rattle.bd_model.specs.declared.answer.Answer.TheVariants.{Listed}
+use Rattle.bd_model.specs.declared.answer.VersionLine.{VersionLine}
 use Rattle.bd_model.specs.declared.command.Command.TheVariants.{List as Listing}
 use Rattle.bd_model.proofs.StepLemmas.{phase-listed}
 use Rattle.bd_catalog.specs.Agreement.{Agrees}
@@ -40,3 +42,8 @@ listed_stops held h files answer = record {
     done = record { outcome = outcome_of shape st files; leads = refl; sure = sure };
   };
 }
+
+-- what holds of a list holds of an answer that is one
+pub as_list : {lines : Roomy VersionLine} (P : Answer → Type 0) (answer : Answer) → without_room answer ≡ Listed lines → ((l : Roomy VersionLine) → P (Listed l)) → P answer
+as_list P (Listed l) says each = each l
+as_list P _ says each = absurd (cc says)

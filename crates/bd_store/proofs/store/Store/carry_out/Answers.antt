@@ -1,20 +1,37 @@
-use Rattle.std.proofs.Common.{⊎_elim, refl, sym, subst, Ok, Err}
+use Rattle.std.proofs.Common.{refl, sym, subst, Ok, Err}
+use Rattle.bd_model.specs.declared.answer.Answer.{Answer}
 use Rattle.bd_model.specs.declared.command.Command.{Command}
-use Rattle.bd_model.specs.declared.command.Command.TheVariants.{Expire, Reorganise, Scrub}
-use Rattle.bd_store.specs.Attempts.{attempt, scene, Meets}
-use Rattle.bd_store.specs.declared.fault.StoreFault.TheVariants.{OutOfMemory, Unbuilt}
-use Rattle.bd_store.proofs.Listed.{listed_step, listed_stops}
-use Rattle.bd_store.proofs.Meeting.{meets_untouched, memory_step, unbuilt_step}
+use Rattle.bd_model.specs.declared.command.Command.TheVariants.{List as Listing}
+use Rattle.bd_store.specs.Attempts.{attempt, beside_of, scene, HeadersByAnswer, KeepsVersions, Meets, SettlesBy, TellsFigures}
+use Rattle.bd_store.specs.Shown.{Shown}
+use Rattle.bd_store.specs.declared.fault.StoreFault.TheVariants.{OutOfMemory}
+use Rattle.bd_store.proofs.Listed.{as_list, listed_step, listed_stops}
+use Rattle.bd_store.proofs.Meeting.{meets_told, meets_untouched, memory_step, same_versions}
 use Rattle.bd_store.proofs.Quiet.{safe_untouched}
 use Rattle.bd_store.proofs.store.Store.carry_out.Goals as goal
 
 pub returns-in-Ok : goal.returns-in-Ok
 returns-in-Ok g c =
     let here = scene g.D.Disk g.F.Files c.args.self.now c.args.disk.now c.args.files.now in
+    let answer : Answer = c.in-Ok.answer in
+    let store : Shown = c.args.self.now in
     record {
-      meets = subst (λ (command : Command). Meets g.D.Disk.tells g.F.Files.tells (attempt command (Ok c.in-Ok.answer) here here)) (sym c.in-List.is)
-          (meets_untouched _ _ _ c.requires.sound c.requires.agrees
-          (record { cause = refl; has_disk = tt; answer = c.in-Ok.ensures.lines; reads = refl; damage = tt; recipe = tt; finished = tt; gives = tt })
+      meets = subst (λ (command : Command). Meets g.D.Disk.tells g.F.Files.tells (attempt command (Ok answer) here here)) (sym c.in-List.is)
+          (meets_untouched Listing (Ok answer) here c.requires.sound c.requires.agrees
+          (record {
+            cause = refl;
+            has_disk = tt;
+            answer = c.in-Ok.ensures.lines;
+            versions = as_list (λ a. KeepsVersions store store (Ok a)) answer c.in-Ok.ensures.lines (λ l. same_versions store);
+            settles = as_list (λ a. SettlesBy store (Ok a)) answer c.in-Ok.ensures.lines (λ l. tt);
+            figures = as_list (λ a. TellsFigures store (Ok a)) answer c.in-Ok.ensures.lines (λ l. tt);
+            reads = refl;
+            damage = tt;
+            recipe = tt;
+            headers = as_list (λ a. HeadersByAnswer (attempt Listing (Ok answer) here here) (Ok a)) answer c.in-Ok.ensures.lines (λ l. tt);
+            finished = tt;
+            gives = tt;
+          })
           (λ told files_tell. listed_step _ _ _ _ _ (c.requires.agrees told) c.in-Ok.ensures.lines)
           (λ told files_tell. listed_stops _ _ _ _));
     }
@@ -25,25 +42,19 @@ returns-in-Err g c =
     record {
       meets = subst (λ (command : Command). Meets g.D.Disk.tells g.F.Files.tells (attempt command (Err OutOfMemory) here here)) (sym c.in-List.is)
           (meets_untouched _ _ _ c.requires.sound c.requires.agrees
-          (record { cause = refl; has_disk = tt; answer = refl; reads = refl; damage = tt; recipe = tt; finished = tt; gives = tt })
+          (record { cause = refl; has_disk = tt; answer = refl; versions = same_versions c.args.self.now; settles = tt; figures = tt; reads = refl; damage = tt; recipe = tt; headers = tt; finished = tt; gives = tt })
           (λ told files_tell. memory_step _ _ _ _)
           (λ told files_tell. safe_untouched _ _ _ _ _));
     }
 
 pub returns-in-Expire : goal.returns-in-Expire
-returns-in-Expire g c =
-    let here = scene g.D.Disk g.F.Files c.args.self.now c.args.disk.now c.args.files.now in
-    let MeetsAs : Command → Type 0 = λ command. Meets g.D.Disk.tells g.F.Files.tells (attempt command (Err Unbuilt) here here) in
-    let expire : MeetsAs Expire = meets_untouched _ _ _ c.requires.sound c.requires.agrees
-    (record { cause = refl; has_disk = tt; answer = refl; reads = refl; damage = tt; recipe = tt; finished = tt; gives = tt })
-    (λ told files_tell. unbuilt_step _ _ _ _) (λ told files_tell. safe_untouched _ _ _ _ _) in
-    let reorganise : MeetsAs Reorganise = meets_untouched _ _ _ c.requires.sound c.requires.agrees
-    (record { cause = refl; has_disk = tt; answer = refl; reads = refl; damage = tt; recipe = tt; finished = tt; gives = tt })
-    (λ told files_tell. unbuilt_step _ _ _ _) (λ told files_tell. safe_untouched _ _ _ _ _) in
-    let scrub : MeetsAs Scrub = meets_untouched _ _ _ c.requires.sound c.requires.agrees
-    (record { cause = refl; has_disk = tt; answer = refl; reads = refl; damage = tt; recipe = tt; finished = tt; gives = tt })
-    (λ told files_tell. unbuilt_step _ _ _ _) (λ told files_tell. safe_untouched _ _ _ _ _) in
-    record {
-      meets = ⊎_elim (λ is. subst MeetsAs (sym is) expire)
-          (⊎_elim (λ is. subst MeetsAs (sym is) reorganise) (λ is. subst MeetsAs (sym is) scrub)) c.in-Expire.is;
-    }
+returns-in-Expire g c = record {
+  meets = subst (λ (command : Command). Meets g.D.Disk.tells g.F.Files.tells (attempt command c.expire.result (scene g.D.Disk g.F.Files c.args.self.now c.args.disk.now c.args.files.now) (scene g.D.Disk g.F.Files c.expire.new.self c.expire.new.disk c.args.files.now)))
+      (sym c.in-Expire.is) (meets_told g.F.Files.tells (c.expire.ensures.meets (beside_of g.F.Files c.args.files.now)));
+}
+
+pub returns-in-Reorganise : goal.returns-in-Reorganise
+returns-in-Reorganise g c = record {
+  meets = subst (λ (command : Command). Meets g.D.Disk.tells g.F.Files.tells (attempt command c.reorganise.result (scene g.D.Disk g.F.Files c.args.self.now c.args.disk.now c.args.files.now) (scene g.D.Disk g.F.Files c.reorganise.new.self c.reorganise.new.disk c.args.files.now)))
+      (sym c.in-Reorganise.is) (meets_told g.F.Files.tells (c.reorganise.ensures.meets (beside_of g.F.Files c.args.files.now)));
+}
