@@ -4,7 +4,6 @@ use Rattle.bd_disk.specs.History.{History}
 use Rattle.bd_disk.proofs.Frames.{made_none}
 use Rattle.bd_model.specs.FileMap.{FileMap}
 use Rattle.bd_model.specs.declared.answer.Answer.{Answer}
-use Rattle.bd_model.specs.declared.answer.Answer.TheVariants.{BackedUp, Restored, Expired, Arranged, Scrubbed, Listed, FullNumbers, FullVersions, FullExtents, NoVersion, NothingRetained, Formatted, Blanked, Soaked}
 use Rattle.bd_model.specs.declared.command.Command.{Command}
 use Rattle.bd_model.specs.declared.command.Command.TheVariants.{Backup, Restore, Expire, Reorganise, Scrub, List as Listing}
 use Rattle.bd_catalog.specs.Agreement.{Agrees}
@@ -15,7 +14,7 @@ use Rattle.bd_store.specs.Shown.{Shown, SameVersions}
 use Rattle.bd_store.specs.Steps.{IsOneStep, KeepsFiles}
 use Rattle.bd_store.specs.Stops.{IsSafeAtStops}
 use Rattle.bd_store.specs.declared.fault.StoreFault.{StoreFault}
-use Rattle.bd_store.specs.declared.fault.StoreFault.TheVariants.{SourceFault, TargetFault, DiskFault, Damaged, OutOfMemory}
+use Rattle.bd_store.specs.declared.fault.StoreFault.TheVariants.{DiskFault, OutOfMemory}
 
 -- the same store has the same versions
 pub same_versions : (s : Shown) → SameVersions s s

@@ -1,6 +1,6 @@
 -- A backup into a settled store, whatever it retains, over any state for which its contents stand: one step, and safe at every
 -- stop.
-use Rattle.std.proofs.Common.{◌≡◌, inl, inr, ⊎_elim, ℕ, ◌+◌, ◌<◌, ◌≤◌, false, ◌||◌, cond, List, [], ◌++◌, length, refl, sym, ◌∙◌, ap, subst, arith, map as each_of, append-nil, Option, Some, None, Result, Ok, Err}
+use Rattle.std.proofs.Common.{◌≡◌, inl, inr, ⊎_elim, ℕ, ◌+◌, ◌<◌, ◌≤◌, false, ◌||◌, List, [], ◌++◌, length, refl, sym, ◌∙◌, ap, subst, arith, map as each_of, Some, None, Result, Ok, Err}
 use Rattle.std.proofs.lemmas.Bool.{cases_lt, ne_eqb}
 use Rattle.std.specs.FinMap as map
 use Rattle.std.proofs.lemmas.Simd.{map-map}
@@ -23,7 +23,7 @@ use Rattle.bd_model.specs.Recipe.{recipe, entry_of}
 use Rattle.bd_model.specs.Records.{records_of, spelled_recipe}
 use Rattle.bd_model.specs.Room.{counted, counted_of, fresh, need, need_of}
 use Rattle.bd_model.specs.Sizes.{sizes_of}
-use Rattle.bd_model.specs.State.{Version, VersionState, cut_of, history, last_number}
+use Rattle.bd_model.specs.State.{VersionState, cut_of, history, last_number}
 use Rattle.bd_model.specs.Step.{Outcome, free_extents, phase_after, unchanged}
 use Rattle.bd_model.proofs.FromRecipesLemmas.{recipes_give_the_counts}
 use Rattle.bd_model.proofs.GrownLemmas.{recipes_stay}
@@ -54,7 +54,7 @@ use Rattle.bd_intake.specs.Firsts.{cut_in, new_by_mark}
 use Rattle.bd_intake.specs.Places.{InFree}
 use Rattle.bd_store.specs.Naming.{refusal_of}
 use Rattle.bd_store.specs.Newest.{IsNewestRecipe}
-use Rattle.bd_store.specs.Steps.{Task, task, is_full, versions_with, IsNear, Answered, LeadsTo, MakesStep, KeptOrMade, StandsOnEitherSide}
+use Rattle.bd_store.specs.Steps.{Task, task, is_full, IsNear, Answered, LeadsTo, MakesStep, KeptOrMade, StandsOnEitherSide}
 use Rattle.bd_store.proofs.Nearing.{near_before, near_grown}
 use Rattle.bd_store.specs.Stops.{IsSureOf, IsSureAfter, IsSureBy, StopsOnEitherSide}
 

@@ -1,23 +1,20 @@
 -- A backup over any state for which the contents stand: each of its ends is one step, and safe at every stop.
-use Rattle.std.proofs.Common.{◌≡◌, ◌∙◌, ℕ, ◌+◌, ◌<◌, ◌≤◌, inl, List, ◌++◌, refl, sym, subst, ap, arith, Result, Ok, Err}
+use Rattle.std.proofs.Common.{◌≡◌, ℕ, ◌+◌, ◌<◌, List, ◌++◌, refl, sym, subst, Result, Ok, Err}
 use Rattle.bd_disk.specs.History.{History, contents}
-use Rattle.bd_disk.specs.Made.{IsSettled, LeavesSince, WritesNothing, WritesOnly}
-use Rattle.bd_disk.proofs.Frames.{contents_now, unchanged}
+use Rattle.bd_disk.specs.Made.{IsSettled, LeavesSince, WritesOnly}
+use Rattle.bd_disk.proofs.Frames.{contents_now}
 use Rattle.bd_model.specs.FileMap.{FileMap}
 use Rattle.bd_model.specs.declared.answer.Answer.{Answer}
 use Rattle.bd_model.specs.declared.answer.Answer.TheVariants.{BackedUp}
 use Rattle.bd_model.specs.declared.command.Command.TheVariants.{Backup}
-use Rattle.bd_model.specs.declared.damage.Damage.{Damage}
-use Rattle.bd_model.specs.declared.layout.Phase.{Phase}
 use Rattle.bd_model.specs.declared.layout.Phase.TheVariants.{Settled}
 use Rattle.bd_model.specs.declared.layout.RecipeEntry.{RecipeEntry}
-use Rattle.bd_model.specs.declared.shape.Shape.{Shape}
 use Rattle.bd_model.specs.Chunks.{chunks}
-use Rattle.bd_model.specs.History.{History as Versions, newest, retained, version}
+use Rattle.bd_model.specs.History.{History as Versions, newest, version}
 use Rattle.bd_model.specs.Marks.{Distinct}
 use Rattle.bd_model.specs.Recipe.{recipe}
 use Rattle.bd_model.specs.Room.{fresh}
-use Rattle.bd_model.specs.State.{VersionState, history, last_number}
+use Rattle.bd_model.specs.State.{last_number}
 use Rattle.bd_space.specs.Allotment.{Allotment, extent_count, free_count, held_count, TakenExactly}
 use Rattle.bd_files.specs.Files.{Holds, Lacks}
 use Rattle.bd_catalog.specs.Agreement.{Agrees}
@@ -25,22 +22,17 @@ use Rattle.bd_catalog.specs.Catalogue.{all_extents, retained_in}
 use Rattle.bd_catalog.specs.Growing.{after_backup}
 use Rattle.bd_catalog.specs.Opening.{Found}
 use Rattle.bd_catalog.specs.Shown.{version_entry}
-use Rattle.bd_catalog.specs.Standing.{StandsFor, Stands}
+use Rattle.bd_catalog.specs.Standing.{Stands}
 use Rattle.bd_catalog.specs.Steps.{committed, fresh_entries, HasCommitted, IsKeptOrCommitted, IsOldOrCommitted}
-use Rattle.bd_catalog.proofs.Standing.{stands-shows}
-use Rattle.bd_recipe.specs.Reading.{recipe_found}
-use Rattle.bd_recipe.specs.declared.fault.ReadFault.{ReadFault}
-use Rattle.bd_recipe.specs.declared.fault.ReadFault.TheVariants.{DiskFault as ReadDisk, Damaged as ReadDamaged, OutOfMemory as ReadMemory}
-use Rattle.bd_restore.proofs.Standing.{recipe_stands}
 use Rattle.bd_intake.specs.declared.staged.Staged.{Staged}
 use Rattle.bd_intake.specs.declared.fault.IntakeFault.{IntakeFault}
 use Rattle.bd_intake.specs.Answers.{AnswersIntake, HoldsVersion}
 use Rattle.bd_intake.specs.Causes.{MissesSource}
 use Rattle.bd_intake.specs.Firsts.{cut_in, new_by_mark}
 use Rattle.bd_intake.specs.Places.{InFree}
-use Rattle.bd_store.specs.Naming.{fault_of_reading, refusal_of}
-use Rattle.bd_store.specs.Newest.{AnswersNewest, IsNewestRecipe}
-use Rattle.bd_store.specs.Steps.{task, Answered, IsNear, MakesStep, IsOneStep}
+use Rattle.bd_store.specs.Naming.{refusal_of}
+use Rattle.bd_store.specs.Newest.{IsNewestRecipe}
+use Rattle.bd_store.specs.Steps.{task, Answered, MakesStep, IsOneStep}
 use Rattle.bd_store.specs.Stops.{IsSafeAtStops}
 use Rattle.bd_store.specs.declared.fault.StoreFault.TheVariants.{DiskFault}
 use Rattle.bd_store.proofs.OneBackup.{refused_makes, refused_stops, commit_makes, commit_fails, all_stops, committed_sure}

@@ -1,15 +1,13 @@
 -- A call that wrote nothing on the disk, and failed, is safe at every stop.
-use Rattle.std.proofs.Common.{ℕ, inl, sym, subst, Result, Ok, Err}
+use Rattle.std.proofs.Common.{ℕ, inl, Err}
 use Rattle.bd_disk.specs.History.{History}
 use Rattle.bd_disk.specs.Made.{WritesNothing}
-use Rattle.bd_disk.proofs.Frames.{leaves_both, leaves_quiet, leaves_wider, made_none, still_now, unchanged}
+use Rattle.bd_disk.proofs.Frames.{leaves_quiet, leaves_wider, made_none}
 use Rattle.bd_model.specs.FileMap.{FileMap}
 use Rattle.bd_model.specs.declared.command.Command.{Command}
 use Rattle.bd_store.specs.declared.fault.StoreFault.{StoreFault}
 use Rattle.bd_store.specs.declared.fault.StoreFault.TheVariants.{SourceFault, TargetFault, DiskFault, Damaged, OutOfMemory}
-use Rattle.bd_catalog.specs.Standing.{StandsFor}
-use Rattle.bd_model.specs.declared.answer.Answer.{Answer}
-use Rattle.bd_store.specs.Steps.{Task, task, IsOneStep}
+use Rattle.bd_store.specs.Steps.{Task, task}
 use Rattle.bd_store.specs.Stops.{IsSafeAtStops, IsSureOf, IsSureBy}
 
 sure_quiet : (t : Task) {h0 h1 : History} (fault : StoreFault) → WritesNothing h0 h1 → IsSureOf t h0 → IsSureBy t h0 h1 (Err fault)

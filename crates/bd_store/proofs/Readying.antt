@@ -1,6 +1,6 @@
 -- A store is made ready, at each of the ends of that: the newest recipe couldn't be read, the store was arranged, or not.
-use Rattle.std.proofs.Common.{◌≡◌, ◌∙◌, ◌↔◌, ◌≤◌, ℕ, ◌+◌, ◌-◌, ◌&&◌, Bool, true, false, List, [], length, nat_le, nat_lt, slice_index_or, inl, inr, refl, sym, ap, subst, arith, Result, Ok, Err}
-use Rattle.std.proofs.lemmas.Bool.{and_parts, false_from_ne_true, leb-true}
+use Rattle.std.proofs.Common.{◌≡◌, ◌∙◌, ◌≤◌, ℕ, ◌+◌, ◌-◌, ◌&&◌, List, [], length, nat_le, nat_lt, slice_index_or, inl, inr, refl, sym, ap, subst, arith, Result, Ok, Err}
+use Rattle.std.proofs.lemmas.Bool.{and_parts, leb-true}
 use Rattle.std.specs.Prelude.{map, All, IsTrue}
 use Rattle.bd_disk.specs.History.{History, contents}
 use Rattle.bd_disk.specs.Made.{WritesNothing}
@@ -30,9 +30,6 @@ use Rattle.bd_catalog.specs.Standing.{StandsFor}
 use Rattle.bd_catalog.proofs.Standing.{stands-shows}
 use Rattle.bd_catalog.proofs.StandingFound.{obeys-each}
 use Rattle.bd_intake.specs.Given.{IsRecipeOrNone}
-use Rattle.bd_space.specs.Allotment.{Allotment}
-use Rattle.bd_store.specs.Kept.{IsKept}
-use Rattle.bd_store.proofs.Ending.{not_both}
 use Rattle.bd_recipe.specs.Marked.{Marked}
 use Rattle.bd_recipe.specs.Reading.{IfDamaged, InRecipe, recipe_found}
 use Rattle.bd_recipe.specs.declared.fault.ReadFault.{ReadFault}
@@ -40,11 +37,10 @@ use Rattle.bd_recipe.specs.declared.fault.ReadFault.TheVariants.{DiskFault, Dama
 use Rattle.bd_restore.proofs.Standing.{recipe_stands}
 use Rattle.bd_volume.specs.Named.{IsBeside}
 use Rattle.bd_volume.proofs.Copying.{wider_work}
-use Rattle.bd_arrange.specs.Arranged.{AnswersDue, Arranges, ButDiskFault, HasGoodDue, InDue, IsAllotted, IsDamageOfDue, IsSettledFrom, KeepsStates, LeavesFound}
+use Rattle.bd_arrange.specs.Arranged.{AnswersDue, Arranges, ButDiskFault, HasGoodDue, InDue, IsDamageOfDue, IsSettledFrom, KeepsStates}
 use Rattle.bd_arrange.specs.Turns.{due}
 use Rattle.bd_store.specs.Newest.{newest_places, AnswersNewest, IsNewestRecipe}
-use Rattle.bd_store.specs.Readying.{AnswersReady, IsThatDamage, Readies, ReadiesOn}
-use Rattle.bd_store.specs.Shown.{Shown}
+use Rattle.bd_store.specs.Readying.{AnswersReady, IsThatDamage, ReadiesOn}
 use Rattle.bd_store.specs.Touches.{InArranging}
 use Rattle.bd_store.proofs.Giving.{agrees_quiet}
 use Rattle.bd_store.proofs.Staying.{newest_stays}

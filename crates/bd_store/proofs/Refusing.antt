@@ -1,6 +1,5 @@
 -- An answer that touches nothing is its step, and safe at every stop.
-use Rattle.std.proofs.Common.{◌≡◌, ℕ, ◌<◌, ◌≤◌, List, inl, refl, sym, ◌∙◌, ap, subst, arith, ◌&&◌, ◌||◌, true, false, nat_lt, Some, Ok}
-use Rattle.std.specs.Prelude.{not}
+use Rattle.std.proofs.Common.{◌≡◌, ℕ, ◌<◌, List, inl, refl, sym, ◌∙◌, ap, subst, arith, false, Some, Ok}
 use Rattle.std.proofs.lemmas.Bool.{ne_eqb, or_from}
 use Rattle.bd_disk.specs.History.{History, contents}
 use Rattle.bd_disk.proofs.Frames.{contents_now, leaves_same, leaves_wider}

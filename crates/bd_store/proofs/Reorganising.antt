@@ -2,11 +2,10 @@
 use Rattle.std.proofs.Common.{◌≡◌, ◌∙◌, ℕ, false, List, [], ◌∷◌, inl, refl, sym, ap, subst, arith, Some, Ok}
 use Rattle.std.specs.Prelude.{filter, map}
 use Rattle.bd_disk.specs.History.{History, contents}
-use Rattle.bd_disk.proofs.Frames.{contents_now, leaves_same, leaves_wider, made_none}
+use Rattle.bd_disk.proofs.Frames.{made_none}
 use Rattle.bd_disk.proofs.Traces.{reads_none}
 use Rattle.bd_model.specs.FileMap.{FileMap}
 use Rattle.bd_model.specs.Room.{owned}
-use Rattle.bd_model.specs.Sizes.{Sizes}
 use Rattle.bd_model.specs.State.{VersionState, history}
 use Rattle.bd_model.specs.Step.{free_extents, unchanged}
 use Rattle.bd_model.specs.declared.answer.Answer.{Answer}
@@ -16,10 +15,10 @@ use Rattle.bd_model.specs.declared.layout.Phase.{Phase}
 use Rattle.bd_model.specs.declared.layout.Phase.TheVariants.{Settled}
 use Rattle.bd_model.specs.declared.shape.Shape.{Shape}
 use Rattle.bd_catalog.specs.Agreement.{Agrees}
-use Rattle.bd_catalog.specs.Catalogue.{Catalogue, OpenEntry}
+use Rattle.bd_catalog.specs.Catalogue.{OpenEntry}
 use Rattle.bd_catalog.specs.Opening.{Found}
 use Rattle.bd_catalog.specs.Rows.{open_row}
-use Rattle.bd_catalog.specs.Standing.{Stands, StandsFor}
+use Rattle.bd_catalog.specs.Standing.{StandsFor}
 use Rattle.bd_catalog.proofs.Standing.{stands-shows}
 use Rattle.bd_volume.specs.Headers.{HasGoodHeaders}
 use Rattle.bd_arrange.specs.Arranged.{HasGoodDue}
@@ -27,7 +26,7 @@ use Rattle.bd_arrange.specs.Turns.{due, is_due}
 use Rattle.bd_store.specs.Attempts.{Meets, Scene, attempt}
 use Rattle.bd_store.specs.Following.{Follows}
 use Rattle.bd_store.specs.Shown.{AreFiguresOf, HasFigures, Shown}
-use Rattle.bd_store.specs.Steps.{task, IsOneStep, LeadsTo}
+use Rattle.bd_store.specs.Steps.{IsOneStep}
 use Rattle.bd_store.specs.Stops.{IsSafeAtStops}
 use Rattle.bd_store.specs.declared.figures.Figures.{Figures}
 use Rattle.bd_store.proofs.Ending.{not_both, rests_not}

@@ -1,5 +1,5 @@
 -- The newest recipe stays where nothing that is named is written, and the same versions are named.
-use Rattle.std.proofs.Common.{◌≡◌, ◌∙◌, ℕ, zero, suc, ◌+◌, ◌-◌, ◌*◌, ◌<◌, ◌≤◌, List, [], ◌∷◌, ◌++◌, length, take, refl, sym, ap, subst, arith, get_or, Result}
+use Rattle.std.proofs.Common.{◌≡◌, ◌∙◌, ℕ, ◌-◌, ◌*◌, ◌<◌, ◌≤◌, List, [], ◌++◌, length, take, sym, ap, subst, arith, get_or, Result}
 use Rattle.std.specs.Prelude.{map, Contains}
 use Rattle.std.proofs.lemmas.List.{get_or-map, length-map, length-take-le}
 use Rattle.std.proofs.lemmas.List.Elements.{All-contains, Contains-append_left}
@@ -9,7 +9,7 @@ use Rattle.bd_disk.specs.Made.{WritesOnly}
 use Rattle.bd_disk.proofs.Agreeing.{agree_fewer}
 use Rattle.bd_disk.proofs.Frames.{same_contents}
 use Rattle.bd_model.specs.Extents.{owner_bytes}
-use Rattle.bd_model.specs.Sizes.{Sizes, disk_bytes}
+use Rattle.bd_model.specs.Sizes.{Sizes}
 use Rattle.bd_model.specs.Records.{entries_in}
 use Rattle.bd_model.specs.declared.damage.Damage.{Damage}
 use Rattle.bd_model.specs.declared.layout.Phase.TheVariants.{Settled}
@@ -19,7 +19,7 @@ use Rattle.bd_catalog.specs.Catalogue.{Catalogue, VersionEntry, oldest_in, recip
 use Rattle.bd_catalog.specs.Opening.{Found}
 use Rattle.bd_catalog.specs.Sound.{entry_holds, recipe_of}
 use Rattle.bd_catalog.specs.Standing.{BeginWith}
-use Rattle.bd_catalog.proofs.StandingFound.{IsFound, obeys-each, opened-found}
+use Rattle.bd_catalog.proofs.StandingFound.{IsFound, opened-found}
 use Rattle.bd_extio.specs.Ranges.{InOwner}
 use Rattle.bd_extio.proofs.Places.{length-owner_bytes}
 use Rattle.bd_recipe.specs.Entries.{first_bad}

@@ -1,6 +1,6 @@
 -- What a backup takes into a store that is ready follows as promised, at each of its ends: the source wasn't taken in, the
 -- version was named, or its commit failed.
-use Rattle.std.proofs.Common.{◌≡◌, ◌∙◌, ◌↔◌, ◌≤◌, ◌<◌, ◌+◌, ◌++◌, ℕ, Bool, true, false, List, [], ◌∷◌, length, cond, eqb, inl, inr, ⊎_elim, refl, sym, ap, subst, arith, Ok, Err, OnOk, Result}
+use Rattle.std.proofs.Common.{◌≡◌, ◌∙◌, ◌↔◌, ◌≤◌, ◌<◌, ◌+◌, ◌++◌, ℕ, Bool, true, false, List, [], ◌∷◌, cond, eqb, inl, inr, ⊎_elim, refl, sym, ap, subst, arith, Ok, Err, OnOk, Result}
 use Rattle.std.specs.Result.{is_err}
 use Rattle.bd_disk.specs.Calls.{HasCause, Rose}
 use Rattle.bd_disk.specs.History.{History, contents}
@@ -19,7 +19,6 @@ use Rattle.bd_model.specs.Recipe.{recipe}
 use Rattle.bd_model.specs.Room.{fresh}
 use Rattle.bd_model.specs.State.{last_number}
 use Rattle.bd_model.specs.declared.answer.Answer.{Answer}
-use Rattle.bd_model.specs.declared.answer.Answer.TheVariants.{BackedUp}
 use Rattle.bd_model.specs.declared.command.Command.TheVariants.{Backup}
 use Rattle.bd_model.specs.declared.layout.Phase.TheVariants.{Settled, Waiting}
 use Rattle.bd_model.specs.declared.layout.RecipeEntry.{RecipeEntry}
@@ -34,12 +33,12 @@ use Rattle.bd_catalog.specs.Shown.{version_entry}
 use Rattle.bd_catalog.specs.Steps.{committed, fresh_entries, InOtherHalf, IsMade, LeavesEither}
 use Rattle.bd_catalog.proofs.Committing.{number-small}
 use Rattle.bd_catalog.proofs.Staged.{agrees_staged}
-use Rattle.bd_catalog.proofs.StandingFound.{IsFound, opened-found}
+use Rattle.bd_catalog.proofs.StandingFound.{opened-found}
 use Rattle.bd_intake.specs.declared.staged.Staged.{Staged}
 use Rattle.bd_intake.specs.declared.fault.IntakeFault.{IntakeFault}
 use Rattle.bd_intake.specs.declared.fault.IntakeFault.TheVariants.{Full, SourceFault as SourceFailed, DiskFault as DiskFailed, OutOfMemory as MemoryFailed}
 use Rattle.bd_intake.specs.Answers.{CountsSource, StoresSource}
-use Rattle.bd_intake.specs.Causes.{FailsByCount, MissesSource}
+use Rattle.bd_intake.specs.Causes.{FailsByCount}
 use Rattle.bd_intake.specs.Filling.{CountsMissing, LeavesFiles}
 use Rattle.bd_intake.specs.Firsts.{new_by_mark}
 use Rattle.bd_intake.specs.Places.{InFree}

@@ -18,7 +18,9 @@ ghost use Rattle.bd_store.specs.Newest.{IsNewestRecipe};
 ghost use Rattle.bd_store.specs.Readying.{Readies, ReadiesOn};
 ghost use Rattle.bd_store.specs.Touches.{InArranging};
 
-use crate::fault::{StoreFault, fault_of_reading, is_disk_fault, is_read_fault, refusal_of, with_room};
+use crate::fault::{
+    StoreFault, fault_of_reading, is_disk_fault, is_read_fault, refusal_of, with_room,
+};
 use crate::figures::Figures;
 use crate::naming::name_version;
 use crate::newest::newest_recipe;

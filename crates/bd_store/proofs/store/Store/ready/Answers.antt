@@ -1,4 +1,4 @@
-use Rattle.std.proofs.Common.{◌≡◌, ◌≤◌, sym, ap, subst, arith, Ok, Err}
+use Rattle.std.proofs.Common.{sym, ap, subst, arith, Ok, Err}
 use Rattle.bd_disk.specs.Runs.{Works}
 use Rattle.bd_disk.proofs.RunLemmas.{both_work}
 use Rattle.bd_model.specs.Sizes.{Sizes}
