@@ -1,5 +1,5 @@
 -- What arranging leaves of the states for which the contents stood.
-use Rattle.std.proofs.Common.{◌≡◌, ◌≢◌, ◌⊎◌, inl, inr, ⊎_elim, ℕ, zero, suc, ◌+◌, ◌-◌, ◌<◌, ◌≤◌, false, List, [], ◌∷◌, ◌++◌, length, take, map, filter, flat_map, refl, sym, ◌∙◌, ap, subst, arith}
+use Rattle.std.proofs.Common.{◌≡◌, ◌≢◌, ⊎_elim, ℕ, zero, suc, ◌+◌, ◌-◌, List, [], ◌∷◌, length, take, map, filter, flat_map, refl, sym, ◌∙◌, ap, subst, arith}
 use Rattle.std.specs.Prelude.{All, Contains, IsTrue, OnErr, OnOk, Result, Ok, Err}
 use Rattle.std.proofs.lemmas.List.Elements.{All-contains_itself, All-weaker}
 use Rattle.bd_disk.specs.History.{History, contents}
@@ -9,7 +9,7 @@ use Rattle.bd_disk.proofs.Agreeing.{agree_fewer, agree_trans}
 use Rattle.bd_disk.proofs.Frames.{contents_now, leaves_same, leaves_wider, same_contents, writes_wider}
 use Rattle.bd_model.specs.Extents.{owner_bytes}
 use Rattle.bd_model.specs.Marks.{Near}
-use Rattle.bd_model.specs.Sizes.{Sizes, sizes_of}
+use Rattle.bd_model.specs.Sizes.{Sizes}
 use Rattle.bd_model.specs.State.{VersionState, history}
 use Rattle.bd_model.specs.declared.damage.Damage.{Damage}
 use Rattle.bd_model.specs.declared.layout.Phase.{Phase}
@@ -17,19 +17,18 @@ use Rattle.bd_model.specs.declared.layout.Phase.TheVariants.{Settled}
 use Rattle.bd_model.specs.declared.layout.RecipeEntry.{RecipeEntry}
 use Rattle.bd_model.specs.declared.shape.Shape.{Shape}
 use Rattle.bd_model.proofs.ListLemmas.{filter-none}
-use Rattle.bd_gate.specs.Halves.{InHalves}
 use Rattle.bd_gate.proofs.Kept.{within_halves}
-use Rattle.bd_space.specs.Allotment.{Allotment, extent_count, free_count, held_count}
+use Rattle.bd_space.specs.Allotment.{Allotment, free_count, held_count}
 use Rattle.bd_space.proofs.Exact.{taken_count-exact}
 use Rattle.bd_space.proofs.Uses.{counts-all}
 use Rattle.bd_catalog.specs.Agreement.{Agrees, InExtents}
 use Rattle.bd_catalog.specs.Catalogue.{Catalogue, OpenEntry, all_extents, bytes_of_rows}
-use Rattle.bd_catalog.specs.Opening.{Found, opened}
+use Rattle.bd_catalog.specs.Opening.{Found}
 use Rattle.bd_catalog.specs.Rows.{open_row}
 use Rattle.bd_catalog.specs.Rules.{ascends, obeys}
 use Rattle.bd_catalog.specs.Splitting.{FitsArrange, KeptEntry, MaySplits, SplitEntry, after_arrange, after_splits, kept_of, last_extents, last_rows}
 use Rattle.bd_catalog.specs.Standing.{BeginWith, StandsFor, Stands}
-use Rattle.bd_catalog.specs.Steps.{HasCommitted, InOtherHalf, IsMade, LeavesEither, committed}
+use Rattle.bd_catalog.specs.Steps.{HasCommitted, IsMade, LeavesEither, committed}
 use Rattle.bd_catalog.proofs.Agreeing.{begin_with_agrees}
 use Rattle.bd_catalog.proofs.Committing.{number-small}
 use Rattle.bd_catalog.proofs.Obeying.{IsBounded}
@@ -44,10 +43,10 @@ use Rattle.bd_volume.specs.Headers.{HasGoodHeaders}
 use Rattle.bd_volume.specs.Named.{InNamed, IsUnnamed}
 use Rattle.bd_volume.proofs.Beside.{half_beside}
 use Rattle.bd_volume.proofs.Unnamed.{named_bytes_decide}
-use Rattle.bd_arrange.specs.Arranged.{AnArrangedStoreStands, AnswersDue, Arranges, ButDiskFault, HasGoodDue, IsAllotted, IsArranged, IsDamageOfDue, IsSafeArranging, KeepsStates, arranged_catalogue}
+use Rattle.bd_arrange.specs.Arranged.{AnArrangedStoreStands, AnswersDue, Arranges, ButDiskFault, HasGoodDue, IsAllotted, IsDamageOfDue, KeepsStates}
 use Rattle.bd_arrange.specs.Desks.{OnDesk}
-use Rattle.bd_arrange.specs.Turns.{AreArranged, Ground, Turns, due, ground, grown_bytes, is_due}
-use Rattle.bd_arrange.specs.Underway.{HasSplits, HasTurned, IsStaged, arranged_at, filled_bytes}
+use Rattle.bd_arrange.specs.Turns.{AreArranged, Ground, due, ground, grown_bytes, is_due}
+use Rattle.bd_arrange.specs.Underway.{HasSplits, HasTurned, IsStaged, arranged_at}
 use Rattle.bd_arrange.proofs.NoDamage.{never_damaged}
 use Rattle.bd_arrange.proofs.TakingTurns.{KeptStays, turns_later}
 

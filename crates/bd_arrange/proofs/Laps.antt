@@ -1,19 +1,17 @@
 -- Arranging, one category after the other: what holds between two turns, and that it holds after one more.
-use Rattle.std.proofs.Common.{◌≡◌, ◌≢◌, ◌⊎◌, inl, inr, ⊎_elim, ℕ, zero, suc, ◌+◌, ◌-◌, ◌*◌, ◌<◌, ◌≤◌, Bool, true, false, cond, ◌&&◌, List, [], ◌∷◌, ◌++◌, length, take, map, filter, flat_map, get_or, max, nat_eq, nat_lt, nat_le, refl, sym, ◌∙◌, ap, subst, arith, sum_by, append_assoc, length-append}
+use Rattle.std.proofs.Common.{◌≡◌, ◌≢◌, ⊎_elim, ℕ, zero, suc, ◌+◌, ◌-◌, ◌<◌, ◌≤◌, Bool, true, false, cond, ◌&&◌, List, [], ◌∷◌, ◌++◌, length, take, map, filter, flat_map, get_or, max, nat_eq, nat_lt, nat_le, refl, sym, ◌∙◌, ap, subst, arith, sum_by, append_assoc, length-append}
 use Rattle.std.specs.Prelude.{All, Contains, IsTrue, ◌==◌, Result, Ok, Err}
 use Rattle.std.specs.List.{IsDistinct, list_all}
 use Rattle.std.specs.List.Sorted.{IsStrictlyIncreasing}
 use Rattle.std.proofs.lemmas.Bool.{false≢true, ltb-true}
-use Rattle.std.proofs.lemmas.Bool.Decides.{Decides-eqb}
 use Rattle.std.proofs.lemmas.List.{append-nil, map-append}
 use Rattle.std.proofs.lemmas.List.Concat.{flat_map-append}
 use Rattle.std.proofs.lemmas.List.Elements.{All-append, All-cons, All-nil, All-contains, All-contains_itself, All-weaker, Contains-append_cases, Contains-append_left, Contains-append_right}
 use Rattle.std.proofs.lemmas.List.Folds.{flat_map-map, list_all-append}
 use Rattle.std.proofs.lemmas.List.Sums.{AllPass-from_list_all}
 use Rattle.std.proofs.lemmas.Option.{slice_get_within}
-use Rattle.bd_disk.specs.History.{History, contents}
+use Rattle.bd_disk.specs.History.{contents}
 use Rattle.bd_disk.specs.Images.{Agree, AgreeBut}
-use Rattle.bd_disk.specs.Made.{WritesOnly}
 use Rattle.bd_disk.specs.Runs.{WorkedAt, Works}
 use Rattle.bd_disk.specs.declared.disk.Disk.{Ghosts}
 use Rattle.bd_disk.proofs.Agreeing.{agree_fewer}
@@ -22,7 +20,6 @@ use Rattle.bd_disk.proofs.Looking.{looks_wider}
 use Rattle.bd_disk.proofs.RunLemmas.{both_work, work_written}
 use Rattle.bd_disk.proofs.Traces.{has_read_later}
 use Rattle.bd_model.specs.Extents.{owner_bytes}
-use Rattle.bd_model.specs.Records.{Stored}
 use Rattle.bd_model.specs.Room.{up}
 use Rattle.bd_model.specs.Laws.{rows_more}
 use Rattle.bd_model.specs.Sizes.{Sizes, disk_bytes}
@@ -35,7 +32,7 @@ use Rattle.bd_model.specs.declared.layout.RecipeEntry.{RecipeEntry}
 use Rattle.bd_model.proofs.ListLemmas.{left_and, right_and}
 use Rattle.bd_category.specs.Laws.{written_records}
 use Rattle.bd_extio.specs.Ranges.{AreExtents}
-use Rattle.bd_space.specs.Allotment.{Allotment, extent_count, free_count, held_count, IsTaken, TakenExactly}
+use Rattle.bd_space.specs.Allotment.{Allotment, free_count, IsTaken, TakenExactly}
 use Rattle.bd_space.specs.declared.space.Use.TheVariants.{Taken}
 use Rattle.bd_space.proofs.Distinct.{IsDistinct-append, distinct_apart, distinct_left, distinct_right}
 use Rattle.bd_catalog.specs.Agreement.{Agrees}
@@ -44,11 +41,11 @@ use Rattle.bd_catalog.specs.Damages.{BreaksRule, header_holds, header_places}
 use Rattle.bd_catalog.specs.Opening.{Found}
 use Rattle.bd_catalog.specs.Rows.{RowPlace, Spot, open_row, row_spots}
 use Rattle.bd_catalog.specs.Rules.{active_holds, all_differ, ascends, fits_eight, obeys, row_holds, starts_hold, volume_holds}
-use Rattle.bd_catalog.specs.Splitting.{KeptEntry, MaySplit, MaySplits, SplitEntry, after_split, after_splits, kept_extents, kept_of, last_extents, last_grown, last_rows}
+use Rattle.bd_catalog.specs.Splitting.{KeptEntry, MaySplit, MaySplits, SplitEntry, after_split, after_splits, kept_extents, kept_of, last_extents, last_rows}
 use Rattle.bd_catalog.specs.Standing.{BeginWith}
 use Rattle.bd_catalog.proofs.Fitting.{all_differ-once}
 use Rattle.bd_catalog.proofs.InPlace.{starts}
-use Rattle.bd_catalog.proofs.Obeying.{IsBounded, Rules, distinct_of, rules_of}
+use Rattle.bd_catalog.proofs.Obeying.{IsBounded, distinct_of, rules_of}
 use Rattle.bd_catalog.proofs.Owning.{distinct_ascending, in_categories, open_ascend, waiting_volume}
 use Rattle.bd_catalog.proofs.StandingOwned.{count_in_volume}
 use Rattle.bd_catalog.proofs.StandingFound.{Obeys, obeys-each, opened-found}
@@ -56,7 +53,6 @@ use Rattle.bd_recipe.specs.Reading.{IfDamaged}
 use Rattle.bd_recipe.specs.declared.fault.ReadFault.{ReadFault}
 use Rattle.bd_recipe.specs.declared.fault.ReadFault.TheVariants.{DiskFault, Damaged, OutOfMemory}
 use Rattle.bd_recipe.proofs.Versions.{are_all, are_left, are_right}
-use Rattle.bd_volume.specs.Copies.{AreApart}
 use Rattle.bd_volume.specs.Growing.{CanGrow}
 use Rattle.bd_volume.specs.Headers.{HasGoodHeaders}
 use Rattle.bd_volume.specs.Named.{InNamed}
@@ -64,9 +60,9 @@ use Rattle.bd_volume.proofs.Copying.{no_work}
 use Rattle.bd_volume.proofs.RowsMore.{bytes-rows_more}
 use Rattle.bd_arrange.specs.Arranged.{InDue, IsAllotted, IsDamageOfDue}
 use Rattle.bd_arrange.specs.Cuts.{InCategory, IsDamageIn, IsOfHeaders, IsWhole, archived_records, bytes_in, kept_records, records_in}
-use Rattle.bd_arrange.specs.Desks.{Archives, Becomes, BecomesSplit, InRoom, IsCategory, IsToMove, KeepsExtents, MovesRecords, OnDesk, Tells, Turned, new_extents}
-use Rattle.bd_arrange.specs.Turns.{Ground, IsKeptOf, IsLeft, IsSplit, IsToSplit, Turns, archived_on, due, ground, grown_bytes, is_due, kept_on, taken_by}
-use Rattle.bd_arrange.specs.Underway.{HasSplits, HasTurned, IsStaged, IsTakenFor, IsUnderway, filled_bytes}
+use Rattle.bd_arrange.specs.Desks.{Archives, Becomes, BecomesSplit, InRoom, IsCategory, IsToMove, KeepsExtents, OnDesk, Tells, Turned, new_extents}
+use Rattle.bd_arrange.specs.Turns.{Ground, IsKeptOf, IsLeft, IsSplit, Turns, archived_on, due, ground, grown_bytes, is_due, taken_by}
+use Rattle.bd_arrange.specs.Underway.{HasSplits, HasTurned, IsStaged, IsTakenFor, filled_bytes}
 use Rattle.bd_arrange.proofs.Splits.{Next, SameNumbers, added_by, ascends_last, bytes_later, extents_after, extents_grown, kept_by, may_last, next_of, rows_grown, rules_after, same_numbers, same_oldest, some_volume, splits-last, splits_among, start_among, still_open}
 use Rattle.bd_arrange.proofs.Staying.{IsAtWork, active_among_all, among_map, kept_stays, last_among_all, open_apart, records_stay, room_staged, spots_stay, volume_stays, whole_before}
 use Rattle.bd_arrange.proofs.TakingTurns.{KeptStays, free_after, free_last, grown-last, to_move, to_split, turns_later, turns_left, turns_split}

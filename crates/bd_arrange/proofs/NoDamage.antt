@@ -1,6 +1,6 @@
 -- An image that stands for a state has no damage in its open categories.
-use Rattle.std.proofs.Common.{◌≡◌, ◌≢◌, ◌⊎◌, inl, inr, ⊎_elim, ℕ, zero, suc, ◌+◌, ◌-◌, ◌<◌, ◌≤◌, Bool, true, false, cond, ◌&&◌, List, [], ◌∷◌, ◌++◌, length, map, filter, flat_map, max, sum_by, refl, sym, ◌∙◌, ap, subst, arith, drop, le-leb, nat_le}
-use Rattle.std.specs.Prelude.{All, Contains, IsTrue, ◌==◌, Ok}
+use Rattle.std.proofs.Common.{◌≡◌, ⊎_elim, ℕ, zero, suc, ◌+◌, ◌-◌, ◌<◌, ◌≤◌, Bool, true, false, cond, ◌&&◌, List, [], ◌∷◌, ◌++◌, length, map, filter, flat_map, max, sum_by, refl, sym, ◌∙◌, ap, subst, arith, drop, le-leb, nat_le}
+use Rattle.std.specs.Prelude.{Contains, ◌==◌, Ok}
 use Rattle.std.specs.Str.{bytes_eq}
 use Rattle.std.specs.List.{list_all, range_with_len}
 use Rattle.std.proofs.lemmas.Bool.{eqb-true, false≢true, leb-true, or_cases}
@@ -9,7 +9,7 @@ use Rattle.std.proofs.lemmas.List.Folds.{fold-map, list_all-append}
 use Rattle.std.proofs.lemmas.List.Sums.{AllPass-from_list_all, sum_by-cons}
 use Rattle.bd_disk.specs.History.{History, contents}
 use Rattle.bd_model.specs.Chunks.{numbers}
-use Rattle.bd_model.specs.History.{History as Versions, contains, newest, version}
+use Rattle.bd_model.specs.History.{History as Versions, contains, newest}
 use Rattle.bd_model.specs.Layout.{arranged_to, is_arranged, open_category}
 use Rattle.bd_model.specs.Marks.{mark}
 use Rattle.bd_model.specs.Records.{Stored, stored_at}

@@ -1,6 +1,6 @@
 -- A catalogue after one split more.
-use Rattle.std.proofs.Common.{◌≡◌, ◌≢◌, ◌⊎◌, inl, inr, ⊎_elim, ℕ, zero, suc, ◌+◌, ◌-◌, ◌<◌, ◌≤◌, Bool, true, false, cond, ◌&&◌, List, [], ◌∷◌, ◌++◌, length, map, filter, flat_map, max, nat_eq, nat_le, eq-eqb, le-leb, refl, sym, ◌∙◌, ap, subst, arith, append_assoc, length-append}
-use Rattle.std.specs.Prelude.{All, Contains, IsTrue, ◌==◌}
+use Rattle.std.proofs.Common.{◌≡◌, ◌⊎◌, inl, inr, ⊎_elim, ℕ, zero, suc, ◌+◌, ◌-◌, ◌<◌, ◌≤◌, true, false, cond, ◌&&◌, List, [], ◌∷◌, ◌++◌, length, map, filter, flat_map, max, nat_eq, nat_le, eq-eqb, le-leb, refl, sym, ◌∙◌, ap, subst, arith, append_assoc}
+use Rattle.std.specs.Prelude.{All, Contains, ◌==◌}
 use Rattle.std.specs.List.{IsDistinct}
 use Rattle.std.proofs.lemmas.Bool.{leb-true, ne_eqb}
 use Rattle.std.proofs.lemmas.List.{append-nil}
@@ -9,13 +9,12 @@ use Rattle.std.proofs.lemmas.List.Elements.{Contains-append_cases, Contains-appe
 use Rattle.bd_model.specs.Laws.{rows_more}
 use Rattle.bd_model.specs.Sizes.{Sizes}
 use Rattle.bd_model.specs.declared.layout.CategoryRow.{CategoryRow}
-use Rattle.bd_model.specs.declared.layout.Phase.{Phase}
 use Rattle.bd_model.proofs.ListLemmas.{left_and, right_and}
 use Rattle.bd_space.proofs.Distinct.{distinct_head, distinct_tail}
 use Rattle.bd_catalog.specs.Catalogue.{Catalogue, OpenEntry, VersionEntry, VolumeEntry, all_extents, bytes_of_rows, oldest_in}
 use Rattle.bd_catalog.specs.Rules.{ascends, obeys}
-use Rattle.bd_catalog.specs.Splitting.{MaySplit, MaySplits, SplitEntry, after_split, after_splits, kept_of, last_extents, last_grown, last_rows, put_in_place}
-use Rattle.bd_catalog.proofs.InPlace.{among, first, later, put_keeps, same_or_not, starts}
+use Rattle.bd_catalog.specs.Splitting.{MaySplit, MaySplits, SplitEntry, after_split, after_splits, last_extents, last_grown, last_rows, put_in_place}
+use Rattle.bd_catalog.proofs.InPlace.{first, later, put_keeps, starts}
 use Rattle.bd_catalog.proofs.Obeying.{IsBounded}
 use Rattle.bd_catalog.proofs.Owning.{in_categories}
 use Rattle.bd_catalog.proofs.Splitting.{split_rules}

@@ -1,19 +1,16 @@
 -- What a turn leaves as it was: what the catalogue names, what is kept of earlier splits, and the records of the volume.
-use Rattle.std.proofs.Common.{◌≡◌, ⊎_elim, ℕ, zero, suc, ◌+◌, ◌-◌, ◌*◌, ◌/◌, ◌%◌, ◌<◌, ◌≤◌, true, ◌&&◌, List, [], ◌∷◌, ◌++◌, length, take, map, flat_map, get_or, nat_eq, refl, sym, ◌∙◌, ap, subst, arith, length-take, length-append}
+use Rattle.std.proofs.Common.{◌≡◌, ⊎_elim, ℕ, zero, suc, ◌+◌, ◌-◌, ◌*◌, ◌/◌, ◌<◌, ◌≤◌, true, ◌&&◌, List, [], ◌∷◌, ◌++◌, length, take, map, flat_map, get_or, nat_eq, refl, sym, ◌∙◌, ap, subst, arith, length-take}
 use Rattle.std.specs.Prelude.{All, Contains, IsTrue}
 use Rattle.std.specs.List.{IsDistinct, list_all}
-use Rattle.std.proofs.lemmas.Bool.Decides.{Decides-eqb}
 use Rattle.std.proofs.lemmas.List.Elements.{All-contains, Contains-append_cases, Contains-append_left, Contains-append_right, Contains-get_or}
-use Rattle.std.proofs.lemmas.Map.Made.{AllPairs-from_IsDistinct}
 use Rattle.bd_disk.specs.Images.{Agree, AgreeBut, InRange}
 use Rattle.bd_disk.proofs.Agreeing.{agree_fewer}
 use Rattle.bd_model.specs.Extents.{owner_bytes}
-use Rattle.bd_model.specs.Room.{up}
 use Rattle.bd_model.specs.Sizes.{Sizes, disk_bytes, extent_place}
 use Rattle.bd_model.proofs.RoomLemmas.{up-enough}
-use Rattle.bd_extio.specs.Ranges.{AreExtents, InOwner, place_of}
+use Rattle.bd_extio.specs.Ranges.{InOwner}
 use Rattle.bd_extio.proofs.Places.{extent_of, length-owner_bytes, place_of-high, place_of-injective, place_of-low}
-use Rattle.bd_space.specs.Allotment.{Allotment, extent_count, IsFree, IsTaken, TakenExactly}
+use Rattle.bd_space.specs.Allotment.{Allotment, extent_count, IsTaken, TakenExactly}
 use Rattle.bd_space.specs.declared.space.Use.TheVariants.{Free}
 use Rattle.std.proofs.lemmas.Option.{slice_get_within}
 use Rattle.bd_space.proofs.Distinct.{distinct_apart, distinct_left, distinct_right}
@@ -22,15 +19,13 @@ use Rattle.bd_catalog.specs.Catalogue.{Catalogue, OpenEntry, VersionEntry, Volum
 use Rattle.bd_catalog.specs.Damages.{header_holds}
 use Rattle.bd_catalog.specs.Opening.{Found}
 use Rattle.bd_catalog.specs.Rows.{open_row, records_at, row_bytes, row_end, row_spots, spots_from}
-use Rattle.bd_catalog.specs.Rules.{active_holds, obeys}
-use Rattle.bd_catalog.specs.Splitting.{KeptEntry, kept_extents, last_extents, last_rows}
+use Rattle.bd_catalog.specs.Rules.{obeys}
+use Rattle.bd_catalog.specs.Splitting.{kept_extents, last_extents, last_rows}
 use Rattle.bd_catalog.specs.Standing.{BeginWith}
 use Rattle.bd_catalog.proofs.Agreeing.{begin_with_agrees, in_extents, one_extent, owners_apart}
-use Rattle.bd_catalog.proofs.StandingFound.{obeys-each}
 use Rattle.bd_volume.specs.Filled.{Filled}
 use Rattle.bd_volume.specs.Growing.{CanGrow}
-use Rattle.bd_volume.specs.Headers.{HasGoodHeaders}
-use Rattle.bd_volume.specs.Named.{InNamed, IsUnnamed, Named, NamedBytesDecide, named_by, open_named, recipe_named, volume_named}
+use Rattle.bd_volume.specs.Named.{InNamed, IsUnnamed, Named, named_by, open_named, recipe_named, volume_named}
 use Rattle.bd_volume.proofs.Beside.{ends_within, free_or_taken}
 use Rattle.bd_volume.proofs.NamedPlaces.{FitsNamed, all_fit, begin_named}
 use Rattle.bd_volume.proofs.Unnamed.{named_bytes_decide}

@@ -4,15 +4,13 @@ use Rattle.bd_disk.specs.History.{History, contents}
 use Rattle.bd_disk.specs.Images.{Agree}
 use Rattle.bd_disk.specs.Made.{LeavesNow, LeavesSince}
 use Rattle.bd_model.specs.Marks.{Near}
-use Rattle.bd_model.specs.Sizes.{sizes_of}
 use Rattle.bd_model.specs.State.{VersionState, history}
 use Rattle.bd_model.specs.declared.damage.Damage.{Damage}
 use Rattle.bd_model.specs.declared.layout.Phase.{Phase}
 use Rattle.bd_model.specs.declared.layout.Phase.TheVariants.{Settled}
 use Rattle.bd_model.specs.declared.layout.RecipeEntry.{RecipeEntry}
 use Rattle.bd_model.specs.declared.shape.Shape.{Shape}
-use Rattle.bd_space.specs.Allotment.{Allotment, extent_count, held_count, TakenExactly}
-use Rattle.bd_catalog.specs.Agreement.{Agrees}
+use Rattle.bd_space.specs.Allotment.{Allotment, extent_count, TakenExactly}
 use Rattle.bd_catalog.specs.Catalogue.{Catalogue, OpenEntry, all_extents}
 use Rattle.bd_catalog.specs.Opening.{Found, opened}
 use Rattle.bd_catalog.specs.Rows.{open_row}

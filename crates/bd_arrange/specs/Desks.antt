@@ -1,10 +1,9 @@
 -- What arranging has at work before its commit, and what one turn makes of it.
-use Rattle.std.specs.Prelude.{◌≡◌, ◌⊎◌, ℕ, ◌+◌, ◌-◌, ◌*◌, ◌≤◌, List, [], ◌∷◌, ◌++◌, length, flat_map, All, IsTrue}
+use Rattle.std.specs.Prelude.{◌≡◌, ◌⊎◌, ℕ, ◌+◌, ◌-◌, ◌*◌, ◌≤◌, List, [], ◌∷◌, ◌++◌, length, All, IsTrue}
 use Rattle.std.specs.List.{list_all}
 use Rattle.bd_disk.specs.History.{contents}
 use Rattle.bd_disk.specs.Images.{InRange}
 use Rattle.bd_disk.specs.declared.disk.Disk.{Ghosts}
-use Rattle.bd_model.specs.Extents.{owner_bytes}
 use Rattle.bd_model.specs.Room.{up}
 use Rattle.bd_model.specs.Sizes.{Sizes, extent_place}
 use Rattle.bd_model.specs.declared.layout.RecipeEntry.{RecipeEntry}
@@ -16,7 +15,7 @@ use Rattle.bd_catalog.specs.Rules.{active_holds}
 use Rattle.bd_catalog.specs.Splitting.{KeptEntry, SplitEntry, kept_extents, kept_of}
 use Rattle.bd_volume.specs.Copies.{AreApart}
 use Rattle.bd_volume.specs.Filled.{Filled}
-use Rattle.bd_volume.specs.Growing.{Appends, AreCounted, HasFree, NoneLater, rows_after}
+use Rattle.bd_volume.specs.Growing.{Appends, AreCounted, NoneLater, rows_after}
 use Rattle.bd_arrange.specs.Cuts.{IsWhole, bytes_in}
 use Rattle.bd_arrange.specs.Turns.{Ground, IsKeptOf, archived_on, ground, kept_on}
 

@@ -1,5 +1,5 @@
 -- Open categories, arranged one after the other.
-use Rattle.std.specs.Prelude.{◌≡◌, ◌⊎◌, ℕ, ◌+◌, ◌-◌, ◌<◌, ◌≤◌, ◌==◌, Bool, ◌&&◌, false, List, [], ◌∷◌, ◌++◌, length, take, filter, flat_map, max, nat_le, nat_lt, All}
+use Rattle.std.specs.Prelude.{◌≡◌, ◌⊎◌, ℕ, ◌+◌, ◌-◌, ◌≤◌, ◌==◌, Bool, ◌&&◌, false, List, [], ◌∷◌, ◌++◌, length, take, filter, flat_map, max, nat_le, nat_lt, All}
 use Rattle.bd_model.specs.Extents.{owner_bytes}
 use Rattle.bd_model.specs.Records.{Stored}
 use Rattle.bd_model.specs.Room.{up}

@@ -1,5 +1,5 @@
 -- How far arranging has come: which categories had their turn, and what was made of them.
-use Rattle.std.specs.Prelude.{◌≡◌, ℕ, ◌+◌, ◌-◌, ◌<◌, List, [], ◌∷◌, ◌++◌, length, take, map, flat_map, IsTrue, Result, Err, OnErr, OnOk}
+use Rattle.std.specs.Prelude.{◌≡◌, ℕ, ◌+◌, ◌<◌, List, ◌++◌, take, map, flat_map, IsTrue, Result, Err, OnErr, OnOk}
 use Rattle.bd_disk.specs.History.{contents}
 use Rattle.bd_disk.specs.declared.disk.Disk.{Ghosts}
 use Rattle.bd_model.specs.Extents.{owner_bytes}

@@ -1,25 +1,23 @@
-use Rattle.std.proofs.Common.{◌≡◌, ◌≢◌, ◌+◌, ℕ, List, map, refl, sym, ◌∙◌, ap, subst}
+use Rattle.std.proofs.Common.{◌≡◌, ◌≢◌, sym, ◌∙◌, ap, subst}
 use Rattle.std.specs.Prelude.{IsTrue, Result, Ok, Err}
 use Rattle.std.proofs.lemmas.Result.{err_from_is_err_and}
 use Rattle.bd_disk.specs.History.{contents}
 use Rattle.bd_disk.specs.Runs.{Works}
 use Rattle.bd_disk.proofs.RunLemmas.{both_work, work_written, writes_work}
 use Rattle.bd_model.specs.declared.layout.Phase.TheVariants.{Settled}
-use Rattle.bd_space.specs.Allotment.{free_count, held_count}
+use Rattle.bd_space.specs.Allotment.{held_count}
 use Rattle.bd_catalog.specs.Agreement.{Agrees}
 use Rattle.bd_catalog.specs.Opening.{Found}
 use Rattle.bd_catalog.specs.Rules.{obeys}
 use Rattle.bd_catalog.proofs.Committing.{number-small}
 use Rattle.bd_catalog.proofs.Obeying.{IsBounded, bounded_of}
-use Rattle.bd_recipe.specs.Reading.{IfDamaged, recipe_found}
+use Rattle.bd_recipe.specs.Reading.{recipe_found}
 use Rattle.bd_recipe.specs.declared.fault.ReadFault.{ReadFault}
 use Rattle.bd_recipe.specs.declared.fault.ReadFault.TheVariants.{OutOfMemory}
 use Rattle.bd_volume.specs.Named.{IsBeside}
 use Rattle.bd_volume.proofs.Beside.{half_beside, unnamed_beside}
 use Rattle.bd_volume.proofs.Copying.{no_work}
 use Rattle.bd_arrange.specs.Arranged.{AnswersDue, HasGoodDue, InDue, IsAllotted, IsDamageOfDue, KeepsStates}
-use Rattle.bd_arrange.specs.Turns.{due}
-use Rattle.bd_arrange.specs.Underway.{IsUnderway}
 use Rattle.bd_arrange.proofs.StandsArranged.{arranged_store_stands}
 use Rattle.bd_arrange.proofs.Laps.{work_told}
 use Rattle.bd_arrange.proofs.Committing.{agrees_now, answers_named, answers_refused, but_refused, fits_desk, if_told, keeps_all, keeps_either, keeps_refused, keeps_settled, no_headers}
