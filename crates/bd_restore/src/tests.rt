@@ -67,11 +67,11 @@ fn entry(body: &[u8; 4], start: u32) -> RecipeEntry {
     }
 }
 
-/// Writes the three recipes, and the records of both images, each with the mark of its letter; of A this body.
-fn fill(disk: &mut MemDisk, shape: &Shape, first: &[u8; 4]) -> bool {
+/// Writes the first two recipes.
+fn fill_recipes(disk: &mut MemDisk, shape: &Shape) -> bool {
     let (a, e) = (entry(b"AAAA", 1), entry(b"EEEE", 1));
-    let (b, c, again) = (entry(b"BBBB", 1), entry(b"CCCC", 2), entry(b"BBBB", 3));
-    if disk.size() < shape.disk_bytes() || shape.extents() <= 14 || shape.max() < 4 {
+    let (b, c) = (entry(b"BBBB", 1), entry(b"CCCC", 2));
+    if disk.size() < shape.disk_bytes() || shape.extents() <= 14 {
         return false;
     }
     write_entry(disk, shape, &[0, 1, 2], 0, &a).is_ok()
@@ -81,17 +81,38 @@ fn fill(disk: &mut MemDisk, shape: &Shape, first: &[u8; 4]) -> bool {
         && write_entry(disk, shape, &[3, 4], 0, &a).is_ok()
         && write_entry(disk, shape, &[3, 4], 1, &c).is_ok()
         && write_entry(disk, shape, &[3, 4], 2, &e).is_ok()
-        && write_entry(disk, shape, &[5, 6, 7], 0, &a).is_ok()
+}
+
+fn fill_last_recipe(disk: &mut MemDisk, shape: &Shape) -> bool {
+    let (a, e) = (entry(b"AAAA", 1), entry(b"EEEE", 1));
+    let again = entry(b"BBBB", 3);
+    if disk.size() < shape.disk_bytes() || shape.extents() <= 14 {
+        return false;
+    }
+    write_entry(disk, shape, &[5, 6, 7], 0, &a).is_ok()
         && write_entry(disk, shape, &[5, 6, 7], 1, &again).is_ok()
         && write_entry(disk, shape, &[5, 6, 7], 2, &e).is_ok()
         && write_entry(disk, shape, &[5, 6, 7], 3, &again).is_ok()
-        && write_chunk(disk, shape, &[8], 0, &b.mark, b"BBBB").is_ok()
-        && write_chunk(disk, shape, &[9, 13], 0, &a.mark, first).is_ok()
-        && write_chunk(disk, shape, &[9, 13], 40, &e.mark, b"EEEE").is_ok()
-        && write_chunk(disk, shape, &[10], 0, &c.mark, b"CCCC").is_ok()
-        && write_chunk(disk, shape, &[11], 0, &b.mark, b"BBBB").is_ok()
+}
+
+/// Writes the records of both images, each with the mark of its letter; of A this body.
+fn fill_records(disk: &mut MemDisk, shape: &Shape, first: &[u8; 4]) -> bool {
+    let (a, b, c) = (mark_of(b"AAAA"), mark_of(b"BBBB"), mark_of(b"CCCC"));
+    if disk.size() < shape.disk_bytes() || shape.extents() <= 14 || shape.max() < 4 {
+        return false;
+    }
+    write_chunk(disk, shape, &[8], 0, &b, b"BBBB").is_ok()
+        && write_chunk(disk, shape, &[9, 13], 0, &a, first).is_ok()
+        && write_chunk(disk, shape, &[9, 13], 40, &mark_of(b"EEEE"), b"EEEE").is_ok()
+        && write_chunk(disk, shape, &[10], 0, &c, b"CCCC").is_ok()
+        && write_chunk(disk, shape, &[11], 0, &b, b"BBBB").is_ok()
         && write_chunk(disk, shape, &[12, 14], 0, &mark_of(b"XXXX"), b"XXXX").is_ok()
-        && write_chunk(disk, shape, &[12, 14], 40, &c.mark, b"CCCC").is_ok()
+        && write_chunk(disk, shape, &[12, 14], 40, &c, b"CCCC").is_ok()
+}
+
+/// Writes the three recipes, and the records of both images; of A this body.
+fn fill(disk: &mut MemDisk, shape: &Shape, first: &[u8; 4]) -> bool {
+    fill_recipes(disk, shape) && fill_last_recipe(disk, shape) && fill_records(disk, shape, first)
 }
 
 /// Plans a version, and gives it back.
