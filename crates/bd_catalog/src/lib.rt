@@ -14,8 +14,6 @@ mod rows;
 mod rules;
 mod spelled;
 mod step;
-#[cfg(test)]
-mod tests;
 
 pub use bd_model::{CategoryRow, Phase};
 pub use catalog::Catalog;

@@ -1,6 +1,6 @@
 //! Files of the folder.
 use super::*;
-use bd_disk::Failed;
+use bd_disk::{Failed, MemDisk};
 use bd_model::Name;
 use std::fs;
 use std::os::unix::fs::symlink;
@@ -12,6 +12,25 @@ fn round_trip<F: Files>(files: &mut F, name: &Name, into: &mut [u8]) -> Result<u
     files.put(name, 1, &[7, 8])?;
     files.finish(name)?;
     files.fetch(name, 0, into)
+}
+
+#[test]
+fn a_file_in_memory_is_filled(rt: HostRuntime) -> Result<(), Fail> {
+    let name = Name::new(rt.alloc(), "it")?;
+    let mut into = [9u8; 6];
+    let given = round_trip(&mut MemFiles::new(rt.alloc()), &name, &mut into);
+    assert_eq!(rt; given, Ok(4));
+    assert_eq!(rt; into, [0, 7, 8, 0, 9, 9]);
+    Ok(())
+}
+
+#[test]
+fn a_text_in_memory_is_kept(rt: HostRuntime) -> Result<(), Fail> {
+    let disk = MemDisk::blank(rt.alloc(), 0)?;
+    let mut sink = MemSink::new(rt.alloc());
+    sink.put(&disk, b"abc")?;
+    assert_eq!(rt; sink.written(), b"abc".as_slice());
+    Ok(())
 }
 
 #[test]

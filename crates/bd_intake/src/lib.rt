@@ -24,5 +24,3 @@ pub use laws::new_chunks_are_the_fresh_ones;
 pub use staged::Staged;
 pub use take_in::intake;
 
-#[cfg(test)]
-mod tests;

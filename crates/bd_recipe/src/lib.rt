@@ -8,8 +8,6 @@ mod limits;
 mod located;
 mod neighbour;
 mod recipe;
-#[cfg(test)]
-mod tests;
 
 pub use entry::{entry_bytes, write_entry};
 pub use fault::ReadFault;

@@ -12,5 +12,3 @@ pub use fault::{FormatFault, OpenFault};
 pub use formatting::{format, format_disk};
 pub use opening::{Opened, open_image};
 
-#[cfg(test)]
-mod tests;

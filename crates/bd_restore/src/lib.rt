@@ -9,8 +9,6 @@ mod put;
 mod record;
 mod run;
 mod tables;
-#[cfg(test)]
-mod tests;
 mod walk;
 
 pub use bd_recipe::ReadFault;

@@ -9,8 +9,6 @@ mod numbers;
 mod script;
 mod spelling;
 mod splits;
-#[cfg(test)]
-mod tests;
 mod text;
 
 pub use answer::{short_line, short_text};
