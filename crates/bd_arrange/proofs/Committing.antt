@@ -16,7 +16,6 @@ use Rattle.bd_model.specs.declared.layout.Phase.{Phase}
 use Rattle.bd_model.specs.declared.layout.Phase.TheVariants.{Settled}
 use Rattle.bd_model.specs.declared.layout.RecipeEntry.{RecipeEntry}
 use Rattle.bd_model.specs.declared.shape.Shape.{Shape}
-use Rattle.bd_model.proofs.ListLemmas.{filter-none}
 use Rattle.bd_gate.proofs.Kept.{within_halves}
 use Rattle.bd_space.specs.Allotment.{Allotment, free_count, held_count}
 use Rattle.bd_space.proofs.Exact.{taken_count-exact}
@@ -24,7 +23,6 @@ use Rattle.bd_space.proofs.Uses.{counts-all}
 use Rattle.bd_catalog.specs.Agreement.{Agrees, InExtents}
 use Rattle.bd_catalog.specs.Catalogue.{Catalogue, OpenEntry, all_extents, bytes_of_rows}
 use Rattle.bd_catalog.specs.Opening.{Found}
-use Rattle.bd_catalog.specs.Rows.{open_row}
 use Rattle.bd_catalog.specs.Rules.{ascends, obeys}
 use Rattle.bd_catalog.specs.Splitting.{FitsArrange, KeptEntry, MaySplits, SplitEntry, after_arrange, after_splits, kept_of, last_extents, last_rows}
 use Rattle.bd_catalog.specs.Standing.{BeginWith, StandsFor, Stands}
@@ -39,24 +37,17 @@ use Rattle.bd_catalog.proofs.StandingNamed.{stands_settled}
 use Rattle.bd_recipe.specs.Reading.{IfDamaged, recipe_found}
 use Rattle.bd_recipe.specs.declared.fault.ReadFault.{ReadFault}
 use Rattle.bd_recipe.specs.declared.fault.ReadFault.TheVariants.{DiskFault, Damaged, OutOfMemory}
-use Rattle.bd_volume.specs.Headers.{HasGoodHeaders}
 use Rattle.bd_volume.specs.Named.{InNamed, IsUnnamed}
 use Rattle.bd_volume.proofs.Beside.{half_beside}
 use Rattle.bd_volume.proofs.Unnamed.{named_bytes_decide}
-use Rattle.bd_arrange.specs.Arranged.{AnArrangedStoreStands, AnswersDue, Arranges, ButDiskFault, HasGoodDue, IsAllotted, IsDamageOfDue, KeepsStates}
+use Rattle.bd_arrange.specs.Arranged.{AnArrangedStoreStands, AnswersDue, Arranges, ButDiskFault, IsAllotted, IsArrangedFrom, IsDamageOfDue, KeepsStates}
 use Rattle.bd_arrange.specs.Desks.{OnDesk}
-use Rattle.bd_arrange.specs.Turns.{AreArranged, Ground, due, ground, grown_bytes, is_due}
+use Rattle.bd_arrange.specs.Turns.{AreArranged, Ground, due, ground, grown_bytes}
 use Rattle.bd_arrange.specs.Underway.{HasSplits, HasTurned, IsStaged, arranged_at}
 use Rattle.bd_arrange.proofs.NoDamage.{never_damaged}
 use Rattle.bd_arrange.proofs.TakingTurns.{KeptStays, turns_later}
 
 -- ---- nothing was done
-
-pub none_due : (c : Catalogue) → c.phase ≡ Settled → due c ≡ []
-none_due c settled = ap (λ phase. filter (is_due c.newest phase) c.actives) settled ∙ filter-none (is_due c.newest Settled) (λ a. refl) c.actives
-
-pub no_headers : (s : Sizes) (image : List ℕ) (c : Catalogue) → c.phase ≡ Settled → HasGoodHeaders s image (map open_row (due c))
-no_headers s image c settled = subst (λ (es : List OpenEntry). HasGoodHeaders s image (map open_row es)) (sym (none_due c settled)) (record { each = refl })
 
 pub keeps_settled : (held : ℕ) (found : Found) (h : History) → Agrees found h → found.catalogue.phase ≡ Settled → KeepsStates {T = Unit {0}} held h h (Ok tt)
 keeps_settled held found h agrees settled = record {
@@ -165,10 +156,24 @@ module _ (found : Found) (h0 h1 : History) (agrees : Agrees found h0) (writes : 
       free_is : free_count space ≡ s.extents - held - length (all_extents c)
       free_is = omega (arith, counts-all space, taken_count-exact space (all_extents c) allotted.owners, allotted.count)
 
+      is_arranged : IsArrangedFrom held found after (contents h0) image
+      is_arranged = record {
+        entries = entries;
+        newest = newest;
+        splits = es;
+        turns = subst (λ free. AreArranged g image free c es) free_is arranged;
+        sizes = refl;
+        catalogue = λ k. after_arrange c (has.rows k) (has.added k) (has.splits k);
+      }
+
       settles : (shape : Shape) (st : VersionState) (phase : Phase) → Near (history shape st) → StandsFor shape st phase held (contents h0) → StandsFor shape st Settled held image
-      settles shape st phase near stands =
-          law shape st phase held (free_count space) (contents h0) image found after entries es near stands agrees.opens waits newest free_is arranged made.opens refl
-          (λ k. after_arrange c (has.rows k) (has.added k) (has.splits k)) named
+      settles shape st phase near stands = law shape st phase held (contents h0) image found after near stands agrees.opens waits made.opens is_arranged named
+
+    -- where the commit is made the store is arranged
+    pub answers_named : (h2 : History) (T : Type 0) → T → (result : Result (Unit {0}) ReadFault) (found_now : Found) → OnErr result (result ≡ Err DiskFault) → OnOk result (found_now ≡ after) → OnOk result (T → IsMade found after h1 h2) →
+        AnswersDue held found found_now h0 h2 result
+    answers_named h2 T told (Ok value) found_now fails is done = λ _. subst (λ f. IsArrangedFrom held found f (contents h0) (contents h2)) (sym is) (is_arranged (contents h2) (done told).kept)
+    answers_named h2 T told (Err fault) found_now fails is done = subst (λ (r : Result (Unit {0}) ReadFault). AnswersDue held found found_now h0 h2 r) (sym fails) tt
 
     stops_named : (h2 : History) (shape : Shape) (st : VersionState) → Near (history shape st) → LeavesNow (Stands shape held st) h0 → LeavesEither found after h1 h2 → LeavesSince (Stands shape held st) h0 h2
     stops_named h2 shape st near sure either =
@@ -200,7 +205,7 @@ module _ (found : Found) (h0 h1 : History) (agrees : Agrees found h0) (writes : 
       keeps_either T told (Ok value) fails done either = keeps_named (done told) either
       keeps_either T told (Err fault) fails done either = subst (λ (r : Result (Unit {0}) ReadFault). KeepsStates {T = Unit {0}} held h0 h2 r) (sym fails) (keeps_failed either)
 
--- ---- what a refusal, and a commit, answer
+-- ---- what a refusal answers
 
 pub but_refused : (fault : ReadFault) (P : Type 0) → P → ButDiskFault {T = Unit {0}} (Err fault) P
 but_refused DiskFault P p = tt
@@ -212,14 +217,10 @@ if_told T told P DiskFault met = tt
 if_told T told P (Damaged damage) met = met told
 if_told T told P OutOfMemory met = tt
 
-pub answers_refused : (found : Found) (h0 h1 : History) (fault : ReadFault) → IfDamaged {T = Unit {0}} (Err fault) (λ damage. IsDamageOfDue found damage h0 h1) → AnswersDue found h0 h1 (Err fault)
-answers_refused found h0 h1 DiskFault met = tt
-answers_refused found h0 h1 (Damaged damage) met = met
-answers_refused found h0 h1 OutOfMemory met = tt
-
-pub answers_named : (found : Found) (h0 h2 : History) (result : Result (Unit {0}) ReadFault) → OnErr result (result ≡ Err DiskFault) → HasGoodDue found (contents h0) → AnswersDue found h0 h2 result
-answers_named found h0 h2 (Ok value) fails good = good
-answers_named found h0 h2 (Err fault) fails good = subst (λ (r : Result (Unit {0}) ReadFault). AnswersDue found h0 h2 r) (sym fails) tt
+pub answers_refused : (held : ℕ) (found after : Found) (h0 h1 : History) (fault : ReadFault) → IfDamaged {T = Unit {0}} (Err fault) (λ damage. IsDamageOfDue found damage h0 h1) → AnswersDue held found after h0 h1 (Err fault)
+answers_refused held found after h0 h1 DiskFault met = tt
+answers_refused held found after h0 h1 (Damaged damage) met = met
+answers_refused held found after h0 h1 OutOfMemory met = tt
 
 -- ---- the commit fits
 

@@ -338,15 +338,6 @@ module _ {D : Type 0} (d : Ghosts D) (found : Found) (entries : List RecipeEntry
           pub whole : IsWhole s (image0 told) a
           whole = whole_before s c some_extent rules (image0 told) (image1 told) (room told) (named told) a has_a (turn.turned.whole told)
 
-          headers_now : HasGoodHeaders s (image0 told) (map open_row (lap.done ++ a ∷ []))
-          headers_now =
-              let test : RowPlace → Bool = λ p. list_all (header_holds s p) (row_spots s (image0 told) p) in
-              record {
-                each = ap (list_all test) (map-append open_row lap.done (a ∷ []))
-                    ∙ list_all-append test (map open_row lap.done) (open_row a ∷ [])
-                    ∙ (λ i. (lap.told told).headers.each i && whole.headers.each i);
-              }
-
           volume_now : filled_bytes g image2 desk.filling ≡ grown_bytes g c lap.splits
           volume_now = volume_stays found some_extent rules space desk at_work (image1 told) image2 written (room_now told) ∙ (lap.told told).volume
 
@@ -398,7 +389,6 @@ module _ {D : Type 0} (d : Ghosts D) (found : Found) (entries : List RecipeEntry
             free = (let same_free : free_count space_now ≡ free_count space = omega (arith, turn.extents.free, ap (λ x. length (new_extents x)) stays) in same_free ∙ lap.free);
             told = λ told. record {
               turns = turns_left (g told) (image2 told) (free_count before) c lap.done lap.splits a (turns_now told) (left told);
-              headers = headers_now told;
               volume = subst (λ (x : OnDesk). filled_bytes (g told) (image2 told) x.filling ≡ grown_bytes (g told) c lap.splits) (sym stays) (volume_now told);
             };
           }
@@ -574,7 +564,6 @@ module _ {D : Type 0} (d : Ghosts D) (found : Found) (entries : List RecipeEntry
             free = taken_by_is ∙ ap (λ n. n - taken_by e) lap.free ∙ sym (free_last (free_count before) lap.splits e);
             told = λ told. record {
               turns = turns_split (g told) (image2 told) (free_count before) c lap.done lap.splits a e (turns_now told) (split told);
-              headers = headers_now told;
               volume = archives told
                   ∙ ap (λ l. l ++ written_records (archived_on (g1 told) a)) (lap.told told).volume
                   ∙ ap (λ rs. grown_bytes (g told) c lap.splits ++ written_records (archived_records entries rs)) (same told)
@@ -681,7 +670,6 @@ module _ {D : Type 0} (d : Ghosts D) (found : Found) (entries : List RecipeEntry
         free = refl;
         told = λ told. record {
           turns = refl;
-          headers = record { each = refl };
           volume = (λ k. take (bytes_of_rows (begins.rows k)) (owner_bytes s (begins.numbers k) (contents (d.history disk)))) ∙ sym (append-nil (take (bytes_of_rows (last_rows c.volumes)) (owner_bytes s (last_extents c.volumes) (contents (d.history disk)))));
         };
       }

@@ -207,7 +207,11 @@ module _ (shape : Shape) (st : VersionState) (held free cursor : ℕ) (old new :
         volumes_after actives_after reserve_after
 
 pub arranged_store_stands : AnArrangedStoreStands
-arranged_store_stands shape st phase held free old new found after entries es near stands opens waits read free_is arranged opens_new sizes catalogue agree = at phase stands where
+arranged_store_stands shape st phase held old new found after near stands opens waits opens_new made agree = at phase stands where
+  free : ℕ
+  free = found.sizes.extents - held - length (all_extents found.catalogue)
+
   at : (p : Phase) → StandsFor shape st p held old → StandsFor shape st Settled held new
   at Settled settled = absurd (waits (stands-shows settled opens).at_phase)
-  at (Waiting cursor) waiting = stands_after shape st held free cursor old new found after entries es near waiting opens read free_is arranged agree opens_new sizes catalogue
+  at (Waiting cursor) waiting =
+      stands_after shape st held free cursor old new found after made.entries made.splits near waiting opens made.newest refl made.turns agree opens_new made.sizes made.catalogue

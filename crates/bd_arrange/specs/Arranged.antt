@@ -19,7 +19,6 @@ use Rattle.bd_catalog.specs.Standing.{Stands, StandsFor}
 use Rattle.bd_recipe.specs.Reading.{recipe_found}
 use Rattle.bd_recipe.specs.declared.fault.ReadFault.{ReadFault}
 use Rattle.bd_recipe.specs.declared.fault.ReadFault.TheVariants.{DiskFault, Damaged, OutOfMemory}
-use Rattle.bd_volume.specs.Headers.{HasGoodHeaders}
 use Rattle.bd_volume.specs.Named.{InNamed}
 use Rattle.bd_arrange.specs.Cuts.{InCategory, IsDamageIn}
 use Rattle.bd_arrange.specs.Turns.{AreArranged, due, ground}
@@ -61,16 +60,26 @@ pub record InDue (found : Found) (place : ℕ) : Type 0 where
 abbrev pub IsDamageOfDue : Found → Damage → History → History → Type 0
 IsDamageOfDue found damage old new = IsDamageIn found.sizes found.catalogue (contents old) (map open_row (due found.catalogue)) damage old new
 
--- the header of each record of the categories that are due holds
-abbrev pub HasGoodDue : Found → List ℕ → Type 0
-HasGoodDue found image = HasGoodHeaders found.sizes image (map open_row (due found.catalogue))
+-- the catalogue of one commit that names all these splits
+abbrev pub arranged_catalogue : Catalogue → List SplitEntry → Catalogue
+arranged_catalogue c es = after_arrange c (last_rows (after_splits c es).volumes) (flat_map (λ e. e.added) es) (map kept_of es)
 
--- where the disk tells: all headers hold in what was arranged, and a damage is one of theirs or of a category
-abbrev pub AnswersDue : Found → History → History → Result (Unit {0}) ReadFault → Type 0
-AnswersDue found old new (Ok _) = HasGoodDue found (contents old)
-AnswersDue found old new (Err DiskFault) = Unit {0}
-AnswersDue found old new (Err (Damaged damage)) = IsDamageOfDue found damage old new
-AnswersDue found old new (Err OutOfMemory) = Unit {0}
+-- A store that waits, arranged: each category that is due had its turn by the newest recipe, with as many extents free at first
+-- as nobody owns or holds, and the catalogue names what was made.
+pub record IsArrangedFrom (held : ℕ) (found after : Found) (old now : List ℕ) : Type 0 where
+  pub entries : List RecipeEntry
+  pub newest : recipe_found found.sizes found.catalogue old found.catalogue.newest ≡ Ok entries
+  pub splits : List SplitEntry
+  pub turns : AreArranged (ground found.sizes entries old) now (found.sizes.extents - held - length (all_extents found.catalogue)) found.catalogue splits
+  pub sizes : after.sizes ≡ found.sizes
+  pub catalogue : after.catalogue ≡ arranged_catalogue found.catalogue splits
+
+-- where the disk tells: a store that waited is arranged, and a damage is of a header in what was due, or of a category
+abbrev pub AnswersDue : ℕ → Found → Found → History → History → Result (Unit {0}) ReadFault → Type 0
+AnswersDue held found after old new (Ok _) = found.catalogue.phase ≢ Settled → IsArrangedFrom held found after (contents old) (contents new)
+AnswersDue held found after old new (Err DiskFault) = Unit {0}
+AnswersDue held found after old new (Err (Damaged damage)) = IsDamageOfDue found damage old new
+AnswersDue held found after old new (Err OutOfMemory) = Unit {0}
 
 -- ---- over every state
 
@@ -97,20 +106,11 @@ pub record KeepsStates {T : Type 0} (held : ℕ) (old new : History) (result : R
 
 -- ---- the law
 
--- the catalogue of one commit that names all these splits
-abbrev pub arranged_catalogue : Catalogue → List SplitEntry → Catalogue
-arranged_catalogue c es = after_arrange c (last_rows (after_splits c es).volumes) (flat_map (λ e. e.added) es) (map kept_of es)
-
--- An image stands for a state that waits, and all its categories that are due had their turn by the newest recipe, with as
--- many extents free as nobody owns or holds. Then an image that has the catalogue of these splits, on which what they name
--- stands, and which is else as before, stands for the same state, settled.
+-- An image stands for a state and waits. Then an image at which it is arranged, and which is else as before, stands for the same
+-- state, settled.
 abbrev pub AnArrangedStoreStands : Type 0
 AnArrangedStoreStands =
-    (shape : Shape) (st : VersionState) (phase : Phase) (held free : ℕ) (old new : List ℕ) (found after : Found) (entries : List RecipeEntry) (es : List SplitEntry) →
+    (shape : Shape) (st : VersionState) (phase : Phase) (held : ℕ) (old new : List ℕ) (found after : Found) →
     Near (history shape st) → StandsFor shape st phase held old → opened old ≡ Ok found → found.catalogue.phase ≢ Settled →
-    recipe_found found.sizes found.catalogue old found.catalogue.newest ≡ Ok entries →
-    free ≡ found.sizes.extents - held - length (all_extents found.catalogue) →
-    AreArranged (ground found.sizes entries old) new free found.catalogue es →
-    opened new ≡ Ok after → after.sizes ≡ found.sizes → after.catalogue ≡ arranged_catalogue found.catalogue es →
-    Agree (InNamed found.sizes found.catalogue) old new →
+    opened new ≡ Ok after → IsArrangedFrom held found after old new → Agree (InNamed found.sizes found.catalogue) old new →
     StandsFor shape st Settled held new

@@ -8,14 +8,12 @@ use Rattle.bd_model.specs.declared.layout.RecipeEntry.{RecipeEntry}
 use Rattle.bd_space.specs.Allotment.{Allotment, extent_count, held_count, TakenExactly}
 use Rattle.bd_catalog.specs.Catalogue.{Catalogue, OpenEntry, all_extents, bytes_of_rows, oldest_in}
 use Rattle.bd_catalog.specs.Opening.{Found}
-use Rattle.bd_catalog.specs.Rows.{open_row}
 use Rattle.bd_catalog.specs.Rules.{ascends}
 use Rattle.bd_catalog.specs.Splitting.{MaySplits, SplitEntry, after_arrange, after_splits, kept_of, last_extents, last_rows}
 use Rattle.bd_catalog.specs.Steps.{IsMade, LeavesEither, committed}
 use Rattle.bd_recipe.specs.declared.fault.ReadFault.{ReadFault}
 use Rattle.bd_recipe.specs.declared.fault.ReadFault.TheVariants.{DiskFault}
 use Rattle.bd_volume.specs.Filled.{Filled}
-use Rattle.bd_volume.specs.Headers.{HasGoodHeaders}
 use Rattle.bd_volume.specs.Named.{IsUnnamed}
 use Rattle.bd_arrange.specs.Desks.{OnDesk, new_extents}
 use Rattle.bd_arrange.specs.Turns.{Ground, Turns, ground, grown_bytes}
@@ -32,10 +30,9 @@ pub record HasSplits (c : Catalogue) (es : List SplitEntry) (desk : OnDesk) : Ty
 abbrev pub filled_bytes : Ground → List ℕ → Filled → List ℕ
 filled_bytes g image f = take (bytes_of_rows f.rows) (owner_bytes g.sizes f.numbers image)
 
--- Each of these categories had its turn, the headers of their records hold, and the volume has grown by what is archived.
+-- Each of these categories had its turn, and the volume has grown by what is archived.
 pub record HasTurned (g : Ground) (now : List ℕ) (free : ℕ) (c : Catalogue) (done : List OpenEntry) (es : List SplitEntry) (f : Filled) : Type 0 where
   pub turns : Turns g now free c done es
-  pub headers : HasGoodHeaders g.sizes g.image (map open_row done)
   pub volume : filled_bytes g now f ≡ grown_bytes g c es
 
 -- what these categories became at the desk, beside which so many extents were free at first

@@ -51,7 +51,7 @@ pub fn arrange<D: Disk>(
     ensures found { LeavesFound catalog.old.found catalog.new.found result }
     ensures space { (extent_count space.new ≡ extent_count space.old) × (held_count space.new ≡ held_count space.old) × ButDiskFault result (IsAllotted catalog.new.found space.new) }
     ensures agrees { D.tells → ButDiskFault result (Agrees catalog.new.found (D.history disk.new)) }
-    ensures answer { D.tells → AnswersDue catalog.old.found (D.history disk.old) (D.history disk.new) result }
+    ensures answer { D.tells → AnswersDue (held_count space.old) catalog.old.found catalog.new.found (D.history disk.old) (D.history disk.new) result }
     ensures states { D.tells → KeepsStates (held_count space.old) (D.history disk.old) (D.history disk.new) result }
 {
     if let Phase::Settled = catalog.phase() {

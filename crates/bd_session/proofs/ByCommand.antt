@@ -1,5 +1,5 @@
 -- What is said of a command by which one it is. A command that is built adds its lines here; all else goes by its answer.
-use Rattle.std.proofs.Common.{◌≡◌, ◌≤◌, ◌⊎◌, ◌∙◌, ◌&&◌, ◌==◌, ℕ, true, [], inl, inr, refl, sym, ap, subst, Ok, Err, Option, Some, false, List}
+use Rattle.std.proofs.Common.{◌≡◌, ◌≤◌, ◌⊎◌, ◌∙◌, ◌&&◌, ◌==◌, ℕ, true, [], inl, inr, refl, sym, ap, subst, ⊎_elim, Result, Ok, Err, Option, Some, false, List}
 use Rattle.std.specs.FinMap as map
 use Rattle.std.specs.Str.{bytes_eq}
 use Rattle.std.proofs.lemmas.Bool.{eqb-true}
@@ -20,16 +20,17 @@ use Rattle.bd_model.specs.Step.{phase_after, without_room}
 use Rattle.bd_model.specs.declared.shape.Shape.{Shape}
 use Rattle.bd_model.specs.declared.layout.Phase.{Phase}
 use Rattle.bd_model.specs.declared.layout.Phase.TheVariants.{Settled, Waiting}
-use Rattle.bd_model.specs.declared.answer.Answer.TheVariants.{Restored, Expired, Scrubbed, Listed, Soaked}
+use Rattle.bd_model.specs.declared.answer.Answer.TheVariants.{Arranged, BackedUp, Expired, FullExtents, Listed, Restored, Scrubbed, Soaked}
 use Rattle.bd_catalog.specs.Catalogue.{retained_in}
 use Rattle.bd_catalog.specs.Opening.{Found, opened}
 use Rattle.bd_catalog.specs.Standing.{StandsFor}
 use Rattle.bd_catalog.specs.Agreement.{Agrees}
 use Rattle.bd_catalog.proofs.StandingFound.{opened-found}
 use Rattle.bd_script.specs.Long.{is_long}
-use Rattle.bd_store.specs.Attempts.{IsAnswerOf, ReadsByCommand, Scene, WritesBeside, attempt, WritesByCommand}
+use Rattle.bd_store.specs.Attempts.{IsAnswerOf, ReadsByCommand, Scene, attempt}
 use Rattle.bd_store.specs.Steps.{task, IsNear, KeepsFiles}
 use Rattle.bd_store.specs.Touches.{IsLeanExpiry, WalksTo, arranges_first, waits}
+use Rattle.bd_store.specs.Writes.{IsArrangedFirst, WritesArranging, WritesByCommand, WritesReady, arranges}
 use Rattle.bd_store.specs.declared.fault.StoreFault.{StoreFault}
 use Rattle.bd_store.specs.declared.fault.StoreFault.TheVariants.{SourceFault as StoreSource, TargetFault as StoreTarget, DiskFault as StoreDisk, Damaged as StoreDamaged, OutOfMemory as StoreMemory}
 use Rattle.bd_session.specs.Drops.{ArrangesFirst, Drops}
@@ -38,26 +39,41 @@ use Rattle.bd_session.specs.Ends.{IsMetBy, end_of}
 use Rattle.bd_session.specs.Keeping.{IsQuiet}
 use Rattle.bd_session.proofs.Dropping.{drops_oldest}
 
-beside_beyond : {found : Found} {old new : History} → WritesBeside found old new → WritesOnly (λ place. 64 ≤ place) old new
-beside_beyond writes = made_both (writes_wider _ (λ place beside. beside.begins) writes.first) (writes_wider _ (λ place beside. beside.begins) writes.second)
-
 -- no command writes in the superblock
-pub writes_beyond : (found : Found) (command : Command) {old new : History} → WritesByCommand found command old new → WritesOnly (λ place. 64 ≤ place) old new
-writes_beyond found (Backup name) writes = beside_beyond writes
-writes_beyond found (Restore v name) writes = nothing_within _ writes
-writes_beyond found Expire writes = beside_beyond writes
-writes_beyond found Reorganise writes = writes_wider _ (λ place beside. beside.begins) writes
-writes_beyond found Scrub writes = nothing_within _ writes
-writes_beyond found Listing writes = nothing_within _ writes
+ready_beyond : (found : Found) (command : Command) {old new : History} → WritesReady found command old new → WritesOnly (λ place. 64 ≤ place) old new
+ready_beyond found (Backup name) writes = writes_wider _ (λ place unowned. unowned.begins) writes
+ready_beyond found (Restore v name) writes = nothing_within _ writes
+ready_beyond found Expire writes = writes_wider _ (λ place unowned. unowned.begins) writes
+ready_beyond found Reorganise writes = nothing_within _ writes
+ready_beyond found Scrub writes = nothing_within _ writes
+ready_beyond found Listing writes = nothing_within _ writes
+
+first_beyond : (held : ℕ) (found : Found) (command : Command) {old new : History} → IsArrangedFirst held found command old new → WritesOnly (λ place. 64 ≤ place) old new
+first_beyond held found command is = made_both (writes_wider _ (λ place beside. beside.begins) is.first) (ready_beyond is.arranged command is.second)
+
+arranging_beyond : (held : ℕ) (found : Found) (command : Command) (result : Result Answer StoreFault) {old new : History} → WritesArranging held found command old new result → WritesOnly (λ place. 64 ≤ place) old new
+arranging_beyond held found command (Ok (BackedUp version bytes chunks fresh need)) is = first_beyond held found command is
+arranging_beyond held found command (Ok (FullExtents counted free room)) is = first_beyond held found command is
+arranging_beyond held found command (Ok (Arranged owned free)) is = first_beyond held found command is
+arranging_beyond held found command (Ok (Expired version extents)) is = first_beyond held found command is
+arranging_beyond held found command (Err StoreSource) is = first_beyond held found command is
+arranging_beyond held found command _ is = ⊎_elim (λ first. first_beyond held found command first) (λ writes. writes_wider _ (λ place beside. beside.begins) writes) is
+
+pub writes_beyond : {held : ℕ} (found : Found) (command : Command) {result : Result Answer StoreFault} {old new : History} → WritesByCommand held found command old new result → WritesOnly (λ place. 64 ≤ place) old new
+writes_beyond {held} found command {result} {old} {new} writes =
+    elim (arranges found command) as (λ b. arranges found command ≡ b → WritesOnly (λ place. 64 ≤ place) old new) [
+      | true ↦ λ is. arranging_beyond held found command result (writes.arranging is)
+      | false ↦ λ no. ready_beyond found command (writes.ready no)
+    ] refl
 
 -- restores and lists write nothing
-pub quiet_writes : (found : Found) (command : Command) {old new : History} → IsQuiet command → WritesByCommand found command old new → WritesNothing old new
+pub quiet_writes : {held : ℕ} (found : Found) (command : Command) {result : Result Answer StoreFault} {old new : History} → IsQuiet command → WritesByCommand held found command old new result → WritesNothing old new
 quiet_writes found (Backup name) quiet writes = absurd quiet
-quiet_writes found (Restore v name) quiet writes = writes
+quiet_writes found (Restore v name) quiet writes = writes.ready refl
 quiet_writes found Expire quiet writes = absurd quiet
 quiet_writes found Reorganise quiet writes = absurd quiet
 quiet_writes found Scrub quiet writes = absurd quiet
-quiet_writes found Listing quiet writes = writes
+quiet_writes found Listing quiet writes = writes.ready refl
 
 -- each name has what it had, but for the target of a restore
 pub target_or_kept : (command : Command) (old new : FileMap) (name : List ℕ) → KeepsFiles command old new → ((v : ℕ) × (command ≡ Restore v name)) ⊎ (map.get new name ≡ map.get old name)

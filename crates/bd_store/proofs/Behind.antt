@@ -1,5 +1,5 @@
 -- What a command does behind making the store ready, as it is seen from before that.
-use Rattle.std.proofs.Common.{◌≡◌, ◌∙◌, inl, inr, ◌≤◌, ℕ, ◌+◌, ◌-◌, ◌∷◌, ◌++◌, Bool, true, false, List, [], length, append-nil, refl, sym, ap, subst, arith, nat_le, cond, eqb, Some, None, Result, Ok, le-leb}
+use Rattle.std.proofs.Common.{◌≡◌, ◌≢◌, ◌∙◌, inl, ◌≤◌, ℕ, ◌+◌, ◌-◌, ◌∷◌, ◌++◌, Bool, true, false, List, [], length, append-nil, refl, sym, ap, subst, arith, nat_le, cond, eqb, Some, None, Result, Ok, le-leb}
 use Rattle.bd_disk.specs.History.{History, contents}
 use Rattle.bd_disk.specs.Looks.{LooksOnlyAt}
 use Rattle.bd_disk.specs.Made.{LeavesSince, WritesNothing, WritesOnly}
@@ -25,16 +25,17 @@ use Rattle.bd_catalog.specs.Standing.{Stands, StandsFor}
 use Rattle.bd_catalog.proofs.Standing.{stands-shows}
 use Rattle.bd_recipe.specs.Marked.{Marked}
 use Rattle.bd_volume.specs.Named.{IsBeside}
-use Rattle.bd_arrange.specs.Arranged.{IsSettledFrom, KeepsStates}
-use Rattle.bd_store.specs.Attempts.{IsAnswerOf, KeepsVersions, WritesBeside, WritesByCommand}
-use Rattle.bd_store.specs.Following.{EndsReady, MakesReady, WritesReady}
+use Rattle.bd_arrange.specs.Arranged.{IsArrangedFrom, IsSettledFrom, KeepsStates}
+use Rattle.bd_store.specs.Attempts.{IsAnswerOf, KeepsVersions}
+use Rattle.bd_store.specs.Following.{EndsReady, MakesReady}
 use Rattle.bd_store.specs.Newest.{newest_places}
 use Rattle.bd_store.specs.Shown.{SameVersions, Shown}
 use Rattle.bd_store.specs.Steps.{task, IsOneStep, LeadsTo, MakesStep, StandsOnEitherSide, Task}
 use Rattle.bd_store.specs.Stops.{IsSafeAtStops, IsSureBy}
-use Rattle.bd_store.specs.Touches.{AnswersArranging, AnswersByNumbers, AnswersExpiry, BackupReads, arranges_first, waits}
+use Rattle.bd_store.specs.Touches.{AnswersArranging, AnswersByNumbers, AnswersExpiry, BackupReads, arranges_first, is_waiting, waits}
+use Rattle.bd_store.specs.Writes.{IsArrangedFirst, IsUnowned, WritesArranging, WritesByCommand, WritesReady, arranges}
 use Rattle.bd_store.specs.declared.fault.StoreFault.{StoreFault}
-use Rattle.bd_store.proofs.Ending.{by_end, first_two, not_both}
+use Rattle.bd_store.proofs.Ending.{by_end, first_two, first_waits, not_both, rests_not}
 use Rattle.bd_store.proofs.Nearing.{near_state}
 
 -- ---- the answer
@@ -125,26 +126,56 @@ module _ (command : Command) (old mid new : Shown) (makes : MakesReady old.found
 
 -- ---- what is written and read
 
-module _ (found mid : Found) (h0 h1 h2 : History) (same : IsSettledFrom found mid) (as_it_was : found.catalogue.phase ≡ Settled → mid ≡ found) (quiet : found.catalogue.phase ≡ Settled → WritesNothing h0 h1) (agrees : Agrees mid h1) (first : WritesOnly (IsBeside found) h0 h1) where
-  beside : WritesOnly (IsBeside mid) h1 h2 → WritesBeside found h0 h2
-  beside second = by found.catalogue.phase refl where
-    by : (phase : Phase) → found.catalogue.phase ≡ phase → WritesBeside found h0 h2
-    by Settled at = record {
-      arranged = found;
-      middle = h0;
-      first = made_none _ h0;
-      between = inl (refl, refl);
-      second = made_both (nothing_within _ (quiet at)) (subst (λ (f : Found). WritesOnly (IsBeside f) h1 h2) (as_it_was at) second);
-    }
-    by (Waiting cursor) at = record { arranged = mid; middle = h1; first = first; between = inr (ap waits at, same, agrees); second = second }
+-- a store that isn't settled waits
+pub settled_or_waits : (found : Found) → is_waiting found ≡ false → found.catalogue.phase ≡ Settled
+settled_or_waits found = by found.catalogue.phase where
+  by : (phase : Phase) → waits phase ≡ false → phase ≡ Settled
+  by Settled rests = refl
+  by (Waiting cursor) rests = absurd (cc rests)
 
-  pub writes_before : (command : Command) → MakesReady found command → WritesReady mid command h1 h2 → WritesByCommand found command h0 h2
-  writes_before (Backup name) makes second = beside second
-  writes_before Expire makes second = beside second
-  writes_before Reorganise makes second = made_both first (nothing_within _ second)
-  writes_before (Restore v name) makes second = absurd makes
-  writes_before Scrub makes second = absurd makes
-  writes_before Listing makes second = absurd makes
+-- a command that arranges is of a store that waits
+pub arranges_waiting : (found : Found) (command : Command) → arranges found command ≡ true → is_waiting found ≡ true
+arranges_waiting found (Backup name) is = is
+arranges_waiting found Expire is = first_waits found is
+arranges_waiting found Reorganise is = is
+arranges_waiting found (Restore v name) is = absurd (cc is)
+arranges_waiting found Scrub is = absurd (cc is)
+arranges_waiting found Listing is = absurd (cc is)
+
+-- of those that make the store ready a backup alone may find it settled
+pub ready_settled : (found : Found) (command : Command) → MakesReady found command → arranges found command ≡ false → (found.catalogue.phase ≡ Settled) × ((name : List ℕ) × (command ≡ Backup name))
+ready_settled found (Backup name) makes rests = (settled_or_waits found rests, (name, refl))
+ready_settled found Expire makes rests = not_both makes rests
+ready_settled found Reorganise makes rests = not_both makes rests
+ready_settled found (Restore v name) makes rests = absurd makes
+ready_settled found Scrub makes rests = absurd makes
+ready_settled found Listing makes rests = absurd makes
+
+module _ (held : ℕ) (found mid : Found) (h0 h1 h2 : History) (command : Command) (makes : MakesReady found command) (second : WritesReady mid command h1 h2) where
+  -- a settled store was only read before
+  written_settled : (found.catalogue.phase ≡ Settled → mid ≡ found) → (found.catalogue.phase ≡ Settled → WritesNothing h0 h1) → arranges found command ≡ false → WritesReady found command h0 h2
+  written_settled as_it_was quiet rests =
+      let is = ready_settled found command makes rests in
+      subst (λ c. WritesReady found c h0 h2) (sym is.1.1)
+      (made_both (nothing_within _ (quiet is.0)) (subst (λ (f : Found). WritesOnly (IsUnowned f) h1 h2) (as_it_was is.0) (subst (λ c. WritesReady mid c h1 h2) is.1.1 second)))
+
+  pub writes_before : (result : Result Answer StoreFault) → EndsReady result → (found.catalogue.phase ≡ Settled → mid ≡ found) → (found.catalogue.phase ≡ Settled → WritesNothing h0 h1) →
+      (found.catalogue.phase ≢ Settled → IsArrangedFrom held found mid (contents h0) (contents h1)) → Agrees mid h1 → WritesOnly (IsBeside found) h0 h1 → WritesByCommand held found command h0 h2 result
+  writes_before result ends as_it_was quiet arranged agrees first = record {
+    ready = written_settled as_it_was quiet;
+    arranging = λ is.
+        let waits_so : found.catalogue.phase ≢ Settled = λ settled. rests_not found (arranges_waiting found command is) settled in
+        let whole : IsArrangedFirst held found command h0 h2 = record { arranged = mid; middle = h1; first = first; made = arranged waits_so; agrees = agrees; second = second } in
+        by_end (WritesArranging held found command h0 h2) (record {
+          named = λ version bytes chunks fresh need. whole;
+          full = λ counted free room. whole;
+          expired = λ version extents. whole;
+          arranged = λ owned free. whole;
+          source = whole;
+          disk = inl whole;
+          memory = inl whole;
+        }) result ends;
+  }
 
 -- nothing more was read
 pub then_none : {places : List ℕ} {a b c : History} → ReadsOnly places a b → ReadsOnly [] b c → ReadsOnly places a c

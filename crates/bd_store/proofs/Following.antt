@@ -17,7 +17,7 @@ use Rattle.bd_model.specs.declared.command.Command.TheVariants.{Backup, Restore,
 use Rattle.bd_catalog.specs.Agreement.{Agrees}
 use Rattle.bd_catalog.specs.Opening.{Found}
 use Rattle.bd_recipe.specs.Marked.{Marked}
-use Rattle.bd_store.specs.Attempts.{Beside, scene_beside, Attempt, Meets, Scene, attempt, DamageByCommand, GivesByCommand, HeadersByAnswer, HeadersHold, LooksByCommand, NewestEnds, ReadsByCommand, RecipeByCommand}
+use Rattle.bd_store.specs.Attempts.{Beside, scene_beside, Attempt, Meets, Scene, attempt, DamageByCommand, GivesByCommand, LooksByCommand, NewestEnds, ReadsByCommand, RecipeByCommand}
 use Rattle.bd_store.specs.Following.{Follows, IsMadeReady, IsMadeReadyOn, MakesReady}
 use Rattle.bd_store.specs.Naming.{NamesArranging}
 use Rattle.bd_store.specs.Readying.{IsReady, Readies, ReadiesOn}
@@ -95,19 +95,6 @@ module _ (disk files : Type 0) (command : Command) (before : Scene) (mid : Found
     recipe told Scrub may = absurd may
     recipe told Listing may = absurd may
 
-    headers : disk → HeadersByAnswer whole result
-    headers told =
-        let hold : HeadersHold whole = (readied told).readies.answer.headers in
-        by_end (HeadersByAnswer whole) (record {
-          named = λ version bytes chunks fresh need. hold;
-          full = λ counted free held. hold;
-          expired = λ version extents first. hold;
-          arranged = λ owned free. hold;
-          source = hold;
-          disk = tt;
-          memory = tt;
-        }) result follows.ends
-
     refuses_not : IsByNumbers result → ⊥
     refuses_not = by_end (λ e. IsByNumbers e → ⊥) (record {
       named = λ version bytes chunks fresh need is. is;
@@ -151,12 +138,12 @@ module _ (disk files : Type 0) (command : Command) (before : Scene) (mid : Found
       untouched = λ refused. absurd (refuses_not refused);
       on_disk = λ told. record {
         agrees = (follows.on_disk told).agrees;
-        writes = writes_before before.store.found mid before.disk h1 after.disk ready.settled ready.same (readied told).readies.answer.writes (readied told).readies.agrees (readied told).writes command makes (follows.on_disk told).writes;
+        writes = writes_before before.store.held before.store.found mid before.disk h1 after.disk command makes (follows.on_disk told).writes result follows.ends ready.same (readied told).readies.quiet
+            (readied told).readies.answer.arranged (readied told).readies.agrees (readied told).writes;
         reads = reads told command makes;
         looks = looks told command makes;
         damage = damage command makes;
         recipe = recipe told command makes;
-        headers = headers told;
       };
       on_files = λ told. record { beside = (follows.on_files told).beside; strays = (follows.on_files told).strays; finished = (follows.on_files told).finished };
       on_both = λ told files_tell. record {

@@ -5,7 +5,7 @@ use Rattle.std.specs.Prelude.{◌==◌, IsTrue, OnOk}
 use Rattle.std.specs.Result.{is_err}
 use Rattle.bd_disk.specs.Calls.{HasCause, Rose}
 use Rattle.bd_disk.specs.History.{History, contents}
-use Rattle.bd_disk.specs.Made.{LeavesNow, LeavesSince, WritesOnly}
+use Rattle.bd_disk.specs.Made.{LeavesNow, LeavesSince}
 use Rattle.bd_disk.specs.Runs.{Writes}
 use Rattle.bd_disk.specs.Trace.{ReadsOnly}
 use Rattle.bd_disk.specs.declared.disk.Disk.{Ghosts as DiskGhosts}
@@ -39,20 +39,19 @@ use Rattle.bd_catalog.proofs.Standing.{stands-shows}
 use Rattle.bd_catalog.proofs.StandingAnswers.{IsAnswered}
 use Rattle.bd_catalog.proofs.StandingExpired.{expired-count, expired_answered}
 use Rattle.bd_catalog.proofs.StandingNamed.{settled_with_few}
-use Rattle.bd_volume.specs.Named.{IsBeside}
-use Rattle.bd_volume.proofs.Beside.{half_beside}
-use Rattle.bd_arrange.specs.Arranged.{IsSettledFrom}
-use Rattle.bd_store.specs.Attempts.{Beside, Meets, Scene, WritesBeside, attempt, scene_beside}
+use Rattle.bd_store.specs.Attempts.{Beside, Meets, Scene, attempt, scene_beside}
 use Rattle.bd_store.specs.Causes.{counts}
 use Rattle.bd_store.specs.Following.{EndsReady, Follows}
 use Rattle.bd_store.specs.Kept.{IsKept}
 use Rattle.bd_store.specs.Steps.{Answered, IsOneStep, LeadsTo, StandsOnEitherSide, Task, task}
 use Rattle.bd_store.specs.Stops.{IsSafeAtStops}
 use Rattle.bd_store.specs.Touches.{AnswersExpiry, ExpiryReads, arranges_first, is_waiting, waits}
+use Rattle.bd_store.specs.Writes.{WritesByCommand}
 use Rattle.bd_store.specs.declared.fault.StoreFault.{StoreFault}
 use Rattle.bd_store.specs.declared.fault.StoreFault.TheVariants.{Damaged, DiskFault, OutOfMemory, SourceFault, TargetFault}
 use Rattle.bd_store.proofs.Ending.{by_end, not_both}
 use Rattle.bd_store.proofs.Refusing.{Refuses}
+use Rattle.bd_store.proofs.Unowned.{half_unowned}
 
 -- an expiry that fits doesn't arrange first
 pub lean : (found : Found) → FitsExpire found.catalogue → arranges_first found ≡ false
@@ -170,13 +169,11 @@ module _ {D : Type 0} (d : DiskGhosts D) (beside : Beside) (found : Found) (held
   abbrev after_it : Found → Bool → Scene
   after_it now worn = scene_beside d beside (record { found = now; held = held; worn = worn }) disk1
 
-  writes_beside : d.tells → WritesBeside found h0 h1
-  writes_beside told = record {
-    arranged = found;
-    middle = h0;
-    first = made_none _ h0;
-    between = inl (refl, refl);
-    second = writes_wider _ (half_beside found (number-small found h0 (agrees told))) (written writes told);
+  -- it doesn't arrange, and writes the half that isn't the newest
+  writes_half : d.tells → (result : Result Answer StoreFault) → WritesByCommand held found Expire h0 h1 result
+  writes_half told result = record {
+    ready = λ _. writes_wider _ (half_unowned found (number-small found h0 (agrees told))) (written writes told);
+    arranging = λ first. not_both first (lean found fits);
   }
 
   pub expired_meets : (version extents : ℕ) → version ≡ oldest_in found.catalogue → extents ≡ length (expired found.catalogue) → d.faults disk1 ≡ d.faults disk0 → (d.tells → IsMade found (after_step found Dropping) h0 h1) →
@@ -196,12 +193,11 @@ module _ {D : Type 0} (d : DiskGhosts D) (beside : Beside) (found : Found) (held
     untouched = λ no. absurd no;
     on_disk = λ told. record {
       agrees = λ _. (made told).agrees;
-      writes = writes_beside told;
+      writes = writes_half told (Ok (Expired version extents));
       reads = λ _. (record { catalogue = refl; made = made told }, nothing_read writes told);
       looks = looks_from _ {places = []} tt (nothing_read writes told);
       damage = tt;
       recipe = λ first. not_both first (lean found fits);
-      headers = λ first. not_both first (lean found fits);
     };
     on_files = λ told. record { beside = refl; strays = record { later = omega arith; missing = inl refl }; finished = tt };
     on_both = λ told files_tell. record {
@@ -227,12 +223,11 @@ module _ {D : Type 0} (d : DiskGhosts D) (beside : Beside) (found : Found) (held
     untouched = λ no. absurd no;
     on_disk = λ told. record {
       agrees = λ no. absurd (cc no);
-      writes = writes_beside told;
+      writes = writes_half told (Err DiskFault);
       reads = λ _. nothing_read writes told;
       looks = looks_from _ {places = []} tt (nothing_read writes told);
       damage = tt;
       recipe = λ first. not_both first (lean found fits);
-      headers = tt;
     };
     on_files = λ told. record { beside = refl; strays = record { later = omega arith; missing = inl refl }; finished = tt };
     on_both = λ told files_tell. record {
@@ -276,13 +271,6 @@ ends_lean found (Err DiskFault) rests some is = tt
 ends_lean found (Err OutOfMemory) rests some is = tt
 ends_lean found (Err (Damaged damage)) rests some is = not_both is rests
 
--- a store that doesn't wait is written beside what is found
-quiet_first : (found : Found) (old new : History) → is_waiting found ≡ false → WritesBeside found old new → WritesOnly (IsBeside found) old new
-quiet_first found old new rests is = by is.between where
-  by : ((is.arranged ≡ found) × (is.middle ≡ old)) ⊎ ((is_waiting found ≡ true) × IsSettledFrom found is.arranged × Agrees is.arranged is.middle) → WritesOnly (IsBeside found) old new
-  by (inl same) = subst (λ (f : Found). WritesOnly (IsBeside f) old new) same.0 (subst (λ h. WritesOnly (IsBeside is.arranged) h new) same.1 is.second)
-  by (inr waited) = not_both waited.0 rests
-
 -- what it promises of a settled store is what it does then
 pub lean_follows : {disk files : Type 0} {result : Result Answer StoreFault} {before after : Scene} → before.store.found.catalogue.phase ≡ Settled → 1 ≤ retained_in before.store.found.catalogue →
     Meets disk files (attempt Expire result before after) → Follows disk files (attempt Expire result before after)
@@ -290,7 +278,6 @@ lean_follows {disk} {files} {result} {before} {after} settled some meets =
     let found : Found = before.store.found in
     let no : arranges_first found ≡ false = lean found (record { some = some; arranged = inl settled }) in
     let ends : EndsReady result = ends_lean found result no some meets.answer in
-    let rests : is_waiting found ≡ false = ap waits settled in
     record {
       bytes = meets.bytes;
       cause = meets.cause;
@@ -301,7 +288,7 @@ lean_follows {disk} {files} {result} {before} {after} settled some meets =
           let is = meets.on_disk told in
           record {
             agrees = is.agrees;
-            writes = quiet_first found before.disk after.disk rests is.writes;
+            writes = is.writes.ready no;
             reads = by_end (λ e. ExpiryReads found after.store.found before.disk after.disk e → ReadsOnly [] before.disk after.disk) (record {
               named = λ version bytes chunks fresh need read. (read no).1;
               full = λ counted free held read. (read no).1;

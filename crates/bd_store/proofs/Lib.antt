@@ -20,3 +20,4 @@ pub mod Staying
 pub mod Readying
 pub mod TakingIn
 pub mod LeanExpiry
+pub mod Unowned

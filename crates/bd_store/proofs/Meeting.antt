@@ -8,11 +8,12 @@ use Rattle.bd_model.specs.declared.command.Command.{Command}
 use Rattle.bd_model.specs.declared.command.Command.TheVariants.{Backup, Restore, Expire, Reorganise, Scrub, List as Listing}
 use Rattle.bd_catalog.specs.Agreement.{Agrees}
 use Rattle.bd_catalog.specs.Opening.{Found}
-use Rattle.bd_store.specs.Attempts.{Scene, Attempt, attempt, DamageByCommand, FinishesByCommand, GivesByCommand, HeadersByAnswer, IsAnswerOf, KeepsVersions, LooksByCommand, Meets, ReadsByCommand, RecipeByCommand, SettlesBy, TellsFigures, WritesBeside, WritesByCommand}
+use Rattle.bd_store.specs.Attempts.{Scene, Attempt, attempt, DamageByCommand, FinishesByCommand, GivesByCommand, IsAnswerOf, KeepsVersions, LooksByCommand, Meets, ReadsByCommand, RecipeByCommand, SettlesBy, TellsFigures}
 use Rattle.bd_store.specs.Causes.{ByCount}
 use Rattle.bd_store.specs.Shown.{Shown, SameVersions}
 use Rattle.bd_store.specs.Steps.{IsOneStep, KeepsFiles}
 use Rattle.bd_store.specs.Stops.{IsSafeAtStops}
+use Rattle.bd_store.specs.Writes.{WritesArranging, WritesReady, arranges}
 use Rattle.bd_store.specs.declared.fault.StoreFault.{StoreFault}
 use Rattle.bd_store.specs.declared.fault.StoreFault.TheVariants.{DiskFault, OutOfMemory}
 
@@ -21,13 +22,10 @@ pub same_versions : (s : Shown) → SameVersions s s
 same_versions s = record { sizes = refl; base = refl; newest = refl; versions = refl; held = refl }
 
 -- nothing is written
-beside_none : (found : Found) (h : History) → WritesBeside found h h
-beside_none found h = record { arranged = found; middle = h; first = made_none _ h; between = inl (refl, refl); second = made_none _ h }
-
-writes_none : (found : Found) (command : Command) (h : History) → WritesByCommand found command h h
-writes_none found (Backup name) h = beside_none found h
+writes_none : (found : Found) (command : Command) (h : History) → WritesReady found command h h
+writes_none found (Backup name) h = made_none _ h
 writes_none found (Restore version name) h = made_none _ h
-writes_none found Expire h = beside_none found h
+writes_none found Expire h = made_none _ h
 writes_none found Reorganise h = made_none _ h
 writes_none found Scrub h = made_none _ h
 writes_none found Listing h = made_none _ h
@@ -77,7 +75,7 @@ module _ (command : Command) (result : Result Answer StoreFault) (s : Scene) whe
     pub reads : ReadsByCommand still command
     pub damage : DamageByCommand still command
     pub recipe : RecipeByCommand still command
-    pub headers : HeadersByAnswer still result
+    pub arranging : arranges s.store.found command ≡ true → WritesArranging s.store.held s.store.found command s.disk s.disk result
     pub finished : FinishesByCommand command result s.unfinished
     pub gives : GivesByCommand still command result
 
@@ -99,12 +97,11 @@ module _ (command : Command) (result : Result Answer StoreFault) (s : Scene) whe
     untouched = λ _. refl;
     on_disk = λ told. record {
       agrees = λ _. agrees told;
-      writes = writes_none s.store.found command s.disk;
+      writes = record { ready = λ _. writes_none s.store.found command s.disk; arranging = is.arranging };
       reads = is.reads;
       looks = looks_none command command result s;
       damage = is.damage;
       recipe = is.recipe;
-      headers = is.headers;
     };
     on_files = λ told. record {
       beside = files_stay command s.files;

@@ -37,7 +37,7 @@ use Rattle.bd_recipe.specs.declared.fault.ReadFault.TheVariants.{DiskFault, Dama
 use Rattle.bd_restore.proofs.Standing.{recipe_stands}
 use Rattle.bd_volume.specs.Named.{IsBeside}
 use Rattle.bd_volume.proofs.Copying.{wider_work}
-use Rattle.bd_arrange.specs.Arranged.{AnswersDue, Arranges, ButDiskFault, HasGoodDue, InDue, IsDamageOfDue, IsSettledFrom, KeepsStates}
+use Rattle.bd_arrange.specs.Arranged.{AnswersDue, Arranges, ButDiskFault, InDue, IsArrangedFrom, IsDamageOfDue, IsSettledFrom, KeepsStates}
 use Rattle.bd_arrange.specs.Turns.{due}
 use Rattle.bd_store.specs.Newest.{newest_places, AnswersNewest, IsNewestRecipe}
 use Rattle.bd_store.specs.Readying.{AnswersReady, IsThatDamage, ReadiesOn}
@@ -90,7 +90,7 @@ module _ {D : Type 0} (d : DiskGhosts D) (found : Found) (held : ℕ) (disk0 dis
   unread_arranges told (Damaged damage) answers shape st phase near stands = no_damage told shape st phase near stands damage answers.0 answers.1
   unread_arranges told OutOfMemory answers shape st phase near stands = stands_behind told stands
 
-  unread_answers : d.tells → (fault : ReadFault) → AnswersNewest found (contents h0) (Err fault) → IfDamaged {T = Marked} (Err fault) (λ damage. d.tells → IsSeen found.sizes found.catalogue (contents h0) [] damage h0 h1) → AnswersReady found found h0 h1 (Err fault)
+  unread_answers : d.tells → (fault : ReadFault) → AnswersNewest found (contents h0) (Err fault) → IfDamaged {T = Marked} (Err fault) (λ damage. d.tells → IsSeen found.sizes found.catalogue (contents h0) [] damage h0 h1) → AnswersReady held found found h0 h1 (Err fault)
   unread_answers told DiskFault answers seen = tt
   unread_answers told (Damaged damage) answers seen = inl (record { part = answers.1; seen = seen told })
   unread_answers told OutOfMemory answers seen = tt
@@ -109,6 +109,7 @@ module _ {D : Type 0} (d : DiskGhosts D) (found : Found) (held : ℕ) (disk0 dis
       d.tells → ReadiesOn held found found h0 h1 (Err fault)
   unread_told fault answers seen told = record {
     answer = unread_answers told fault (answers told) seen;
+    quiet = λ _. quiet told;
     agrees = agrees_but (Agrees found h1) fault (agrees_behind told);
     damage = λ damage some broken. unread_that fault (answers told) damage broken;
     states = record {
@@ -129,15 +130,15 @@ module _ {D : Type 0} (d : DiskGhosts D) (found : Found) (held : ℕ) (disk0 dis
     -- the store was arranged
     module _ (works : Works d (InDue found) (IsBeside found) disk1 disk2) where
       pub arranged_told : 1 ≤ found.sizes.extent → (d.tells → ReadsOnly (newest_places found) h0 h1) → (found.catalogue.phase ≡ Settled → disk2 ≡ disk1) → IsSettledFrom found mid → (d.tells → Agrees mid h2) →
-          (d.tells → HasGoodDue found (contents h1)) → (d.tells → KeepsStates {T = Unit {0}} held h1 h2 (Ok tt)) → d.tells → ReadiesOn held found mid h0 h2 (Ok neighbour)
-      arranged_told some places still same agree headers states told = record {
+          (d.tells → AnswersDue held found mid h1 h2 (Ok tt)) → (d.tells → KeepsStates {T = Unit {0}} held h1 h2 (Ok tt)) → d.tells → ReadiesOn held found mid h0 h2 (Ok neighbour)
+      arranged_told some places still same agree answers states told = record {
         answer = record {
           recipe = newest_stays found mid neighbour.entries some (agrees_behind told) (work_written works told) same (recipe_behind told (is told));
           found_before = is told;
-          headers = subst (HasGoodDue found) (unchanged (quiet told)) (headers told);
+          arranged = λ waits. subst (λ image. IsArrangedFrom held found mid image (contents h2)) (unchanged (quiet told)) (answers told waits);
           reads = λ settled. subst (λ disk. ReadsOnly (newest_places found) h0 (d.history disk)) (sym (still settled)) (places told);
-          writes = λ settled. subst (λ disk. WritesNothing h0 (d.history disk)) (sym (still settled)) (quiet told);
         };
+        quiet = λ settled. subst (λ disk. WritesNothing h0 (d.history disk)) (sym (still settled)) (quiet told);
         agrees = agree told;
         damage = λ damage some broken. was_good told damage some broken;
         states = record {
@@ -147,7 +148,7 @@ module _ {D : Type 0} (d : DiskGhosts D) (found : Found) (held : ℕ) (disk0 dis
       }
 
     -- it wasn't
-    due_answers : d.tells → (fault : ReadFault) → AnswersDue found h1 h2 (Err fault) → AnswersReady found mid h0 h2 (Err fault)
+    due_answers : d.tells → (fault : ReadFault) → AnswersDue held found mid h1 h2 (Err fault) → AnswersReady held found mid h0 h2 (Err fault)
     due_answers told DiskFault answers = tt
     due_answers told (Damaged damage) answers =
         let there : IsDamageOfDue found damage h1 h2 = answers in
@@ -174,10 +175,11 @@ module _ {D : Type 0} (d : DiskGhosts D) (found : Found) (held : ℕ) (disk0 dis
     due_arranges (Damaged damage) shape st phase so = so
     due_arranges OutOfMemory shape st phase so = so
 
-    pub unarranged_told : (fault : ReadFault) → (d.tells → ButDiskFault {T = Unit {0}} (Err fault) (Agrees mid h2)) → (d.tells → AnswersDue found h1 h2 (Err fault)) → (d.tells → KeepsStates {T = Unit {0}} held h1 h2 (Err fault)) →
-        d.tells → ReadiesOn held found mid h0 h2 (Err fault)
-    unarranged_told fault agree answers states told = record {
+    pub unarranged_told : (fault : ReadFault) → (found.catalogue.phase ≡ Settled → disk2 ≡ disk1) → (d.tells → ButDiskFault {T = Unit {0}} (Err fault) (Agrees mid h2)) → (d.tells → AnswersDue held found mid h1 h2 (Err fault)) →
+        (d.tells → KeepsStates {T = Unit {0}} held h1 h2 (Err fault)) → d.tells → ReadiesOn held found mid h0 h2 (Err fault)
+    unarranged_told fault still agree answers states told = record {
       answer = due_answers told fault (answers told);
+      quiet = λ settled. subst (λ disk. WritesNothing h0 (d.history disk)) (sym (still settled)) (quiet told);
       agrees = agrees_due fault (Agrees mid h2) (agree told);
       damage = λ damage some broken. that_due told fault damage some broken;
       states = record {

@@ -1,6 +1,5 @@
 -- An arranging that is answered with the figures of a settled store is its step, and safe at every stop.
-use Rattle.std.proofs.Common.{◌≡◌, ◌∙◌, ℕ, false, List, [], ◌∷◌, inl, refl, sym, ap, subst, arith, Some, Ok}
-use Rattle.std.specs.Prelude.{filter, map}
+use Rattle.std.proofs.Common.{◌≡◌, ◌∙◌, ℕ, false, inl, refl, sym, ap, subst, arith, Some, Ok}
 use Rattle.bd_disk.specs.History.{History, contents}
 use Rattle.bd_disk.proofs.Frames.{made_none}
 use Rattle.bd_disk.proofs.Traces.{reads_none}
@@ -15,14 +14,9 @@ use Rattle.bd_model.specs.declared.layout.Phase.{Phase}
 use Rattle.bd_model.specs.declared.layout.Phase.TheVariants.{Settled}
 use Rattle.bd_model.specs.declared.shape.Shape.{Shape}
 use Rattle.bd_catalog.specs.Agreement.{Agrees}
-use Rattle.bd_catalog.specs.Catalogue.{OpenEntry}
 use Rattle.bd_catalog.specs.Opening.{Found}
-use Rattle.bd_catalog.specs.Rows.{open_row}
 use Rattle.bd_catalog.specs.Standing.{StandsFor}
 use Rattle.bd_catalog.proofs.Standing.{stands-shows}
-use Rattle.bd_volume.specs.Headers.{HasGoodHeaders}
-use Rattle.bd_arrange.specs.Arranged.{HasGoodDue}
-use Rattle.bd_arrange.specs.Turns.{due, is_due}
 use Rattle.bd_store.specs.Attempts.{Meets, Scene, attempt}
 use Rattle.bd_store.specs.Following.{Follows}
 use Rattle.bd_store.specs.Shown.{AreFiguresOf, HasFigures, Shown}
@@ -32,16 +26,6 @@ use Rattle.bd_store.specs.declared.figures.Figures.{Figures}
 use Rattle.bd_store.proofs.Ending.{not_both, rests_not}
 use Rattle.bd_store.proofs.Meeting.{meets_untouched, same_versions}
 use Rattle.bd_store.proofs.Refusing.{Refuses, refused_stops}
-
--- in a settled store nothing is due
-none_due : (newest : ℕ) (categories : List OpenEntry) → filter (is_due newest Settled) categories ≡ []
-none_due newest [] = refl
-none_due newest (a ∷ categories) = none_due newest categories
-
-pub settled_due : (found : Found) (image : List ℕ) → found.catalogue.phase ≡ Settled → HasGoodDue found image
-settled_due found image settled =
-    let none : due found.catalogue ≡ [] = ap (λ p. filter (is_due found.catalogue.newest p) found.catalogue.actives) settled ∙ none_due found.catalogue.newest found.catalogue.actives in
-    subst (λ categories. HasGoodHeaders found.sizes image (map open_row categories)) (sym none) (record { each = refl })
 
 module _ (store : Shown) (h : History) (files : FileMap) (figures : Figures) (agrees : Agrees store.found h) (settled : store.found.catalogue.phase ≡ Settled) (has : HasFigures store figures) (are : AreFiguresOf store figures) where
   abbrev answer : Answer
@@ -109,7 +93,7 @@ module _ {disk files : Type 0} (s : Scene) (figures : Figures) (sound : s.store.
         reads = λ _. refl;
         damage = tt;
         recipe = λ waiting. rests_not s.store.found waiting settled;
-        headers = settled_due s.store.found (contents s.disk) settled;
+        arranging = λ waiting. rests_not s.store.found waiting settled;
         finished = tt;
         gives = tt;
       })

@@ -33,7 +33,6 @@ use Rattle.bd_catalog.specs.Shown.{version_entry}
 use Rattle.bd_catalog.specs.Steps.{committed, fresh_entries, InOtherHalf, IsMade, LeavesEither}
 use Rattle.bd_catalog.proofs.Committing.{number-small}
 use Rattle.bd_catalog.proofs.Staged.{agrees_staged}
-use Rattle.bd_catalog.proofs.StandingFound.{opened-found}
 use Rattle.bd_intake.specs.declared.staged.Staged.{Staged}
 use Rattle.bd_intake.specs.declared.fault.IntakeFault.{IntakeFault}
 use Rattle.bd_intake.specs.declared.fault.IntakeFault.TheVariants.{Full, SourceFault as SourceFailed, DiskFault as DiskFailed, OutOfMemory as MemoryFailed}
@@ -42,8 +41,6 @@ use Rattle.bd_intake.specs.Causes.{FailsByCount}
 use Rattle.bd_intake.specs.Filling.{CountsMissing, LeavesFiles}
 use Rattle.bd_intake.specs.Firsts.{new_by_mark}
 use Rattle.bd_intake.specs.Places.{InFree}
-use Rattle.bd_volume.specs.Named.{IsBeside}
-use Rattle.bd_volume.proofs.Beside.{free_beside, half_beside}
 use Rattle.bd_store.specs.Attempts.{Scene, attempt, scene, KeepsVersions, SettlesBy, TellsFigures}
 use Rattle.bd_store.specs.Causes.{counts, FailsOnlyByCount, StraysOnlyBy}
 use Rattle.bd_store.specs.Following.{EndsReady, Follows}
@@ -52,6 +49,7 @@ use Rattle.bd_store.specs.Naming.{refusal_of, with_room, AnswersNaming}
 use Rattle.bd_store.specs.Newest.{IsNewestRecipe}
 use Rattle.bd_store.specs.Shown.{HasFree, SameVersions, Shown}
 use Rattle.bd_store.specs.Touches.{is_full, AnswersByNumbers}
+use Rattle.bd_store.specs.Writes.{IsUnowned}
 use Rattle.bd_store.specs.declared.fault.StoreFault.{StoreFault}
 use Rattle.bd_store.specs.declared.fault.StoreFault.TheVariants.{DiskFault, OutOfMemory}
 use Rattle.bd_store.proofs.Ending.{not_both}
@@ -59,6 +57,7 @@ use Rattle.bd_store.proofs.Meeting.{memory_step, same_versions}
 use Rattle.bd_store.proofs.OneCall.{failed_one_step, failed_safe, made_one_step, made_safe, refused_one_step, refused_safe}
 use Rattle.bd_store.proofs.Quiet.{safe_untouched}
 use Rattle.bd_store.proofs.Refusing.{backup_goes_on}
+use Rattle.bd_store.proofs.Unowned.{free_unowned, half_unowned}
 
 -- a settled store in which a number and a version are left, and the disk that it is of, where that tells
 pub record Begun (found : Found) (space : Allotment) (told : Type 0) (h : History) : Type 0 where
@@ -167,10 +166,8 @@ module _ {D F : Type 0} (d : DiskGhosts D) (f : FilesGhosts F) (found : Found) (
   small : d.tells → found.half.number ≤ 1
   small told = number-small found h1 (begun.agrees told)
 
-  beside : 1 ≤ found.sizes.extent → d.tells → (result : Result Staged IntakeFault) → TookIn result → WritesOnly (IsBeside found) h1 h2
-  beside some told result took =
-      writes_wider (IsBeside found)
-      (λ place inside. free_beside found (small told) some (opened-found (contents h1) found (begun.agrees told).opens).obeys space begun.count begun.owners inside.extent place inside.free inside.within) (written took.disk told)
+  unowned : d.tells → (result : Result Staged IntakeFault) → TookIn result → WritesOnly (IsUnowned found) h1 h2
+  unowned told result took = writes_wider (IsUnowned found) (free_unowned found (small told) space begun.count begun.owners) (written took.disk told)
 
   -- ---- the source wasn't taken in
 
@@ -209,9 +206,9 @@ module _ {D F : Type 0} (d : DiskGhosts D) (f : FilesGhosts F) (found : Found) (
   with_room_is DiskFailed free has took = took
   with_room_is MemoryFailed free has took = took
 
-  follows_refused : 1 ≤ found.sizes.extent → (fault : IntakeFault) (worn : Bool) → TookIn (Err fault) → TellsFigures (record { found = found; held = held; worn = worn }) (refusal_of fault) → ((worn ≡ true) ↔ (refusal_of fault ≡ Err DiskFault)) →
+  follows_refused : (fault : IntakeFault) (worn : Bool) → TookIn (Err fault) → TellsFigures (record { found = found; held = held; worn = worn }) (refusal_of fault) → ((worn ≡ true) ↔ (refusal_of fault ≡ Err DiskFault)) →
       Follows d.tells f.tells (attempt (Backup name) (refusal_of fault) before (scene d f (record { found = found; held = held; worn = worn }) disk2 files2))
-  follows_refused some fault worn took figures fails = record {
+  follows_refused fault worn took figures fails = record {
     bytes = took.disk.bytes;
     cause = refused_cause fault took;
     ends = refused_ends fault;
@@ -226,7 +223,7 @@ module _ {D F : Type 0} (d : DiskGhosts D) (f : FilesGhosts F) (found : Found) (
     };
     on_disk = λ told. record {
       agrees = λ _. agrees_staged found (InFree found.sizes space) (λ place inside. omega (arith, inside.within.0)) (begun.agrees told) (written took.disk told);
-      writes = beside some told (Err fault) took;
+      writes = unowned told (Err fault) took;
       reads = nothing_read took.disk told;
     };
     on_files = λ told. record { beside = took.files.same told; strays = strays_of _ _ _ _ (took.files.strays told); finished = tt };
@@ -239,14 +236,14 @@ module _ {D F : Type 0} (d : DiskGhosts D) (f : FilesGhosts F) (found : Found) (
   }
 
   -- it is answered with the room that the store has now
-  pub refused_follows : 1 ≤ found.sizes.extent → (fault : IntakeFault) (free : ℕ) (worn : Bool) → TookIn (Err fault) → HasFree start free → ((worn ≡ true) ↔ (refusal_of (with_room free held fault) ≡ Err DiskFault)) →
+  pub refused_follows : (fault : IntakeFault) (free : ℕ) (worn : Bool) → TookIn (Err fault) → HasFree start free → ((worn ≡ true) ↔ (refusal_of (with_room free held fault) ≡ Err DiskFault)) →
       Follows d.tells f.tells (attempt (Backup name) (refusal_of (with_room free held fault)) before (scene d f (record { found = found; held = held; worn = worn }) disk2 files2))
-  refused_follows some fault free worn took has fails =
-      follows_refused some (with_room free held fault) worn (with_room_is fault free has took) (refused_figures (record { found = found; held = held; worn = worn }) fault free (record { so = has.so })) fails
+  refused_follows fault free worn took has fails =
+      follows_refused (with_room free held fault) worn (with_room_is fault free has took) (refused_figures (record { found = found; held = held; worn = worn }) fault free (record { so = has.so })) fails
 
   -- ---- what is staged was named, or its commit failed
 
-  module _ (some : 1 ≤ found.sizes.extent) (staged : Staged) (took : TookIn (Ok staged)) (stored : StoresSource d disk2 f name files0 found old staged) where
+  module _ (staged : Staged) (took : TookIn (Ok staged)) (stored : StoresSource d disk2 f name files0 found old staged) where
     abbrev after : Found
     after = committed found (after_backup found.catalogue (version_entry staged.version) (fresh_entries staged.fresh))
 
@@ -260,8 +257,8 @@ module _ {D F : Type 0} (d : DiskGhosts D) (f : FilesGhosts F) (found : Found) (
         pub done : OnOk result (d.tells → IsMade found after h2 (d.history disk3))
         pub held : held_count space3 ≡ held
 
-      within : d.tells → Named → WritesOnly (IsBeside found) h1 (d.history disk3)
-      within told is = made_both (beside some told (Ok staged) took) (writes_wider (IsBeside found) (half_beside found (small told)) (written is.disk told))
+      within : d.tells → Named → WritesOnly (IsUnowned found) h1 (d.history disk3)
+      within told is = made_both (unowned told (Ok staged) took) (writes_wider (IsUnowned found) (half_unowned found (small told)) (written is.disk told))
 
       all_read : d.tells → Named → ReadsOnly [] h1 (d.history disk3)
       all_read told is = reads_both (nothing_read took.disk told) (nothing_read is.disk told)

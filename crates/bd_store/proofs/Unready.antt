@@ -1,15 +1,16 @@
 -- What a command meets that couldn't make the store ready.
-use Rattle.std.proofs.Common.{◌≡◌, ◌↔◌, ℕ, List, Bool, true, false, inl, refl, sym, ap, subst, arith, Result, Err}
+use Rattle.std.proofs.Common.{◌≡◌, ◌↔◌, ℕ, List, Bool, true, false, inl, inr, refl, sym, ap, subst, arith, Result, Err}
 use Rattle.bd_disk.specs.Calls.{FailsByCount as FailsByOne}
 use Rattle.bd_disk.specs.History.{History, contents}
-use Rattle.bd_disk.specs.Made.{LeavesSince, WritesOnly}
-use Rattle.bd_disk.proofs.Frames.{leaves_wider, made_none}
+use Rattle.bd_disk.specs.Made.{LeavesSince, WritesNothing, WritesOnly}
+use Rattle.bd_disk.proofs.Frames.{leaves_wider, nothing_within}
 use Rattle.bd_model.specs.FileMap.{FileMap}
 use Rattle.bd_model.specs.declared.answer.Answer.{Answer}
 use Rattle.bd_model.specs.declared.command.Command.{Command}
 use Rattle.bd_model.specs.declared.command.Command.TheVariants.{Backup, Restore, Expire, Reorganise, Scrub, List as Listing}
 use Rattle.bd_model.specs.declared.damage.Damage.{Damage}
 use Rattle.bd_model.specs.declared.layout.Phase.{Phase}
+use Rattle.bd_model.specs.declared.layout.Phase.TheVariants.{Settled}
 use Rattle.bd_catalog.specs.Agreement.{Agrees}
 use Rattle.bd_catalog.specs.Opening.{Found}
 use Rattle.bd_catalog.specs.Standing.{Stands}
@@ -19,7 +20,7 @@ use Rattle.bd_recipe.specs.declared.fault.ReadFault.{ReadFault}
 use Rattle.bd_recipe.specs.declared.fault.ReadFault.TheVariants.{DiskFault as ReadDisk, Damaged as ReadDamaged, OutOfMemory as ReadMemory}
 use Rattle.bd_volume.specs.Named.{IsBeside}
 use Rattle.bd_arrange.specs.Arranged.{Arranges, ButDiskFault, KeepsStates}
-use Rattle.bd_store.specs.Attempts.{Attempt, EndsInDamage, HeadersByAnswer, IsAnswerOf, KeepsVersions, SettlesBy, TellsFigures, WritesByCommand, Meets, Scene, attempt, DamageByCommand, FinishesByCommand, GivesByCommand, LooksByCommand, NewestEnds, ReadsByCommand, RecipeByCommand}
+use Rattle.bd_store.specs.Attempts.{Attempt, EndsInDamage, IsAnswerOf, KeepsVersions, SettlesBy, TellsFigures, Meets, Scene, attempt, DamageByCommand, FinishesByCommand, GivesByCommand, LooksByCommand, NewestEnds, ReadsByCommand, RecipeByCommand}
 use Rattle.bd_store.specs.Causes.{counts, FailsOnlyByCount}
 use Rattle.bd_store.specs.Following.{MakesReady, IsMadeReady}
 use Rattle.bd_store.specs.Naming.{fault_of_reading, NamesArranging}
@@ -28,8 +29,10 @@ use Rattle.bd_store.specs.Shown.{SameVersions, Shown}
 use Rattle.bd_store.specs.Steps.{task, IsOneStep, KeepsFiles, MakesStep, StandsOnEitherSide, Task}
 use Rattle.bd_store.specs.Stops.{IsSafeAtStops, IsSureBy}
 use Rattle.bd_store.specs.Touches.{BackupReads}
+use Rattle.bd_store.specs.Writes.{WritesArranging, WritesByCommand, WritesReady}
 use Rattle.bd_store.specs.declared.fault.StoreFault.{StoreFault}
 use Rattle.bd_store.specs.declared.fault.StoreFault.TheVariants.{DiskFault}
+use Rattle.bd_store.proofs.Behind.{ready_settled}
 use Rattle.bd_store.proofs.Ending.{gone_on, went_on, rests_not, first_two, not_both}
 use Rattle.bd_store.proofs.Nearing.{near_state}
 
@@ -88,20 +91,20 @@ unready_figures new ReadDisk = tt
 unready_figures new (ReadDamaged damage) = tt
 unready_figures new ReadMemory = tt
 
-pub unready_headers : (a : Attempt) (fault : ReadFault) → HeadersByAnswer a (Err (fault_of_reading fault))
-unready_headers a ReadDisk = tt
-unready_headers a (ReadDamaged damage) = tt
-unready_headers a ReadMemory = tt
-
 -- ---- where the disk tells
 
-pub unready_writes : (command : Command) (found : Found) (h0 h1 : History) → MakesReady found command → WritesOnly (IsBeside found) h0 h1 → WritesByCommand found command h0 h1
-unready_writes (Backup name) found h0 h1 makes writes = record { arranged = found; middle = h0; first = made_none _ h0; between = inl (refl, refl); second = writes }
-unready_writes Expire found h0 h1 makes writes = record { arranged = found; middle = h0; first = made_none _ h0; between = inl (refl, refl); second = writes }
-unready_writes Reorganise found h0 h1 makes writes = writes
-unready_writes (Restore v name) found h0 h1 makes writes = absurd makes
-unready_writes Scrub found h0 h1 makes writes = absurd makes
-unready_writes Listing found h0 h1 makes writes = absurd makes
+pub unready_writes : (held : ℕ) (command : Command) (found : Found) (h0 h1 : History) (fault : ReadFault) → MakesReady found command → (found.catalogue.phase ≡ Settled → WritesNothing h0 h1) → WritesOnly (IsBeside found) h0 h1 →
+    WritesByCommand held found command h0 h1 (Err (fault_of_reading fault))
+unready_writes held command found h0 h1 fault makes quiet writes = record {
+  ready = λ no.
+      let is = ready_settled found command makes no in
+      subst (λ c. WritesReady found c h0 h1) (sym is.1.1) (nothing_within _ (quiet is.0));
+  arranging = λ _. at_fault fault;
+} where
+  at_fault : (f : ReadFault) → WritesArranging held found command h0 h1 (Err (fault_of_reading f))
+  at_fault ReadDisk = inr writes
+  at_fault (ReadDamaged damage) = inr writes
+  at_fault ReadMemory = inr writes
 
 pub unready_reads : (found : Found) (h0 h1 : History) (fault : ReadFault) → BackupReads found h0 h1 (Err (fault_of_reading fault))
 unready_reads found h0 h1 ReadDisk = tt
@@ -113,10 +116,10 @@ unready_agrees ReadDisk worn P fails is sound = not_both (fails.1 refl) sound
 unready_agrees (ReadDamaged damage) worn P fails is sound = is
 unready_agrees ReadMemory worn P fails is sound = is
 
-pub unready_names : (old new : Found) (h0 h1 : History) (fault : ReadFault) → AnswersReady old new h0 h1 (Err fault) → NamesArranging old h0 h1 (Err (fault_of_reading fault))
-unready_names old new h0 h1 ReadDisk is = tt
-unready_names old new h0 h1 (ReadDamaged damage) is = is
-unready_names old new h0 h1 ReadMemory is = tt
+pub unready_names : (held : ℕ) (old new : Found) (h0 h1 : History) (fault : ReadFault) → AnswersReady held old new h0 h1 (Err fault) → NamesArranging old h0 h1 (Err (fault_of_reading fault))
+unready_names held old new h0 h1 ReadDisk is = tt
+unready_names held old new h0 h1 (ReadDamaged damage) is = is
+unready_names held old new h0 h1 ReadMemory is = tt
 
 pub unready_ends : (damage : Damage) (fault : ReadFault) → IsThatDamage damage (Err fault) → EndsInDamage damage (Err (fault_of_reading fault))
 unready_ends damage ReadDisk is = tt
@@ -189,7 +192,7 @@ module _ (disk files : Type 0) (command : Command) (before : Scene) (mid : Found
     refusal_looks told Listing may = absurd may
 
     refusal_names : disk → NamesArranging before.store.found before.disk h1 (Err (fault_of_reading fault))
-    refusal_names told = unready_names before.store.found mid before.disk h1 fault (is.told told).readies.answer
+    refusal_names told = unready_names before.store.held before.store.found mid before.disk h1 fault (is.told told).readies.answer
 
     refusal_damage : disk → (c : Command) → MakesReady before.store.found c → DamageByCommand refusal c
     refusal_damage told (Backup name) may = refusal_names told
@@ -242,12 +245,11 @@ module _ (disk files : Type 0) (command : Command) (before : Scene) (mid : Found
       untouched = λ refused. absurd (refused);
       on_disk = λ told. record {
         agrees = unready_agrees fault worn (Agrees mid h1) is.worn (is.told told).readies.agrees;
-        writes = unready_writes command before.store.found before.disk h1 makes (is.told told).writes;
+        writes = unready_writes before.store.held command before.store.found before.disk h1 fault makes (is.told told).readies.quiet (is.told told).writes;
         reads = refusal_reads command makes;
         looks = refusal_looks told command makes;
         damage = refusal_damage told command makes;
         recipe = refusal_recipe told command makes;
-        headers = unready_headers refusal fault;
       };
       on_files = λ told. record {
         beside = files_stay_ready before.store.found command before.files makes;

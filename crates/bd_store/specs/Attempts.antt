@@ -1,9 +1,9 @@
 -- A command on a store, what came of it, and all that is promised of that.
-use Rattle.std.specs.Prelude.{◌≡◌, ◌⊎◌, ◌↔◌, ◌≤◌, ℕ, ◌+◌, true, false, List, [], ◌∷◌, ◌++◌, length, Result, Ok, Err}
+use Rattle.std.specs.Prelude.{◌≡◌, ◌↔◌, ◌≤◌, ℕ, ◌+◌, true, false, List, [], ◌∷◌, ◌++◌, length, Result, Ok, Err}
 use Rattle.std.specs.FinMap as map
 use Rattle.bd_disk.specs.History.{History, contents}
 use Rattle.bd_disk.specs.Looks.{LooksOnlyAt}
-use Rattle.bd_disk.specs.Made.{TouchesNothing, WritesNothing, WritesOnly}
+use Rattle.bd_disk.specs.Made.{TouchesNothing}
 use Rattle.bd_disk.specs.declared.disk.Disk.{Ghosts as DiskGhosts}
 use Rattle.bd_files.specs.Files.{IsFinished}
 use Rattle.bd_files.specs.declared.files.Files.{Ghosts as FilesGhosts}
@@ -26,14 +26,13 @@ use Rattle.bd_catalog.specs.Splitting.{after_expire, expired}
 use Rattle.bd_recipe.specs.Reading.{recipe_found}
 use Rattle.bd_restore.specs.Target.{held, HasChunks}
 use Rattle.bd_volume.specs.Headers.{HasGoodHeaders}
-use Rattle.bd_volume.specs.Named.{IsBeside}
-use Rattle.bd_arrange.specs.Arranged.{HasGoodDue, IsSettledFrom}
 use Rattle.bd_store.specs.Causes.{Counts, counts, FailsOnlyByCount, StraysOnlyBy}
 use Rattle.bd_store.specs.Naming.{NamesArranging, NamesDamage}
 use Rattle.bd_store.specs.Shown.{HasFree, SameVersions, Shown}
 use Rattle.bd_store.specs.Steps.{IsOneStep, KeepsFiles}
 use Rattle.bd_store.specs.Stops.{IsSafeAtStops}
 use Rattle.bd_store.specs.Touches.{AnswersArranging, AnswersByNumbers, AnswersByVersion, AnswersExpiry, ArrangingReads, BackupReads, ExpiryReads, InArranging, InRestore, IsByNumbers, WalksTo, arranges_first, is_waiting}
+use Rattle.bd_store.specs.Writes.{WritesByCommand}
 use Rattle.bd_store.specs.declared.fault.StoreFault.{StoreFault}
 use Rattle.bd_store.specs.declared.fault.StoreFault.TheVariants.{DiskFault, Damaged, OutOfMemory, SourceFault}
 
@@ -155,20 +154,6 @@ pub record KeepsStore (a : Attempt) : Type 0 where
 
 -- ---- where the disk tells
 
--- What is written, first beside what is found before; and, once an arranging is committed, beside what that made.
-pub record WritesBeside (found : Found) (old new : History) : Type 0 where
-  pub arranged : Found
-  pub middle : History
-  pub first : WritesOnly (IsBeside found) old middle
-  pub between : ((arranged ≡ found) × (middle ≡ old)) ⊎ ((is_waiting found ≡ true) × IsSettledFrom found arranged × Agrees arranged middle)
-  pub second : WritesOnly (IsBeside arranged) middle new
-
-abbrev pub WritesByCommand : Found → Command → History → History → Type 0
-WritesByCommand found (Backup name) old new = WritesBeside found old new
-WritesByCommand found Expire old new = WritesBeside found old new
-WritesByCommand found Reorganise old new = WritesOnly (IsBeside found) old new
-WritesByCommand found command old new = WritesNothing old new
-
 -- A restore that was answered reads its walk. One that is refused touches nothing.
 abbrev pub RestoreReads : Attempt → ℕ → Result Answer StoreFault → Type 0
 RestoreReads a v (Ok (Restored given bytes)) = WalksTo a.before.store.held a.before.store.found v a.before.disk a.after.disk
@@ -224,27 +209,14 @@ RecipeByCommand a Expire = arranges_first a.before.store.found ≡ true → Newe
 RecipeByCommand a Reorganise = is_waiting a.before.store.found ≡ true → NewestEnds a
 RecipeByCommand a command = Unit {0}
 
--- the headers of all open categories that were due hold, where they were arranged
-abbrev pub HeadersHold : Attempt → Type 0
-HeadersHold a = HasGoodDue a.before.store.found (contents a.before.disk)
-
-abbrev pub HeadersByAnswer : Attempt → Result Answer StoreFault → Type 0
-HeadersByAnswer a (Ok (BackedUp version bytes chunks fresh need)) = HeadersHold a
-HeadersByAnswer a (Ok (FullExtents counted free held)) = HeadersHold a
-HeadersByAnswer a (Ok (Arranged owned free)) = HeadersHold a
-HeadersByAnswer a (Ok (Expired version extents)) = arranges_first a.before.store.found ≡ true → HeadersHold a
-HeadersByAnswer a (Err SourceFault) = HeadersHold a
-HeadersByAnswer a result = Unit {0}
-
 -- over every image
 pub record MeetsOnDisk (a : Attempt) : Type 0 where
   pub agrees : a.after.store.worn ≡ false → Agrees a.after.store.found a.after.disk
-  pub writes : WritesByCommand a.before.store.found a.command a.before.disk a.after.disk
+  pub writes : WritesByCommand a.before.store.held a.before.store.found a.command a.before.disk a.after.disk a.result
   pub reads : ReadsByCommand a a.command
   pub looks : LooksByCommand a a.command
   pub damage : DamageByCommand a a.command
   pub recipe : RecipeByCommand a a.command
-  pub headers : HeadersByAnswer a a.result
 
 -- ---- where the files tell
 

@@ -3,7 +3,7 @@ use Rattle.std.specs.Prelude.{◌≡◌, ◌↔◌, true, false, [], Result, Ok,
 use Rattle.bd_disk.specs.Calls.{FailsByCount}
 use Rattle.bd_disk.specs.History.{History}
 use Rattle.bd_disk.specs.Looks.{LooksOnlyAt}
-use Rattle.bd_disk.specs.Made.{WritesNothing, WritesOnly}
+use Rattle.bd_disk.specs.Made.{WritesOnly}
 use Rattle.bd_disk.specs.Trace.{ReadsOnly}
 use Rattle.bd_model.specs.declared.answer.Answer.{Answer}
 use Rattle.bd_model.specs.declared.answer.Answer.TheVariants.{Arranged, BackedUp, Expired, FullExtents}
@@ -22,6 +22,7 @@ use Rattle.bd_store.specs.Readying.{Readies, ReadiesOn}
 use Rattle.bd_store.specs.Steps.{IsOneStep}
 use Rattle.bd_store.specs.Stops.{IsSafeAtStops}
 use Rattle.bd_store.specs.Touches.{InArranging, arranges_first, is_full, is_waiting}
+use Rattle.bd_store.specs.Writes.{WritesReady}
 use Rattle.bd_store.specs.declared.fault.StoreFault.{StoreFault}
 use Rattle.bd_store.specs.declared.fault.StoreFault.TheVariants.{DiskFault, OutOfMemory, SourceFault}
 
@@ -68,11 +69,6 @@ EndsReady (Err DiskFault) = Unit {0}
 EndsReady (Err OutOfMemory) = Unit {0}
 EndsReady (Err fault) = ⊥
 
--- an arranging has nothing left to write
-abbrev pub WritesReady : Found → Command → History → History → Type 0
-WritesReady found Reorganise old new = WritesNothing old new
-WritesReady found command old new = WritesOnly (IsBeside found) old new
-
 pub record FollowsOnDisk (a : Attempt) : Type 0 where
   pub agrees : a.after.store.worn ≡ false → Agrees a.after.store.found a.after.disk
   pub writes : WritesReady a.before.store.found a.command a.before.disk a.after.disk
@@ -82,7 +78,7 @@ pub record FollowsOnBoth (a : Attempt) : Type 0 where
   pub step : IsOneStep a.command a.before.store.held a.before.disk a.after.disk a.before.files a.after.files a.result
   pub stops : IsSafeAtStops a.command a.before.store.held a.before.disk a.after.disk a.before.files a.result
 
--- What a command does with a store that is ready: it reads nothing, and writes beside what is named.
+-- What a command does with a store that is ready: it reads nothing, and writes what nobody has.
 pub record Follows (disk files : Type 0) (a : Attempt) : Type 0 where
   pub bytes : a.after.disk_bytes ≡ a.before.disk_bytes
   pub cause : FailsOnlyByCount a.before.counts a.after.counts a.result

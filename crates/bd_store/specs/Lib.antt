@@ -10,3 +10,4 @@ pub mod Shown
 pub mod Steps
 pub mod Stops
 pub mod Touches
+pub mod Writes

@@ -1,5 +1,5 @@
 -- A store made ready for its next version: the newest recipe in memory, and the store arranged.
-use Rattle.std.specs.Prelude.{◌≡◌, ◌⊎◌, ◌≤◌, ℕ, Result, Ok, Err}
+use Rattle.std.specs.Prelude.{◌≡◌, ◌≢◌, ◌⊎◌, ◌≤◌, ℕ, Result, Ok, Err}
 use Rattle.bd_disk.specs.History.{History, contents}
 use Rattle.bd_disk.specs.Made.{WritesNothing}
 use Rattle.bd_disk.specs.Trace.{ReadsOnly}
@@ -13,7 +13,7 @@ use Rattle.bd_recipe.specs.Reading.{recipe_found}
 use Rattle.bd_recipe.specs.declared.fault.ReadFault.{ReadFault}
 use Rattle.bd_recipe.specs.declared.fault.ReadFault.TheVariants.{DiskFault, Damaged, OutOfMemory}
 use Rattle.bd_intake.specs.Given.{IsRecipeOrNone}
-use Rattle.bd_arrange.specs.Arranged.{ButDiskFault, HasGoodDue, IsDamageOfDue, IsSettledFrom, KeepsStates}
+use Rattle.bd_arrange.specs.Arranged.{ButDiskFault, IsArrangedFrom, IsDamageOfDue, IsSettledFrom, KeepsStates}
 use Rattle.bd_store.specs.Naming.{IsDamageOfNewest}
 use Rattle.bd_store.specs.Newest.{IsNewestRecipe, newest_places}
 use Rattle.bd_store.specs.Shown.{Shown}
@@ -32,21 +32,20 @@ Readies old new (Err DiskFault) = Unit {0}
 Readies old new (Err (Damaged damage)) = (new ≡ old) × (1 ≤ retained_in old.found.catalogue)
 Readies old new (Err OutOfMemory) = new ≡ old
 
--- where the disk tells: the recipe is the newest one, and the headers of what was arranged hold; of a settled store nothing but
--- that recipe is read, and nothing written
-pub record IsReadyOn (old new : Found) (neighbour : Marked) (before now : History) : Type 0 where
+-- where the disk tells: the recipe is the newest one, and a store that waited is arranged by it; of a settled store nothing else
+-- is read
+pub record IsReadyOn (held : ℕ) (old new : Found) (neighbour : Marked) (before now : History) : Type 0 where
   pub recipe : IsNewestRecipe new (contents now) neighbour.entries
   pub found_before : IsNewestRecipe old (contents before) neighbour.entries
-  pub headers : HasGoodDue old (contents before)
+  pub arranged : old.catalogue.phase ≢ Settled → IsArrangedFrom held old new (contents before) (contents now)
   pub reads : old.catalogue.phase ≡ Settled → ReadsOnly (newest_places old) before now
-  pub writes : old.catalogue.phase ≡ Settled → WritesNothing before now
 
 -- a damage is of the newest recipe, or of an open category that was due
-abbrev pub AnswersReady : Found → Found → History → History → Result Marked ReadFault → Type 0
-AnswersReady old new before now (Ok neighbour) = IsReadyOn old new neighbour before now
-AnswersReady old new before now (Err DiskFault) = Unit {0}
-AnswersReady old new before now (Err (Damaged damage)) = IsDamageOfNewest old damage before now ⊎ IsDamageOfDue old damage before now
-AnswersReady old new before now (Err OutOfMemory) = Unit {0}
+abbrev pub AnswersReady : ℕ → Found → Found → History → History → Result Marked ReadFault → Type 0
+AnswersReady held old new before now (Ok neighbour) = IsReadyOn held old new neighbour before now
+AnswersReady held old new before now (Err DiskFault) = Unit {0}
+AnswersReady held old new before now (Err (Damaged damage)) = IsDamageOfNewest old damage before now ⊎ IsDamageOfDue old damage before now
+AnswersReady held old new before now (Err OutOfMemory) = Unit {0}
 
 -- a newest recipe that doesn't hold is answered as its damage, but for a fault of the disk and want of memory
 abbrev pub IsThatDamage : Damage → Result Marked ReadFault → Type 0
@@ -56,7 +55,9 @@ IsThatDamage damage (Err (Damaged found)) = found ≡ damage
 IsThatDamage damage (Err OutOfMemory) = Unit {0}
 
 pub record ReadiesOn (held : ℕ) (old new : Found) (before now : History) (result : Result Marked ReadFault) : Type 0 where
-  pub answer : AnswersReady old new before now result
+  pub answer : AnswersReady held old new before now result
+  -- a settled store is only read
+  pub quiet : old.catalogue.phase ≡ Settled → WritesNothing before now
   pub agrees : ButDiskFault result (Agrees new now)
   pub damage : (damage : Damage) → 1 ≤ retained_in old.catalogue → recipe_found old.sizes old.catalogue (contents before) old.catalogue.newest ≡ Err damage → IsThatDamage damage result
   -- each state stays, in the contents and at any stop

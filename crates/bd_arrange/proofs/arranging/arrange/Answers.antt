@@ -17,18 +17,17 @@ use Rattle.bd_recipe.specs.declared.fault.ReadFault.TheVariants.{OutOfMemory}
 use Rattle.bd_volume.specs.Named.{IsBeside}
 use Rattle.bd_volume.proofs.Beside.{half_beside, unnamed_beside}
 use Rattle.bd_volume.proofs.Copying.{no_work}
-use Rattle.bd_arrange.specs.Arranged.{AnswersDue, HasGoodDue, InDue, IsAllotted, IsDamageOfDue, KeepsStates}
+use Rattle.bd_arrange.specs.Arranged.{AnswersDue, InDue, IsAllotted, IsDamageOfDue, KeepsStates}
 use Rattle.bd_arrange.proofs.StandsArranged.{arranged_store_stands}
 use Rattle.bd_arrange.proofs.Laps.{work_told}
-use Rattle.bd_arrange.proofs.Committing.{agrees_now, answers_named, answers_refused, but_refused, fits_desk, if_told, keeps_all, keeps_either, keeps_refused, keeps_settled, no_headers}
+use Rattle.bd_arrange.proofs.Committing.{agrees_now, answers_named, answers_refused, but_refused, fits_desk, if_told, keeps_all, keeps_either, keeps_refused, keeps_settled}
 use Rattle.bd_arrange.proofs.arranging.arrange.Goals as goal
 
 pub returns-in-Settled-clause-disk : goal.returns-in-Settled-clause-disk
 returns-in-Settled-clause-disk g c = no_work
 
 pub returns-in-Settled-clause-answer : goal.returns-in-Settled-clause-answer
-returns-in-Settled-clause-answer g c = λ told.
-    no_headers c.args.catalog.now.found.sizes (contents (g.D.Disk.history c.args.disk.now)) c.args.catalog.now.found.catalogue (sym c.phase.ensures ∙ c.in-Settled.is)
+returns-in-Settled-clause-answer g c = λ told waits. absurd (waits (sym c.phase.ensures ∙ c.in-Settled.is))
 
 pub returns-in-Settled-clause-states : goal.returns-in-Settled-clause-states
 returns-in-Settled-clause-states g c = λ told.
@@ -90,9 +89,16 @@ returns-in-Ok-clause-answer g c = λ told.
     let found : Found = c.reserve.new.self.found in
     let same : found ≡ c.args.catalog.now.found = c.reserve.ensures.found in
     let agrees : d.tells → Agrees found (d.history c.args.disk.now) = λ told. subst (λ (f : Found). Agrees f (d.history c.args.disk.now)) (sym same) (c.requires.agrees told) in
-    let good : HasGoodDue found (contents (d.history c.args.disk.now)) = (c.in-Ok.ensures.arranged.told told).headers in
-    subst (λ (f : Found). AnswersDue f (d.history c.args.disk.now) (d.history c.name_all.new.disk) c.name_all.result) same
-    (answers_named found (d.history c.args.disk.now) (d.history c.name_all.new.disk) c.name_all.result c.name_all.ensures.named.fails good)
+    let waits : found.catalogue.phase ≢ Settled = subst (λ (f : Found). f.catalogue.phase ≢ Settled) (sym same) (λ settled. c.in_default.not-Settled (c.phase.ensures ∙ settled)) in
+    let u = c.in-Ok.ensures.arranged in
+    let entries = c.args.neighbour.now.entries in
+    let h0 = d.history c.args.disk.now in
+    let newest : recipe_found found.sizes found.catalogue (contents h0) found.catalogue.newest ≡ Ok entries =
+    subst (λ (f : Found). recipe_found f.sizes f.catalogue (contents h0) f.catalogue.newest ≡ Ok entries) (sym same) (c.requires.newest told (λ settled. c.in_default.not-Settled (c.phase.ensures ∙ settled))) in
+    let allotted : IsAllotted found c.args.space.now = subst (λ (f : Found). IsAllotted f c.args.space.now) (sym same) c.requires.allotted in
+    subst (λ (f : Found). AnswersDue (held_count c.args.space.now) f c.name_all.new.catalog.found h0 (d.history c.name_all.new.disk) c.name_all.result) same
+    (answers_named found h0 (d.history c.arrange_all.new.disk) (agrees told) (work_written c.arrange_all.ensures.disk told) arranged_store_stands entries c.args.space.now c.arrange_all.new.desk u.splits waits newest allotted u.has u.may (u.told told)
+    (d.history c.name_all.new.disk) d.tells told c.name_all.result c.name_all.new.catalog.found c.name_all.ensures.named.fails c.name_all.ensures.named.made c.name_all.ensures.named.done)
 
 pub returns-in-Ok-clause-states : goal.returns-in-Ok-clause-states
 returns-in-Ok-clause-states g c = λ told.
@@ -137,8 +143,8 @@ returns-in-Err-clause-answer g c = λ told.
     let agrees : d.tells → Agrees found (d.history c.args.disk.now) = λ told. subst (λ (f : Found). Agrees f (d.history c.args.disk.now)) (sym same) (c.requires.agrees told) in
     let h0 = d.history c.args.disk.now in
     let h1 = d.history c.arrange_all.new.disk in
-    subst (λ (f : Found). AnswersDue f h0 h1 (Err c.in-Err.fault)) same
-    (answers_refused found h0 h1 c.in-Err.fault (if_told d.tells told (λ damage. IsDamageOfDue found damage h0 h1) c.in-Err.fault c.in-Err.ensures.damage))
+    subst (λ (f : Found). AnswersDue (held_count c.args.space.now) f found h0 h1 (Err c.in-Err.fault)) same
+    (answers_refused (held_count c.args.space.now) found found h0 h1 c.in-Err.fault (if_told d.tells told (λ damage. IsDamageOfDue found damage h0 h1) c.in-Err.fault c.in-Err.ensures.damage))
 
 pub returns-in-Err-clause-states : goal.returns-in-Err-clause-states
 returns-in-Err-clause-states g c = λ told.

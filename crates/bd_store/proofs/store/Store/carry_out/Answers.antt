@@ -2,7 +2,7 @@ use Rattle.std.proofs.Common.{refl, sym, subst, Ok, Err}
 use Rattle.bd_model.specs.declared.answer.Answer.{Answer}
 use Rattle.bd_model.specs.declared.command.Command.{Command}
 use Rattle.bd_model.specs.declared.command.Command.TheVariants.{List as Listing}
-use Rattle.bd_store.specs.Attempts.{attempt, beside_of, scene, HeadersByAnswer, KeepsVersions, Meets, SettlesBy, TellsFigures}
+use Rattle.bd_store.specs.Attempts.{attempt, beside_of, scene, KeepsVersions, Meets, SettlesBy, TellsFigures}
 use Rattle.bd_store.specs.Shown.{Shown}
 use Rattle.bd_store.specs.declared.fault.StoreFault.TheVariants.{OutOfMemory}
 use Rattle.bd_store.proofs.Listed.{as_list, listed_step, listed_stops}
@@ -28,7 +28,7 @@ returns-in-Ok g c =
             reads = refl;
             damage = tt;
             recipe = tt;
-            headers = as_list (λ a. HeadersByAnswer (attempt Listing (Ok answer) here here) (Ok a)) answer c.in-Ok.ensures.lines (λ l. tt);
+            arranging = λ no. absurd (cc no);
             finished = tt;
             gives = tt;
           })
@@ -42,7 +42,7 @@ returns-in-Err g c =
     record {
       meets = subst (λ (command : Command). Meets g.D.Disk.tells g.F.Files.tells (attempt command (Err OutOfMemory) here here)) (sym c.in-List.is)
           (meets_untouched _ _ _ c.requires.sound c.requires.agrees
-          (record { cause = refl; has_disk = tt; answer = refl; versions = same_versions c.args.self.now; settles = tt; figures = tt; reads = refl; damage = tt; recipe = tt; headers = tt; finished = tt; gives = tt })
+          (record { cause = refl; has_disk = tt; answer = refl; versions = same_versions c.args.self.now; settles = tt; figures = tt; reads = refl; damage = tt; recipe = tt; arranging = λ no. absurd (cc no); finished = tt; gives = tt })
           (λ told files_tell. memory_step _ _ _ _)
           (λ told files_tell. safe_untouched _ _ _ _ _));
     }

@@ -73,4 +73,4 @@ returns-in-Err-arrange-clause-told g c =
     (unarranged_told g.D.Disk found (held_count c.self.inside.space) c.args.disk.now c.newest_recipe.new.disk
     (λ told. subst (λ (s : Shown). Agrees s.found (g.D.Disk.history c.args.disk.now)) (sym c.self.view_is) (c.requires.agrees told)) c.newest_recipe.ensures.disk
     c.in-Ok.neighbour c.in-Ok.ensures.entries c.arrange.new.disk mid
-    c.in-Err-arrange.fault c.in-Err-arrange.ensures.agrees c.in-Err-arrange.ensures.answer c.in-Err-arrange.ensures.states)
+    c.in-Err-arrange.fault (λ settled. (c.arrange.ensures.settled settled).1) c.in-Err-arrange.ensures.agrees c.in-Err-arrange.ensures.answer c.in-Err-arrange.ensures.states)

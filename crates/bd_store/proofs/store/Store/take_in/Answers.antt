@@ -60,7 +60,6 @@ returns-in-Ok g c =
     let same : found ≡ c.args.self.now.found = c.reserve.ensures.found ∙ ap (λ (s : Shown). s.found) c.self.view_is in
     let shown = shown_is found held c.args.self.now same (ap (λ (s : Shown). s.held) c.self.view_is) c.requires.sound in
     let sound : c.self.inside.worn ≡ false = ap (λ (s : Shown). s.worn) c.self.view_is ∙ c.requires.sound in
-    let some : 1 ≤ found.sizes.extent = omega (arith, c.shape-shape.result.in_range.extent_low, ap (λ (s : Sizes). s.extent) c.shape-shape.ensures.sizes, ap (λ (f : Found). f.sizes.extent) c.reserve.ensures.found) in
     let begun : Begun found c.self.inside.space g.D.Disk.tells (g.D.Disk.history c.args.disk.now) = begun_from same (record {
       agrees = c.requires.agrees;
       settled = c.requires.settled;
@@ -75,7 +74,7 @@ returns-in-Ok g c =
           (scene g.D.Disk g.F.Files (record { found = c.name_version-named.new.catalog.found; held = held_count c.name_version-named.new.space; worn = c.is_disk_fault-self-inside.result }) c.name_version-named.new.disk c.intake.new.files))) shown
           (named_or_failed g.D.Disk g.F.Files found c.self.inside.space c.args.name.now c.args.disk.now c.args.files.now begun new_chunks c.args.neighbour.now.entries
           (λ told. subst (λ (f : Found). IsNewestRecipe f (contents (g.D.Disk.history c.args.disk.now)) c.args.neighbour.now.entries) (sym same) (c.requires.newest told))
-          c.intake.new.disk c.intake.new.files some c.in-Ok.staged
+          c.intake.new.disk c.intake.new.files c.in-Ok.staged
           (record { disk = c.intake.ensures.disk; cause = c.in-Ok.ensures.cause; files = c.in-Ok.ensures.files; counted = c.in-Ok.ensures.counted })
           c.in-Ok.ensures.stored c.name_version-named.new.disk c.name_version-named.new.catalog.found c.name_version-named.new.space c.is_disk_fault-self-inside.result c.name_version-named.result
           (record { disk = c.name_version-named.ensures.disk; cause = c.name_version-named.ensures.cause; answer = c.name_version-named.ensures.answer; either = c.name_version-named.ensures.either; made = c.name_version-named.ensures.made; done = c.name_version-named.ensures.done; held = c.name_version-named.ensures.counts.1 ∙ c.intake.ensures.space.held })
@@ -89,7 +88,6 @@ returns-in-Err g c =
     let same : found ≡ c.args.self.now.found = c.reserve.ensures.found ∙ ap (λ (s : Shown). s.found) c.self.view_is in
     let shown = shown_is found held c.args.self.now same (ap (λ (s : Shown). s.held) c.self.view_is) c.requires.sound in
     let sound : c.self.inside.worn ≡ false = ap (λ (s : Shown). s.worn) c.self.view_is ∙ c.requires.sound in
-    let some : 1 ≤ found.sizes.extent = omega (arith, c.shape-shape.result.in_range.extent_low, ap (λ (s : Sizes). s.extent) c.shape-shape.ensures.sizes, ap (λ (f : Found). f.sizes.extent) c.reserve.ensures.found) in
     let begun : Begun found c.self.inside.space g.D.Disk.tells (g.D.Disk.history c.args.disk.now) = begun_from same (record {
       agrees = c.requires.agrees;
       settled = c.requires.settled;
@@ -110,7 +108,7 @@ returns-in-Err g c =
     let is : FollowsFrom start end (refusal_of (with_room free held c.in-Err.fault)) =
     refused_follows g.D.Disk g.F.Files found c.self.inside.space c.args.name.now c.args.disk.now c.args.files.now begun new_chunks c.args.neighbour.now.entries
     (λ told. subst (λ (f : Found). IsNewestRecipe f (contents (g.D.Disk.history c.args.disk.now)) c.args.neighbour.now.entries) (sym same) (c.requires.newest told))
-    c.intake.new.disk c.intake.new.files some c.in-Err.fault free worn
+    c.intake.new.disk c.intake.new.files c.in-Err.fault free worn
     (record { disk = c.intake.ensures.disk; cause = c.in-Err.ensures.cause; files = c.in-Err.ensures.files; counted = c.in-Err.ensures.counted })
     room (subst (λ result. (worn ≡ true) ↔ (result ≡ Err DiskFault)) is_refusal c.is_disk_fault-self-inside-in-Err.ensures) in
     record {
