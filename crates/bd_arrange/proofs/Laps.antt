@@ -12,11 +12,10 @@ use Rattle.std.proofs.lemmas.List.Sums.{AllPass-from_list_all}
 use Rattle.std.proofs.lemmas.Option.{slice_get_within}
 use Rattle.bd_disk.specs.History.{contents}
 use Rattle.bd_disk.specs.Images.{Agree, AgreeBut}
-use Rattle.bd_disk.specs.Runs.{WorkedAt, Works}
+use Rattle.bd_disk.specs.Runs.{Works}
 use Rattle.bd_disk.specs.declared.disk.Disk.{Ghosts}
 use Rattle.bd_disk.proofs.Agreeing.{agree_fewer}
-use Rattle.bd_disk.proofs.Frames.{same_contents, writes_wider}
-use Rattle.bd_disk.proofs.Looking.{looks_wider}
+use Rattle.bd_disk.proofs.Frames.{same_contents}
 use Rattle.bd_disk.proofs.RunLemmas.{both_work, work_written}
 use Rattle.bd_disk.proofs.Traces.{has_read_later}
 use Rattle.bd_model.specs.Extents.{owner_bytes}
@@ -56,7 +55,7 @@ use Rattle.bd_recipe.proofs.Versions.{are_all, are_left, are_right}
 use Rattle.bd_volume.specs.Growing.{CanGrow}
 use Rattle.bd_volume.specs.Headers.{HasGoodHeaders}
 use Rattle.bd_volume.specs.Named.{InNamed}
-use Rattle.bd_volume.proofs.Copying.{no_work}
+use Rattle.bd_volume.proofs.Copying.{no_work, work_told}
 use Rattle.bd_volume.proofs.RowsMore.{bytes-rows_more}
 use Rattle.bd_arrange.specs.Arranged.{InDue, IsAllotted, IsDamageOfDue}
 use Rattle.bd_arrange.specs.Cuts.{InCategory, IsDamageIn, IsOfHeaders, IsWhole, archived_records, bytes_in, kept_records, records_in}
@@ -66,12 +65,6 @@ use Rattle.bd_arrange.specs.Underway.{HasSplits, HasTurned, IsStaged, IsTakenFor
 use Rattle.bd_arrange.proofs.Splits.{Next, SameNumbers, added_by, ascends_last, bytes_later, extents_after, extents_grown, kept_by, may_last, next_of, rows_grown, rules_after, same_numbers, same_oldest, some_volume, splits-last, splits_among, start_among, still_open}
 use Rattle.bd_arrange.proofs.Staying.{IsAtWork, active_among_all, among_map, kept_stays, last_among_all, open_apart, records_stay, room_staged, spots_stay, volume_stays, whole_before}
 use Rattle.bd_arrange.proofs.TakingTurns.{KeptStays, free_after, free_last, grown-last, to_move, to_split, turns_later, turns_left, turns_split}
-
--- a run stays one among more places, of which those that are written are known where the disk tells
-pub work_told : {D : Type 0} {g : Ghosts D} {Looked Written : ℕ → Type 0} (Read Put : ℕ → Type 0) {a b : D} → ((place : ℕ) → Looked place → Read place) → (g.tells → (place : ℕ) → Written place → Put place) →
-    Works g Looked Written a b → Works g Read Put a b
-unfolding WorkedAt
-work_told Read Put reads writes f = record { bytes = f.bytes; calls = λ told. (looks_wider Read reads (f.calls told).0, writes_wider Put (writes told) (f.calls told).1) }
 
 -- ---- lists
 

@@ -28,10 +28,15 @@ use Rattle.bd_volume.specs.declared.copy.Section.{Section}
 pub no_work : {D : Type 0} {g : Ghosts D} {Looked Written : ℕ → Type 0} {a : D} → Works g Looked Written a a
 no_work {D} {g} {Looked} {Written} {a} = record { bytes = refl; calls = worked_none g Looked Written a }
 
-pub wider_work : {D : Type 0} {g : Ghosts D} {Looked Written : ℕ → Type 0} (Read Put : ℕ → Type 0) {a b : D} → ((place : ℕ) → Looked place → Read place) → ((place : ℕ) → Written place → Put place) →
+-- a run stays one among more places, of which those that are written are known where the disk tells
+pub work_told : {D : Type 0} {g : Ghosts D} {Looked Written : ℕ → Type 0} (Read Put : ℕ → Type 0) {a b : D} → ((place : ℕ) → Looked place → Read place) → (g.tells → (place : ℕ) → Written place → Put place) →
     Works g Looked Written a b → Works g Read Put a b
 unfolding WorkedAt
-wider_work Read Put reads writes f = record { bytes = f.bytes; calls = λ told. (looks_wider Read reads (f.calls told).0, writes_wider Put writes (f.calls told).1) }
+work_told Read Put reads writes f = record { bytes = f.bytes; calls = λ told. (looks_wider Read reads (f.calls told).0, writes_wider Put (writes told) (f.calls told).1) }
+
+pub wider_work : {D : Type 0} {g : Ghosts D} {Looked Written : ℕ → Type 0} (Read Put : ℕ → Type 0) {a b : D} → ((place : ℕ) → Looked place → Read place) → ((place : ℕ) → Written place → Put place) →
+    Works g Looked Written a b → Works g Read Put a b
+wider_work Read Put reads writes f = work_told Read Put reads (λ told. writes) f
 
 -- one part more reads and writes within the whole
 pub works_on : {D : Type 0} {g : Ghosts D} (s : Sizes) (from to : List ℕ) (at place done n total : ℕ) {a b c : D} → done + n ≤ total → Works g (InOwner s from at total) (InOwner s to place total) a b →

@@ -16,10 +16,9 @@ use Rattle.bd_recipe.specs.declared.fault.ReadFault.{ReadFault}
 use Rattle.bd_recipe.specs.declared.fault.ReadFault.TheVariants.{OutOfMemory}
 use Rattle.bd_volume.specs.Named.{IsBeside}
 use Rattle.bd_volume.proofs.Beside.{half_beside, unnamed_beside}
-use Rattle.bd_volume.proofs.Copying.{no_work}
+use Rattle.bd_volume.proofs.Copying.{no_work, work_told}
 use Rattle.bd_arrange.specs.Arranged.{AnswersDue, InDue, IsAllotted, IsDamageOfDue, KeepsStates}
 use Rattle.bd_arrange.proofs.StandsArranged.{arranged_store_stands}
-use Rattle.bd_arrange.proofs.Laps.{work_told}
 use Rattle.bd_arrange.proofs.Committing.{agrees_now, answers_named, answers_refused, but_refused, fits_desk, if_told, keeps_all, keeps_either, keeps_refused, keeps_settled}
 use Rattle.bd_arrange.proofs.arranging.arrange.Goals as goal
 
