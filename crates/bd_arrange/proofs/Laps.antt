@@ -45,6 +45,7 @@ use Rattle.bd_catalog.specs.Standing.{BeginWith}
 use Rattle.bd_catalog.proofs.Fitting.{all_differ-once}
 use Rattle.bd_catalog.proofs.InPlace.{starts}
 use Rattle.bd_catalog.proofs.Obeying.{IsBounded, distinct_of, rules_of}
+use Rattle.bd_catalog.proofs.OneArranging.{splits_rules}
 use Rattle.bd_catalog.proofs.Owning.{distinct_ascending, in_categories, open_ascend, waiting_volume}
 use Rattle.bd_catalog.proofs.StandingOwned.{count_in_volume}
 use Rattle.bd_catalog.proofs.StandingFound.{Obeys, obeys-each, opened-found}
@@ -62,7 +63,7 @@ use Rattle.bd_arrange.specs.Cuts.{InCategory, IsDamageIn, IsOfHeaders, IsWhole, 
 use Rattle.bd_arrange.specs.Desks.{Archives, Becomes, BecomesSplit, InRoom, IsCategory, IsToMove, KeepsExtents, OnDesk, Tells, Turned, new_extents}
 use Rattle.bd_arrange.specs.Turns.{Ground, IsKeptOf, IsLeft, IsSplit, Turns, archived_on, due, ground, grown_bytes, is_due, taken_by}
 use Rattle.bd_arrange.specs.Underway.{HasSplits, HasTurned, IsStaged, IsTakenFor, filled_bytes}
-use Rattle.bd_arrange.proofs.Splits.{Next, SameNumbers, added_by, ascends_last, bytes_later, extents_after, extents_grown, kept_by, may_last, next_of, rows_grown, rules_after, same_numbers, same_oldest, some_volume, splits-last, splits_among, start_among, still_open}
+use Rattle.bd_arrange.proofs.Splits.{Next, SameNumbers, added_by, ascends_last, bytes_later, extents_after, extents_grown, kept_by, may_last, next_of, rows_grown, same_numbers, same_oldest, some_volume, splits-last, splits_among, start_among, still_open}
 use Rattle.bd_arrange.proofs.Staying.{IsAtWork, active_among_all, among_map, kept_stays, last_among_all, open_apart, records_stay, room_staged, spots_stay, volume_stays, whole_before}
 use Rattle.bd_arrange.proofs.TakingTurns.{KeptStays, free_after, free_last, grown-last, to_move, to_split, turns_later, turns_left, turns_split}
 
@@ -451,7 +452,7 @@ module _ {D : Type 0} (d : Ghosts D) (found : Found) (entries : List RecipeEntry
               let mine : IsDistinct nat_eq (e.added ++ own) =
               IsDistinct-append e.added own (distinct_right added e.added firsts) (distinct_right kept own lasts)
               (λ n first later. apart n (Contains-append_right added e.added n first) (Contains-append_right kept own n later)) in
-              IsDistinct-append (all_extents cc) (e.added ++ own) (distinct_of (all_extents cc) (right_and (list_all (λ n. nat_lt n s.extents) (all_extents cc)) (all_differ (all_extents cc)) (rules_of s cc (rules_after s bounded c lap.splits rules lap.may)).extents)) mine
+              IsDistinct-append (all_extents cc) (e.added ++ own) (distinct_of (all_extents cc) (right_and (list_all (λ n. nat_lt n s.extents) (all_extents cc)) (all_differ (all_extents cc)) (rules_of s cc (splits_rules s bounded c lap.splits rules lap.may)).extents)) mine
               (λ n there here.
               let new : Contains ((added ++ e.added) ++ (kept ++ own)) n =
               ⊎_elim

@@ -12,12 +12,10 @@ use Rattle.bd_model.specs.declared.layout.CategoryRow.{CategoryRow}
 use Rattle.bd_model.proofs.ListLemmas.{left_and, right_and}
 use Rattle.bd_space.proofs.Distinct.{distinct_head, distinct_tail}
 use Rattle.bd_catalog.specs.Catalogue.{Catalogue, OpenEntry, VersionEntry, VolumeEntry, all_extents, bytes_of_rows, oldest_in}
-use Rattle.bd_catalog.specs.Rules.{ascends, obeys}
+use Rattle.bd_catalog.specs.Rules.{ascends}
 use Rattle.bd_catalog.specs.Splitting.{MaySplit, MaySplits, SplitEntry, after_split, after_splits, last_extents, last_grown, last_rows, put_in_place}
 use Rattle.bd_catalog.proofs.InPlace.{first, later, put_keeps, starts}
-use Rattle.bd_catalog.proofs.Obeying.{IsBounded}
 use Rattle.bd_catalog.proofs.Owning.{in_categories}
-use Rattle.bd_catalog.proofs.Splitting.{split_rules}
 use Rattle.bd_volume.proofs.RowsMore.{bytes-rows_more}
 
 -- ---- one more
@@ -29,10 +27,6 @@ splits-last c (x ∷ es) e = splits-last (after_split c x) es e
 pub may_last : (s : Sizes) (c : Catalogue) (es : List SplitEntry) (e : SplitEntry) → MaySplits s c es → MaySplit s (after_splits c es) e → MaySplits s c (es ++ e ∷ [])
 may_last s c [] e may one = (one, tt)
 may_last s c (x ∷ es) e may one = (may.0, may_last s (after_split c x) es e may.1 one)
-
-pub rules_after : (s : Sizes) → IsBounded s → (c : Catalogue) (es : List SplitEntry) → obeys s c ≡ true → MaySplits s c es → obeys s (after_splits c es) ≡ true
-rules_after s bounded c [] rules may = rules
-rules_after s bounded c (e ∷ es) rules may = rules_after s bounded (after_split c e) es (split_rules s bounded c e rules may.0) may.1
 
 -- ---- what splits leave
 

@@ -131,7 +131,8 @@ one_arranging c es splits =
 -- ---- and its step fits
 
 module _ (s : Sizes) (bounded : IsBounded s) where
-  splits_rules : (c : Catalogue) (es : List SplitEntry) → obeys s c ≡ true → MaySplits s c es → obeys s (after_splits c es) ≡ true
+  -- after splits that may be made, the rules hold
+  pub splits_rules : (c : Catalogue) (es : List SplitEntry) → obeys s c ≡ true → MaySplits s c es → obeys s (after_splits c es) ≡ true
   splits_rules c [] rules may = rules
   splits_rules c (e ∷ es) rules may = splits_rules (after_split c e) es (split_rules s bounded c e rules may.0) may.1
 
