@@ -2,6 +2,7 @@
 use Rattle.std.proofs.Common.{◌≡◌, ◌⊎◌, inl, ⊎_elim, ℕ, suc, ◌+◌, ◌-◌, ◌≤◌, true, false, cond, List, [], ◌∷◌, ◌++◌, length, map, drop, get_or, refl, sym, ◌∙◌, ap, arith, subst, nat_eq, nat_le, eq-eqb, length-append, flat_map, take, Some, None}
 use Rattle.std.specs.Prelude.{Ok}
 use Rattle.std.proofs.lemmas.Bool.{cases_lt, leb-true, ne_eqb}
+use Rattle.std.proofs.lemmas.List.{length-drop}
 use Rattle.std.proofs.lemmas.List.Sorted.{length_permutation}
 use Rattle.bd_disk.specs.Images.{AgreeBut}
 use Rattle.bd_disk.proofs.Agreeing.{agree_fewer}
@@ -81,6 +82,25 @@ map-both : {X Y : Type 0} (f : X → Y) (g : ℕ → X) (ns : List ℕ) → map 
 map-both f g [] = refl
 map-both f g (n ∷ ns) = ap (λ ys. f (g n) ∷ ys) (map-both f g ns)
 
+-- ---- a catalogue without its oldest version
+
+abbrev pub without_oldest : Catalogue → Catalogue
+without_oldest c = record c { versions = drop 1 c.versions; volumes = map (begun_from (oldest_in c + 1)) (drop 1 c.volumes) }
+
+-- later owners have what they had
+module _ (c : Catalogue) (next : oldest_in (without_oldest c) ≡ oldest_in c + 1) where
+  pub later_recipe : (v : ℕ) → oldest_in c + 1 ≤ v → recipe_extents (without_oldest c) v ≡ recipe_extents c v
+  later_recipe v low =
+      ap (λ n. get_or (map (λ (e : VersionEntry). e.extents) (drop 1 c.versions)) (v - n) []) next
+      ∙ ap (λ xs. get_or xs (v - (oldest_in c + 1)) []) (map-drop_one (λ (e : VersionEntry). e.extents) c.versions)
+      ∙ later_index (map (λ (e : VersionEntry). e.extents) c.versions) (oldest_in c) v low
+
+  pub later_volume : (j : ℕ) → oldest_in c + 1 ≤ j → volume_extents (without_oldest c) j ≡ volume_extents c j
+  later_volume j low =
+      ap (λ n. get_or (map (λ (e : VolumeEntry). e.extents) (without_oldest c).volumes) (j - n) []) next
+      ∙ ap (λ xs. get_or xs (j - (oldest_in c + 1)) []) (same_extents_begun (oldest_in c + 1) (drop 1 c.volumes) ∙ map-drop_one (λ (e : VolumeEntry). e.extents) c.volumes)
+      ∙ later_index (map (λ (e : VolumeEntry). e.extents) c.volumes) (oldest_in c) j low
+
 -- ---- with other versions left
 
 module _ (shape : Shape) (st : VersionState) (phase : Phase) (held : ℕ) (old new : List ℕ) (found after : Found)
@@ -96,7 +116,7 @@ module _ (shape : Shape) (st : VersionState) (phase : Phase) (held : ℕ) (old n
   c = found.catalogue
 
   abbrev rest : Catalogue
-  rest = record c { versions = drop 1 c.versions; volumes = map (begun_from (oldest_in c + 1)) (drop 1 c.volumes) }
+  rest = without_oldest c
 
   abbrev later : VersionState
   later = record st { expired = st.expired + 1 }
@@ -122,11 +142,7 @@ module _ (shape : Shape) (st : VersionState) (phase : Phase) (held : ℕ) (old n
   rest-is = ap (λ t. cond t (record empty_catalogue { base = c.newest; newest = c.newest }) rest) (ne_eqb (retained_in c) 1 (λ e. absurd (omega (arith, e, two))))
 
   fewer : length (drop 1 c.versions) ≡ length c.versions - 1
-  fewer = one_less c.versions
-    where
-      one_less : (es : List VersionEntry) → length (drop 1 es) ≡ length es - 1
-      one_less [] = refl
-      one_less (e ∷ es) = omega arith
+  fewer = length-drop 1 c.versions
 
   oldest-is : oldest_in c ≡ oldest h
   oldest-is = omega (arith, shows.numbers.newest, shows.numbers.retained, several)
@@ -141,18 +157,6 @@ module _ (shape : Shape) (st : VersionState) (phase : Phase) (held : ℕ) (old n
       agree_fewer _ _ old new (λ place out inside. out (within_halves found.sizes (1 - found.half.number) place (omega arith) inside)) made.elsewhere in
       begin_with_agrees s extents bytes old new (halves_agree s extents old new (subst (λ t. AgreeBut (InHalves t) old new) shows.sizes halves)) begins
 
-  later_recipe : (v : ℕ) → oldest h + 1 ≤ v → recipe_extents rest v ≡ recipe_extents c v
-  later_recipe v low =
-      ap (λ n. get_or (map (λ (e : VersionEntry). e.extents) (drop 1 c.versions)) (v - n) []) next
-      ∙ ap (λ xs. get_or xs (v - (oldest_in c + 1)) []) (map-drop_one (λ (e : VersionEntry). e.extents) c.versions)
-      ∙ later_index (map (λ (e : VersionEntry). e.extents) c.versions) (oldest_in c) v (omega (arith, low, oldest-is))
-
-  later_volume : (j : ℕ) → oldest h + 1 ≤ j → volume_extents rest j ≡ volume_extents c j
-  later_volume j low =
-      ap (λ n. get_or (map (λ (e : VolumeEntry). e.extents) rest.volumes) (j - n) []) next
-      ∙ ap (λ xs. get_or xs (j - (oldest_in c + 1)) []) (same_extents_begun (oldest_in c + 1) (drop 1 c.volumes) ∙ map-drop_one (λ (e : VolumeEntry). e.extents) c.volumes)
-      ∙ later_index (map (λ (e : VolumeEntry). e.extents) c.volumes) (oldest_in c) j (omega (arith, low, oldest-is))
-
   later_numbers : HasNumbers (history shape later) rest
   later_numbers = record { base = shows.numbers.base; newest = shows.numbers.newest; retained = omega (arith, fewer, shows.numbers.retained) }
 
@@ -165,7 +169,7 @@ module _ (shape : Shape) (st : VersionState) (phase : Phase) (held : ℕ) (old n
         ∙ map-numbers (version_line st h) (version_line later (history shape later)) (oldest (history shape later)) (newest h)
         (λ v low high. sym (subst (λ state. version_line state (history shape state) v ≡ version_line st h v) dropped-is (lines_stay.expired shape st v several)));
     recipes = λ v low high.
-        subst (λ ns. BeginWith s ns (spelled_recipe (recipe h v)) new) (sym (later_recipe v (omega (arith, low)))) (kept (recipe_extents c v) _ (shows.versions.recipes v (omega (arith, low)) high));
+        subst (λ ns. BeginWith s ns (spelled_recipe (recipe h v)) new) (sym (later_recipe c next v (omega (arith, low, oldest-is)))) (kept (recipe_extents c v) _ (shows.versions.recipes v (omega (arith, low)) high));
   }
 
   later_volumes : HasVolumes s (history shape later) phase rest new
@@ -178,7 +182,7 @@ module _ (shape : Shape) (st : VersionState) (phase : Phase) (held : ℕ) (old n
         ∙ map-numbers (λ j. rows_from (oldest h + 1) (rows h phase j)) (rows (given_up h) phase) (oldest h + 1) (newest h - 1) (λ j low high. sym (takes.rows j (omega (arith, low))))
         ∙ ap (λ n. map (rows (given_up h) phase) (numbers n (newest h - 1))) (sym takes.oldest_next);
     records = λ j low below.
-        subst (λ ns. BeginWith s ns (records_of (closed_volume h phase j)) new) (sym (later_volume j (omega (arith, low)))) (kept (volume_extents c j) _ (shows.volumes.records j (omega (arith, low)) below));
+        subst (λ ns. BeginWith s ns (records_of (closed_volume h phase j)) new) (sym (later_volume c next j (omega (arith, low, oldest-is)))) (kept (volume_extents c j) _ (shows.volumes.records j (omega (arith, low)) below));
   }
 
   -- the image stands for the versions without the oldest
@@ -201,7 +205,7 @@ last_expired shape st phase held old new found after stands opens one made sizes
     let last : st.expired + 1 ≡ length st.versions = omega (arith, one, shows.numbers.retained, length-history shape st) in
     let base : ℕ = st.base + length st.versions in
     let nothing : Catalogue = record empty_catalogue { base = c.newest; newest = c.newest } in
-    let rest : Catalogue = record c { versions = drop 1 c.versions; volumes = map (begun_from (oldest_in c + 1)) (drop 1 c.volumes) } in
+    let rest : Catalogue = without_oldest c in
     let newest-is : c.newest ≡ base = omega (arith, shows.numbers.newest, length-history shape st) in
     let is : after.catalogue ≡ record empty_catalogue { base = base; newest = base } =
     catalogue ∙ ap (λ t. cond t nothing rest) (eq-eqb (retained_in c) 1 one) ∙ ap (λ n. record empty_catalogue { base = n; newest = n }) newest-is in

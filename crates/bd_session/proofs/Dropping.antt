@@ -1,5 +1,5 @@
 -- Which extents an expiry frees.
-use Rattle.std.proofs.Common.{◌≡◌, ◌∙◌, ℕ, suc, ◌+◌, ◌-◌, ◌<◌, ◌≤◌, ◌==◌, true, false, cond, List, [], ◌∷◌, ◌++◌, map, take, drop, get_or, inl, inr, refl, sym, ap, subst, arith}
+use Rattle.std.proofs.Common.{◌≡◌, ◌∙◌, ℕ, ◌+◌, ◌-◌, ◌≤◌, ◌==◌, true, false, cond, List, [], ◌∷◌, ◌++◌, map, take, get_or, inl, inr, refl, sym, ap, subst, arith}
 use Rattle.std.specs.Prelude.{IsPermutation}
 use Rattle.std.specs.List.{flat_map}
 use Rattle.std.proofs.lemmas.Bool.{eqb-true, eqb-false}
@@ -8,31 +8,23 @@ use Rattle.std.proofs.lemmas.List.Sorted.{IsPermutation-append_comm, IsPermutati
 use Rattle.bd_model.specs.Sizes.{Sizes}
 use Rattle.bd_catalog.specs.Catalogue.{Catalogue, VersionEntry, VolumeEntry, all_extents, empty_catalogue, oldest_in, recipe_extents, retained_in, volume_extents}
 use Rattle.bd_catalog.specs.Rules.{obeys}
-use Rattle.bd_catalog.specs.Splitting.{after_expire, begun_from}
+use Rattle.bd_catalog.specs.Splitting.{after_expire}
 use Rattle.bd_catalog.proofs.Obeying.{NumbersHold, numbers_of, rules_of}
 use Rattle.bd_catalog.proofs.Owning.{own-expire}
+use Rattle.bd_catalog.proofs.StandingExpired.{later_recipe, later_volume, without_oldest}
 use Rattle.bd_session.specs.Drops.{Drops, DropsOldest}
 
--- what an owner behind the first has
-behind : {X : Type 0} (f : X → List ℕ) (xs : List X) (k : ℕ) → get_or (map f (drop 1 xs)) k [] ≡ get_or (map f xs) (suc k) []
-behind f [] k = refl
-behind f (x ∷ xs) k = refl
-
--- and what the first one has
+-- what the first owner has
 front : {X : Type 0} (f : X → List ℕ) (xs : List X) → flat_map f (take 1 xs) ≡ get_or (map f xs) 0 []
 front f [] = refl
 front f (x ∷ xs) = append-nil (f x)
-
-begun_extents : (r : ℕ) (es : List VolumeEntry) → map (λ e. e.extents) (map (begun_from r) es) ≡ map (λ (e : VolumeEntry). e.extents) es
-begun_extents r [] = refl
-begun_extents r (e ∷ es) = ap (λ xs. e.extents ∷ xs) (begun_extents r es)
 
 module _ (s : Sizes) (c : Catalogue) (rules : obeys s c ≡ true) where
   abbrev nothing : Catalogue
   nothing = record empty_catalogue { base = c.newest; newest = c.newest }
 
   abbrev rest : Catalogue
-  rest = record c { versions = drop 1 c.versions; volumes = map (begun_from (oldest_in c + 1)) (drop 1 c.volumes) }
+  rest = without_oldest c
 
   abbrev version : VersionEntry → List ℕ
   version e = e.extents
@@ -47,17 +39,6 @@ module _ (s : Sizes) (c : Catalogue) (rules : obeys s c ≡ true) where
   module _ (two : 2 ≤ retained_in c) (more : (retained_in c == 1) ≡ false) where
     next : oldest_in rest ≡ oldest_in c + 1
     next = omega (arith, length-drop 1 c.versions, two, numbers.base)
-
-    within : (v : ℕ) → oldest_in c < v → suc (v - oldest_in rest) ≡ v - oldest_in c
-    within v above = omega (arith, next, above)
-
-    recipes : (v : ℕ) → oldest_in c < v → recipe_extents rest v ≡ recipe_extents c v
-    recipes v above = behind version c.versions (v - oldest_in rest) ∙ ap (λ n. get_or (map version c.versions) n []) (within v above)
-
-    volumes : (j : ℕ) → oldest_in c < j → volume_extents rest j ≡ volume_extents c j
-    volumes j above =
-        ap (λ xs. get_or xs (j - oldest_in rest) []) (begun_extents (oldest_in c + 1) (drop 1 c.volumes))
-        ∙ behind volume c.volumes (j - oldest_in rest) ∙ ap (λ n. get_or (map volume c.volumes) n []) (within j above)
 
     first : oldest_in c - oldest_in c ≡ 0
     first = omega arith
@@ -77,7 +58,7 @@ module _ (s : Sizes) (c : Catalogue) (rules : obeys s c ≡ true) where
         (IsPermutation-append_left (all_extents rest) _ _ (IsPermutation-append_comm (flat_map version (take 1 c.versions)) (flat_map volume (take 1 c.volumes))))))
 
     drops : DropsOldest c rest
-    drops = record { recipes = λ v above below. recipes v above; volumes = λ j above below. volumes j above; actives = λ i. refl; freed = freed }
+    drops = record { recipes = λ v above below. later_recipe c next v (omega (arith, above)); volumes = λ j above below. later_volume c next j (omega (arith, above)); actives = λ i. refl; freed = freed }
 
   pub drops_oldest : 1 ≤ retained_in c → Drops (retained_in c) c (after_expire c)
   drops_oldest some =
