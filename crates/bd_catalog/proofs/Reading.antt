@@ -13,9 +13,6 @@ use Rattle.bd_catalog.specs.Widths.{FitList, FitsFour, FitsRow, FitsVolume}
 use Rattle.bd_catalog.proofs.Spelling.{ReadsBack, many_back, list_back, row_back}
 
 module _ {A : Type 0} (read : List ℕ → Read A) (spell : A → List ℕ) (fits : A → Type 0) (back : ReadsBack read spell fits) where
-  pub same_item : (x y : A) (rest others : List ℕ) → fits x → fits y → spell x ++ rest ≡ spell y ++ others → x ≡ y
-  same_item x y rest others fx fy same = sym (ap (λ (r : Read A). r.it) (back x rest fx)) ∙ ap (λ (b : List ℕ). (read b).it) same ∙ ap (λ (r : Read A). r.it) (back y others fy)
-
   pub same_rest : EndsItself spell fits
   same_rest x y rest others fx fy same = sym (ap (λ (r : Read A). r.rest) (back x rest fx)) ∙ ap (λ (b : List ℕ). (read b).rest) same ∙ ap (λ (r : Read A). r.rest) (back y others fy)
 

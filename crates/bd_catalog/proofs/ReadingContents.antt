@@ -1,10 +1,10 @@
 -- Bytes that spell a catalogue, taken apart in the order of their fields.
-use Rattle.std.proofs.Common.{◌≡◌, ℕ, ◌-◌, ◌^◌, ◌<◌, List, ◌++◌, length, drop, sym, ◌∙◌, ap, arith}
+use Rattle.std.proofs.Common.{◌≡◌, ℕ, ◌-◌, ◌^◌, ◌<◌, List, ◌++◌, length, drop, sym, ◌∙◌, ap}
 use Rattle.std.specs.List.{flat_map}
 use Rattle.bd_wire.proofs.ReadingBack.{u32_same}
 use Rattle.bd_model.specs.Records.{four}
 use Rattle.bd_model.specs.declared.layout.Phase.{Phase}
-use Rattle.bd_catalog.specs.Catalogue.{Catalogue, VersionEntry, VolumeEntry, OpenEntry}
+use Rattle.bd_catalog.specs.Catalogue.{Catalogue, VersionEntry, VolumeEntry}
 use Rattle.bd_catalog.specs.Reading.{Took, SpellsNone, FitMany, spelled_actives}
 use Rattle.bd_catalog.specs.Spelling.{read_version, read_volume, spelled_phase, spelled_version, spelled_volume, spelled_active, spelled}
 use Rattle.bd_catalog.specs.Widths.{FitList, FitsPhase, FitsVersion, FitsVolume, FitsOpen, IsSpellable}
@@ -32,9 +32,6 @@ pub record Numbers (base newest count : ℕ) (old new : List ℕ) : Type 0 where
   pub count_fits : count < 2 ^ 32
 
 module _ (c : Catalogue) (rest : List ℕ) (fits : IsSpellable c) (old : List ℕ) (same : old ≡ spelled c ++ rest) where
-  numbers_long : length old < 12 → ⊥
-  numbers_long short = omega (arith, ap length (same ∙ spelled_apart c rest))
-
   module _ (base newest count : ℕ) (b1 : List ℕ) (numbers : Numbers base newest count old b1) where
     first_same : (base ≡ c.base) × (four newest ++ (four count ++ b1) ≡ four c.newest ++ (four (length c.versions) ++ behind_numbers c rest))
     first_same = u32_same base c.base (four newest ++ (four count ++ b1)) (four c.newest ++ (four (length c.versions) ++ behind_numbers c rest)) numbers.base_fits fits.base (sym numbers.so ∙ same ∙ spelled_apart c rest)
@@ -45,15 +42,9 @@ module _ (c : Catalogue) (rest : List ℕ) (fits : IsSpellable c) (old : List �
     third_same : (count ≡ length c.versions) × (b1 ≡ behind_numbers c rest)
     third_same = u32_same count (length c.versions) b1 (behind_numbers c rest) numbers.count_fits fits.versions.count second_same.1
 
-    no_phase : SpellsNone spelled_phase FitsPhase b1 → ⊥
-    no_phase none = none c.phase (behind_the_phase c rest) fits.phase third_same.1
-
     module _ (phase : Phase) (b2 : List ℕ) (waits : Took spelled_phase FitsPhase phase b1 b2) where
       fourth_same : b2 ≡ behind_the_phase c rest
       fourth_same = sym (behind_phase phase b2) ∙ ap (λ (b : List ℕ). drop 4 (drop 1 b)) (sym waits.so ∙ third_same.1) ∙ behind_phase c.phase (behind_the_phase c rest)
-
-      no_versions : SpellsNone (flat_map spelled_version) (FitMany FitsVersion count) b2 → ⊥
-      no_versions none = none c.versions (behind_versions c rest) (record { count_is = sym third_same.0; each = fits.versions.each }) fourth_same
 
       module _ (versions : List VersionEntry) (b3 : List ℕ) (rows : Took (flat_map spelled_version) (FitMany FitsVersion count) versions b2 b3) where
         fifth_same : b3 ≡ behind_versions c rest
@@ -71,17 +62,8 @@ module _ (c : Catalogue) (rest : List ℕ) (fits : IsSpellable c) (old : List �
             (closed.fit.count_is ∙ ap (λ (n : ℕ). n - 1) third_same.0 ∙ sym fits.volume_count) (sym closed.so ∙ fifth_same))
 
 module _ (old : List ℕ) where
-  pub none_short : length old < 12 → SpellsNone spelled IsSpellable old
-  none_short short = λ c rest fits same. numbers_long c rest fits old same short
-
   module _ (base newest count : ℕ) (b1 : List ℕ) (numbers : Numbers base newest count old b1) where
-    pub none_phase : SpellsNone spelled_phase FitsPhase b1 → SpellsNone spelled IsSpellable old
-    none_phase none = λ c rest fits same. no_phase c rest fits old same base newest count b1 numbers none
-
     module _ (phase : Phase) (b2 : List ℕ) (waits : Took spelled_phase FitsPhase phase b1 b2) where
-      pub none_versions : SpellsNone (flat_map spelled_version) (FitMany FitsVersion count) b2 → SpellsNone spelled IsSpellable old
-      none_versions none = λ c rest fits same. no_versions c rest fits old same base newest count b1 numbers phase b2 waits none
-
       module _ (versions : List VersionEntry) (b3 : List ℕ) (rows : Took (flat_map spelled_version) (FitMany FitsVersion count) versions b2 b3) where
         pub none_volumes : SpellsNone (flat_map spelled_volume) (FitMany FitsVolume (count - 1)) b3 → SpellsNone spelled IsSpellable old
         none_volumes none = λ c rest fits same. no_volumes c rest fits old same base newest count b1 numbers phase b2 waits versions b3 rows none
@@ -89,31 +71,3 @@ module _ (old : List ℕ) where
         module _ (volumes : List VolumeEntry) (b4 : List ℕ) (closed : Took (flat_map spelled_volume) (FitMany FitsVolume (count - 1)) volumes b3 b4) where
           pub none_actives : SpellsNone spelled_actives (FitList FitsOpen) b4 → SpellsNone spelled IsSpellable old
           none_actives none = λ c rest fits same. no_actives c rest fits old same base newest count b1 numbers phase b2 waits versions b3 rows volumes b4 closed none
-
-          -- the catalogue of these parts
-          abbrev pub catalogue_of_parts : List OpenEntry → Catalogue
-          catalogue_of_parts actives = record { base = base; newest = newest; phase = phase; versions = versions; volumes = volumes; actives = actives }
-
-          pub took_catalogue : (actives : List OpenEntry) (new : List ℕ) → Took spelled_actives (FitList FitsOpen) actives b4 new
-              → Took spelled IsSpellable (catalogue_of_parts actives) old new
-          took_catalogue actives new opens =
-              let c = catalogue_of_parts actives in
-              let whole : old ≡ four base ++ (four newest ++ (four (length versions) ++ (spelled_phase phase ++ (flat_map spelled_version versions ++ (flat_map spelled_volume volumes ++ (four (length actives) ++ (flat_map spelled_active actives ++ new))))))) =
-              numbers.so
-              ∙ ap (λ (n : ℕ). four base ++ (four newest ++ (four n ++ b1))) (sym rows.fit.count_is)
-              ∙ ap (λ (b : List ℕ). four base ++ (four newest ++ (four (length versions) ++ b)))
-              (waits.so ∙ ap (λ (b : List ℕ). spelled_phase phase ++ b)
-              (rows.so ∙ ap (λ (b : List ℕ). flat_map spelled_version versions ++ b)
-              (closed.so ∙ ap (λ (b : List ℕ). flat_map spelled_volume volumes ++ b) opens.so))) in
-              record {
-                so = whole ∙ sym (spelled_apart c new);
-                fit = record {
-                  base = numbers.base_fits;
-                  newest = numbers.newest_fits;
-                  phase = waits.fit;
-                  versions = record { count = omega (arith, rows.fit.count_is, numbers.count_fits); each = rows.fit.each };
-                  volumes = closed.fit.each;
-                  volume_count = closed.fit.count_is ∙ ap (λ (n : ℕ). n - 1) (sym rows.fit.count_is);
-                  actives = opens.fit;
-                };
-              }

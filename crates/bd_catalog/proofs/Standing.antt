@@ -13,7 +13,7 @@ use Rattle.bd_catalog.specs.Catalogue.{Catalogue, recipe_extents, volume_extents
 use Rattle.bd_catalog.specs.Opening.{Found, opened}
 use Rattle.bd_catalog.specs.Standing.{BeginWith, HasNumbers, HasVersions, HasVolumes, HasActives, HasReserve, StandsFor, Stands}
 use Rattle.bd_catalog.specs.Agreement.{InExtents}
-use Rattle.bd_catalog.proofs.Agreeing.{InFront, opens_again, begin_with_agrees, owners_apart, front_apart}
+use Rattle.bd_catalog.proofs.Agreeing.{InFront, opens_again, begin_with_agrees, front_apart}
 
 -- what was found shows the state: all of `StandsFor` but the state's own rules and the opening
 pub record Shows (shape : Shape) (st : VersionState) (phase : Phase) (held : ℕ) (found : Found) (image : List ℕ) : Type 0 where
@@ -145,19 +145,6 @@ stands_for_agrees {found = found} {old = old} {new = new} opens agree =
     stands_for_opened found found opens
     (opens_again found old new opens (agree_fewer (InStore found) (InFront found.sizes) old new (λ place front. inl front) agree)) refl refl
     (agree_fewer (InStore found) (InExtents found.sizes (all_extents found.catalogue)) old new (λ place owned. inr owned) agree)
-
--- the same at some phase
-pub stands_agrees : {shape : Shape} {held : ℕ} {st : VersionState} {found : Found} {old new : List ℕ} →
-    opened old ≡ Ok found → Agree (InStore found) old new → Stands shape held st old → Stands shape held st new
-stands_agrees opens agree stands = record { phase = stands.phase; so = stands_for_agrees opens agree stands.so }
-
--- ---- writes in free extents
-
--- a write in extents that nobody owns changes no place that the store reads
-pub free_agrees : (found : Found) (extents old new : List ℕ) → ((e : ℕ) → Contains extents e → Contains (all_extents found.catalogue) e → ⊥) →
-    AgreeBut (InExtents found.sizes extents) old new → Agree (InStore found) old new
-free_agrees found extents old new free agree =
-    agree_fewer _ (InStore found) old new (λ place store written. ⊎_elim (λ front. front_apart found.sizes extents place front written) (λ owned. owners_apart found.sizes extents (all_extents found.catalogue) free place written owned) store) agree
 
 -- a write in the halves changes no extent
 pub halves_agree : (s : Sizes) (extents old new : List ℕ) → AgreeBut (InHalves s) old new → Agree (InExtents s extents) old new

@@ -96,21 +96,6 @@ pub record IsAnswered (shape : Shape) (held : ℕ) (st : VersionState) (phase : 
   pub stands : StandsFor shape outcome.state (phase_after outcome.state phase answer) held image
   pub keeps : beside ≡ outcome.files
 
--- a refusal leaves everything
-pub refused_answered : (shape : Shape) (held : ℕ) (st : VersionState) (files : FileMap) (name stream image : List ℕ) →
-    let h : History = history shape st in
-    let free : ℕ = free_extents shape held st in
-    let count : ℕ = counted shape.extent h (chunks (cut_of shape) stream) free in
-    StandsFor shape st Settled held image → newest h < last_number → retained h < shape.retain → map.get files name ≡ Some stream → free < count →
-    IsAnswered shape held st Settled files (Backup name) (FullExtents count free held) image files
-refused_answered shape held st files name stream image stands below fewer there more = record {
-  outcome = unchanged st files (refused shape held st files name stream);
-  leads = backup_step shape held st files name stream below fewer there ∙ ap Some (backup_refused shape held st files name stream more);
-  says = refl;
-  stands = stands;
-  keeps = refl;
-}
-
 -- a backup is answered where the new image has its catalogue and its bytes
 pub backup_answered : (shape : Shape) (held : ℕ) (st : VersionState) (files : FileMap) (name stream xs ys old new : List ℕ) (before after : Found) →
     let h : History = history shape st in
