@@ -57,6 +57,17 @@ owners_apart s one other apart place in_one in_other =
 pub front_apart : (s : Sizes) (extents : List ℕ) (place : ℕ) → InFront s place → InExtents s extents place → ⊥
 front_apart s extents place front inside = omega (arith, front, inside.within.0)
 
+-- images with the same numbers in their superblocks name the same sizes
+pub sizes_by_fields : (old new : List ℕ) → ((at : ℕ) → at + 4 ≤ 64 → four_at new at ≡ four_at old at) → sizes_at new ≡ sizes_at old
+sizes_by_fields old new field = λ k. record {
+  extent = field 12 (omega arith) k;
+  extents = field 16 (omega arith) k;
+  retain = field 20 (omega arith) k;
+  min = field 24 (omega arith) k;
+  bits = field 28 (omega arith) k;
+  max = field 32 (omega arith) k;
+}
+
 -- the places of the superblock
 abbrev pub InSuperblock : ℕ → Type 0
 InSuperblock place = place < 64
@@ -70,14 +81,7 @@ module _ (old new : List ℕ) (agree : Agree InSuperblock old new) where
 
   -- images that agree on the superblock name the same sizes
   pub same_sizes : sizes_at new ≡ sizes_at old
-  same_sizes = λ k. record {
-    extent = super_four 12 (omega arith) k;
-    extents = super_four 16 (omega arith) k;
-    retain = super_four 20 (omega arith) k;
-    min = super_four 24 (omega arith) k;
-    bits = super_four 28 (omega arith) k;
-    max = super_four 32 (omega arith) k;
-  }
+  same_sizes = sizes_by_fields old new super_four
 
   -- and pass the same checks
   same_checks : (half : Result Found Place) →

@@ -10,6 +10,7 @@ use Rattle.bd_model.specs.declared.place.Place.TheVariants.{Short, Gate, Magic, 
 use Rattle.bd_gate.specs.Superblock.{byte_at, four_at, open_gate, magic, sizes_at}
 use Rattle.bd_gate.specs.Halves.{newest_half}
 use Rattle.bd_catalog.specs.Opening.{Found, opened, opened_half}
+use Rattle.bd_catalog.proofs.Agreeing.{sizes_by_fields}
 use Rattle.bd_recover.specs.Opens.{first_failing, superblock_fault}
 
 -- the checks of an opening in their order
@@ -50,16 +51,7 @@ first_bytes : (k n : ℕ) (image : List ℕ) → k + n ≤ 64 → bytes_at k n (
 first_bytes k n image fits = sym (sub_bytes 0 64 k n image fits) ∙ ap (λ at. bytes_at at n image) (zero-add k)
 
 pub same_sizes : (image : List ℕ) → sizes_at (bytes_at 0 64 image) ≡ sizes_at image
-same_sizes image =
-    let number : (k : ℕ) → k + 4 ≤ 64 → four_at (bytes_at 0 64 image) k ≡ four_at image k = λ k fits. ap (from_be_bytes w32) (first_bytes k 4 image fits) in
-    λ i. record {
-      extent = number 12 (omega arith) i;
-      extents = number 16 (omega arith) i;
-      retain = number 20 (omega arith) i;
-      min = number 24 (omega arith) i;
-      bits = number 28 (omega arith) i;
-      max = number 32 (omega arith) i;
-    }
+same_sizes image = sizes_by_fields image (bytes_at 0 64 image) (λ k fits. ap (from_be_bytes w32) (first_bytes k 4 image fits))
 
 same_fault : (image : List ℕ) → superblock_fault (bytes_at 0 64 image) ≡ superblock_fault image
 same_fault image =
