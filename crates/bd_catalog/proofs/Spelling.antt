@@ -1,5 +1,5 @@
 -- A catalogue whose numbers fit their fields is read back from its spelling, whatever stands behind it.
-use Rattle.std.proofs.Common.{◌≡◌, ℕ, ◌-◌, ◌^◌, ◌<◌, List, [], ◌∷◌, ◌++◌, length, take, drop, refl, sym, ◌∙◌, ap, append_assoc, bytes_eq, if◌then◌else◌}
+use Rattle.std.proofs.Common.{◌≡◌, ℕ, ◌-◌, List, [], ◌∷◌, ◌++◌, length, take, drop, refl, sym, ◌∙◌, ap, append_assoc, bytes_eq, if◌then◌else◌}
 use Rattle.std.specs.List.{All, flat_map}
 use Rattle.std.specs.Int.{w32, w64, from_be_bytes}
 use Rattle.std.proofs.lemmas.List.{append-nil, drop_at}
@@ -10,7 +10,7 @@ use Rattle.bd_model.specs.declared.layout.Phase.TheVariants.{Settled, Waiting}
 use Rattle.bd_model.specs.declared.layout.CategoryRow.{CategoryRow}
 use Rattle.bd_model.specs.Records.{four, eight}
 use Rattle.bd_catalog.specs.Catalogue.{Catalogue, VersionEntry, VolumeEntry, OpenEntry}
-use Rattle.bd_catalog.specs.Spelling.{Read, read_four, read_eight, read_many, read_list, read_row, read_version, read_volume, read_active, read_catalogue, spelled_extents, spelled_phase, spelled_row, spelled_version, spelled_volume, spelled_active, spelled}
+use Rattle.bd_catalog.specs.Spelling.{Read, read_four, read_many, read_list, read_row, read_version, read_volume, read_active, read_catalogue, spelled_extents, spelled_phase, spelled_row, spelled_version, spelled_volume, spelled_active, spelled}
 use Rattle.bd_catalog.specs.Widths.{FitList, FitsFour, FitsRow, FitsVersion, FitsVolume, FitsOpen, FitsPhase, IsSpellable}
 
 -- what was read, with the bytes behind it
@@ -23,9 +23,6 @@ ReadsBack {A} read spell fits = (x : A) (rest : List ℕ) → fits x → read (s
 
 pub four_back : ReadsBack read_four four FitsFour
 four_back n rest fits = ap (λ (it : ℕ). read_of it rest) (from_be_bytes-to_be_bytes_4 n fits)
-
-pub eight_back : ReadsBack read_eight eight (λ n. n < 2 ^ 64)
-eight_back n rest fits = ap (λ (it : ℕ). read_of it rest) (from_be_bytes-to_be_bytes_8 n fits)
 
 pub row_back : ReadsBack read_row spelled_row FitsRow
 row_back row rest fits =

@@ -4,7 +4,7 @@ use Rattle.std.specs.Prelude.{Ok, Contains}
 use Rattle.std.proofs.lemmas.List.Elements.{All-contains}
 use Rattle.bd_disk.specs.History.{History, contents}
 use Rattle.bd_disk.specs.Images.{InRange, Agree, AgreeBut}
-use Rattle.bd_disk.specs.Made.{IsSettled, LeavesNow, LeavesSince, WritesOnly}
+use Rattle.bd_disk.specs.Made.{LeavesNow, LeavesSince, WritesOnly}
 use Rattle.bd_disk.proofs.Agreeing.{agree_fewer, agree_sym}
 use Rattle.bd_disk.proofs.Frames.{contents_now, leaves_both, leaves_by_writes, leaves_now, leaves_wider, same_contents, still_sure, sure_same}
 use Rattle.bd_model.specs.Sizes.{Sizes, sizes_of, extent_place}
@@ -145,7 +145,3 @@ either_stands phase Made found after old image opens stands makes either =
     (halves_agree found.sizes (all_extents found.catalogue) old image
     (agree_fewer _ _ old image (λ place out inside. out (within_halves found.sizes (1 - found.half.number) place (omega arith) inside)) kept.elsewhere)) stands))
     (λ made. inr (makes image made)) either
-
--- after one that answered Ok
-pub committed_sure : (Made : List ℕ → Type 0) (found after : Found) (old : List ℕ) {h : History} → ((image : List ℕ) → HasCommitted found after old image → Made image) → HasCommitted found after old (contents h) → IsSettled h → LeavesNow Made h
-committed_sure Made found after old {h} makes made settled = record { each = λ image now. subst Made (sym (settled.each image now)) (makes (contents h) made) }

@@ -1,15 +1,13 @@
 -- What stays of the newest half where its standing stays, what a frame makes of it, and what a commit leaves elsewhere.
 use Rattle.std.proofs.Common.{◌≡◌, add-zero, ℕ, ◌+◌, ◌-◌, ◌*◌, ◌<◌, ◌≤◌, ◌%◌, List, length, take, drop, get_or, Some, sym, ◌∙◌, ap, subst, arith, length-take, get_or-take, get_or-drop, take-take}
 use Rattle.std.proofs.lemmas.List.{drop-take, drop-drop}
-use Rattle.std.specs.Int.{w32, w64, from_be_bytes}
-use Rattle.bd_disk.specs.Images.{InRange, Agree, AgreeBut, bytes_at}
+use Rattle.std.specs.Int.{w64, from_be_bytes}
+use Rattle.bd_disk.specs.Images.{InRange, Agree, bytes_at}
 use Rattle.bd_disk.specs.History.{History, contents}
 use Rattle.bd_disk.specs.Made.{IsSure, WritesNothing}
-use Rattle.bd_disk.proofs.Agreeing.{same_bytes_at}
 use Rattle.bd_disk.proofs.Frames.{still_now, unchanged}
-use Rattle.bd_model.specs.Extents.{extent_bytes}
-use Rattle.bd_model.specs.Sizes.{Sizes, half_bytes, half_place, extent_place, payload_room}
-use Rattle.bd_gate.specs.Superblock.{eight_at, four_at, sizes_at}
+use Rattle.bd_model.specs.Sizes.{Sizes, half_bytes, half_place, payload_room}
+use Rattle.bd_gate.specs.Superblock.{eight_at}
 use Rattle.bd_gate.specs.Halves.{Half, half_at, newest_half, is_open, turn_at, payload_of, InHalf, InHalves}
 use Rattle.bd_gate.specs.Standing.{behind, SameStanding, HasFrame, IsBeside, next_turn}
 use Rattle.bd_gate.proofs.Newest.{place, places, other_twice}
@@ -135,32 +133,6 @@ half_within size number at lt r = let p = places size number lt in (omega (arith
 pub within_halves : (s : Sizes) (number at : ℕ) → number < 2 → InHalf s number at → InHalves s at
 within_halves s number at lt r = half_within (half_bytes s) number at lt r
 
--- the superblock and the extents lie in no half
+-- the superblock lies in no half
 pub superblock_apart : (s : Sizes) (at : ℕ) → at < 64 → InHalves s at → ⊥
 superblock_apart s at lt r = omega (arith, r.0)
-
-pub extents_apart : (s : Sizes) (e at : ℕ) → extent_place s e ≤ at → InHalves s at → ⊥
-extents_apart s e at le r = behind_both (2 * half_bytes s) (e * s.extent) at le r
-  where
-    behind_both : (both before at : ℕ) → 64 + both + before ≤ at → InRange 64 both at → ⊥
-    behind_both both before at le r = omega (arith, r.1)
-
--- images that agree but for the halves name the same sizes, and have the same bytes of a superblock
-pub superblock_same : (s : Sizes) (at n : ℕ) (old image : List ℕ) → at + n ≤ 64 → AgreeBut (InHalves s) old image → bytes_at at n image ≡ bytes_at at n old
-superblock_same s at n old image fits but = same_bytes_at _ old image at n (λ place r. superblock_apart s place (omega (arith, r.1))) but
-
-pub sizes_same : (s : Sizes) (old image : List ℕ) → AgreeBut (InHalves s) old image → sizes_at image ≡ sizes_at old
-sizes_same s old image but =
-    let field : (at : ℕ) → at + 4 ≤ 64 → four_at image at ≡ four_at old at = λ at fits. ap (from_be_bytes w32) (superblock_same s at 4 old image fits but) in
-    λ i. record {
-      extent = field 12 (omega arith) i;
-      extents = field 16 (omega arith) i;
-      retain = field 20 (omega arith) i;
-      min = field 24 (omega arith) i;
-      bits = field 28 (omega arith) i;
-      max = field 32 (omega arith) i;
-    }
-
--- and the same bytes in each extent, and so of each owner
-pub extent_same : (s : Sizes) (e : ℕ) (old image : List ℕ) → AgreeBut (InHalves s) old image → extent_bytes s image e ≡ extent_bytes s old e
-extent_same s e old image but = same_bytes_at _ old image (extent_place s e) s.extent (λ place r. extents_apart s e place r.0) but
