@@ -42,6 +42,7 @@ use Rattle.bd_catalog.specs.Rows.{RowPlace, Spot, open_row, row_spots}
 use Rattle.bd_catalog.specs.Rules.{active_holds, all_differ, ascends, fits_eight, obeys, row_holds, starts_hold, volume_holds}
 use Rattle.bd_catalog.specs.Splitting.{KeptEntry, MaySplit, MaySplits, SplitEntry, after_split, after_splits, kept_extents, kept_of, last_extents, last_rows}
 use Rattle.bd_catalog.specs.Standing.{BeginWith}
+use Rattle.bd_catalog.proofs.Expiring.{AscendsFrom, ascends_first}
 use Rattle.bd_catalog.proofs.Fitting.{all_differ-once}
 use Rattle.bd_catalog.proofs.InPlace.{starts}
 use Rattle.bd_catalog.proofs.Obeying.{IsBounded, distinct_of, rules_of}
@@ -63,7 +64,7 @@ use Rattle.bd_arrange.specs.Cuts.{InCategory, IsDamageIn, IsOfHeaders, IsWhole, 
 use Rattle.bd_arrange.specs.Desks.{Archives, Becomes, BecomesSplit, InRoom, IsCategory, IsToMove, KeepsExtents, OnDesk, Tells, Turned, new_extents}
 use Rattle.bd_arrange.specs.Turns.{Ground, IsKeptOf, IsLeft, IsSplit, Turns, archived_on, due, ground, grown_bytes, is_due, taken_by}
 use Rattle.bd_arrange.specs.Underway.{HasSplits, HasTurned, IsStaged, IsTakenFor, filled_bytes}
-use Rattle.bd_arrange.proofs.Splits.{Next, SameNumbers, added_by, ascends_last, bytes_later, extents_after, extents_grown, kept_by, may_last, next_of, rows_grown, same_numbers, same_oldest, some_volume, splits-last, splits_among, start_among, still_open}
+use Rattle.bd_arrange.proofs.Splits.{SameNumbers, added_by, ascends_last, bytes_later, extents_after, extents_grown, kept_by, may_last, rows_grown, same_numbers, same_oldest, some_volume, splits-last, splits_among, start_among, still_open}
 use Rattle.bd_arrange.proofs.Staying.{IsAtWork, active_among_all, among_map, kept_stays, last_among_all, open_apart, records_stay, room_staged, spots_stay, volume_stays, whole_before}
 use Rattle.bd_arrange.proofs.TakingTurns.{KeptStays, free_after, free_last, grown-last, to_move, to_split, turns_later, turns_left, turns_split}
 
@@ -133,8 +134,8 @@ module _ {D : Type 0} (d : Ghosts D) (found : Found) (entries : List RecipeEntry
     has_a : Contains c.actives a
     has_a = lap.among 0 a (omega arith)
 
-    next : Next lap.low c.newest a.row.start (starts rest)
-    next = next_of lap.low c.newest a.row.start (starts rest) lap.later
+    next : AscendsFrom lap.low c.newest a.row.start (starts rest)
+    next = ascends_first lap.low c.newest a.row.start (starts rest) lap.later
 
     pub at_work : IsAtWork found space desk
     at_work = record {
@@ -178,9 +179,9 @@ module _ {D : Type 0} (d : Ghosts D) (found : Found) (entries : List RecipeEntry
       low = a.row.start + 1;
       all = ap (λ t. lap.done ++ cond t (a ∷ filter (is_due c.newest c.phase) rest) (filter (is_due c.newest c.phase) rest)) (sym not_due) ∙ lap.all;
       among = λ i x below. lap.among (suc i) x (omega (arith, below));
-      begins = omega (arith, lap.begins, next.from);
+      begins = omega (arith, lap.begins, next.above);
       later = next.rest;
-      early = All-weaker (λ n. n < lap.low) (λ n. n < a.row.start + 1) (λ n lt. omega (arith, lt, next.from)) (map (λ (e : SplitEntry). e.start) lap.splits) lap.early;
+      early = All-weaker (λ n. n < lap.low) (λ n. n < a.row.start + 1) (λ n lt. omega (arith, lt, next.above)) (map (λ (e : SplitEntry). e.start) lap.splits) lap.early;
       ascend = lap.ascend;
       has = lap.has;
       may = lap.may;
@@ -370,9 +371,9 @@ module _ {D : Type 0} (d : Ghosts D) (found : Found) (entries : List RecipeEntry
             low = a.row.start + 1;
             all = all_now;
             among = λ i x below. lap.among (suc i) x (omega (arith, below));
-            begins = omega (arith, lap.begins, next.from);
+            begins = omega (arith, lap.begins, next.above);
             later = next.rest;
-            early = All-weaker (λ n. n < lap.low) (λ n. n < a.row.start + 1) (λ n lt. omega (arith, lt, next.from)) (map (λ (e : SplitEntry). e.start) lap.splits) lap.early;
+            early = All-weaker (λ n. n < lap.low) (λ n. n < a.row.start + 1) (λ n lt. omega (arith, lt, next.above)) (map (λ (e : SplitEntry). e.start) lap.splits) lap.early;
             ascend = lap.ascend;
             has = subst (HasSplits c lap.splits) (sym stays) lap.has;
             may = lap.may;
@@ -474,7 +475,7 @@ module _ {D : Type 0} (d : Ghosts D) (found : Found) (entries : List RecipeEntry
           not_early : Contains (map (λ (x : SplitEntry). x.start) lap.splits) e.start → ⊥
           not_early has =
               let lt : e.start < lap.low = All-contains (λ n. n < lap.low) (map (λ (x : SplitEntry). x.start) lap.splits) e.start lap.early has in
-              omega (arith, lt, becomes.start, next.from)
+              omega (arith, lt, becomes.start, next.above)
 
           one : MaySplit s cc e
           one =
@@ -539,16 +540,16 @@ module _ {D : Type 0} (d : Ghosts D) (found : Found) (entries : List RecipeEntry
             low = a.row.start + 1;
             all = all_now;
             among = λ i x below. lap.among (suc i) x (omega (arith, below));
-            begins = omega (arith, lap.begins, next.from);
+            begins = omega (arith, lap.begins, next.above);
             later = next.rest;
             early = subst (All (λ n. n < a.row.start + 1)) (sym (map-append (λ (x : SplitEntry). x.start) lap.splits (e ∷ [])))
                 (All-append (λ n. n < a.row.start + 1) (map (λ (x : SplitEntry). x.start) lap.splits) (e.start ∷ [])
-                (All-weaker (λ n. n < lap.low) (λ n. n < a.row.start + 1) (λ n lt. omega (arith, lt, next.from)) (map (λ (x : SplitEntry). x.start) lap.splits) lap.early)
+                (All-weaker (λ n. n < lap.low) (λ n. n < a.row.start + 1) (λ n lt. omega (arith, lt, next.above)) (map (λ (x : SplitEntry). x.start) lap.splits) lap.early)
                 (All-cons (λ n. n < a.row.start + 1) e.start [] (omega (arith, becomes.start)) (All-nil (λ n. n < a.row.start + 1))));
             ascend = ap (ascends (c.base + 1) c.newest) (map-append (λ (x : SplitEntry). x.start) lap.splits (e ∷ []))
                 ∙ ascends_last (c.base + 1) c.newest e.start (map (λ (x : SplitEntry). x.start) lap.splits) lap.ascend
-                (All-weaker (λ n. n < lap.low) (λ n. n < e.start) (λ n lt. omega (arith, lt, next.from, becomes.start)) (map (λ (x : SplitEntry). x.start) lap.splits) lap.early)
-                (omega (arith, lap.begins, next.from, becomes.start)) (omega (arith, next.to, becomes.start));
+                (All-weaker (λ n. n < lap.low) (λ n. n < e.start) (λ n lt. omega (arith, lt, next.above, becomes.start)) (map (λ (x : SplitEntry). x.start) lap.splits) lap.early)
+                (omega (arith, lap.begins, next.above, becomes.start)) (omega (arith, next.below, becomes.start));
             has = has_now;
             may = may_last s c lap.splits e lap.may one;
             works = works_wide turn.works;
@@ -598,11 +599,11 @@ rising : (low high : ℕ) (ns : List ℕ) → ascends low high ns ≡ true → I
 rising low high [] ascending k lt = absurd (omega (arith, lt))
 rising low high (n ∷ []) ascending k lt = absurd (omega (arith, lt))
 rising low high (n ∷ m ∷ ns) ascending zero lt =
-    let first : Next low high n (m ∷ ns) = next_of low high n (m ∷ ns) ascending in
-    let second : Next (n + 1) high m ns = next_of (n + 1) high m ns first.rest in
-    omega (arith, second.from)
+    let first : AscendsFrom low high n (m ∷ ns) = ascends_first low high n (m ∷ ns) ascending in
+    let second : AscendsFrom (n + 1) high m ns = ascends_first (n + 1) high m ns first.rest in
+    omega (arith, second.above)
 rising low high (n ∷ m ∷ ns) ascending (suc k) lt =
-    let first : Next low high n (m ∷ ns) = next_of low high n (m ∷ ns) ascending in
+    let first : AscendsFrom low high n (m ∷ ns) = ascends_first low high n (m ∷ ns) ascending in
     let behind : suc k + 1 ≡ suc (k + 1) = omega arith in
     omega (arith, rising (n + 1) high (m ∷ ns) first.rest k (omega (arith, lt)), ap (λ i. get_or (n ∷ m ∷ ns) i 0) behind)
 

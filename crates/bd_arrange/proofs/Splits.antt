@@ -2,7 +2,7 @@
 use Rattle.std.proofs.Common.{◌≡◌, ◌⊎◌, inl, inr, ⊎_elim, ℕ, zero, suc, ◌+◌, ◌-◌, ◌<◌, ◌≤◌, true, false, cond, ◌&&◌, List, [], ◌∷◌, ◌++◌, length, map, filter, flat_map, max, nat_eq, nat_le, eq-eqb, le-leb, refl, sym, ◌∙◌, ap, subst, arith, append_assoc}
 use Rattle.std.specs.Prelude.{All, Contains, ◌==◌}
 use Rattle.std.specs.List.{IsDistinct}
-use Rattle.std.proofs.lemmas.Bool.{leb-true, ne_eqb}
+use Rattle.std.proofs.lemmas.Bool.{ne_eqb}
 use Rattle.std.proofs.lemmas.List.{append-nil}
 use Rattle.std.proofs.lemmas.List.Concat.{flat_map-append}
 use Rattle.std.proofs.lemmas.List.Elements.{Contains-append_cases, Contains-append_left, Contains-append_right}
@@ -188,22 +188,6 @@ ascends_last low high n (m ∷ ns) up below from to =
     let up_rest : rest ≡ true = right_and (nat_le low m && nat_le m high) rest up in
     let less : m < n = below 0 m (omega arith) in
     λ k. here k && ascends_last (m + 1) high n ns up_rest (λ i d lt. below (suc i) d (omega (arith, lt))) (omega (arith, less)) to k
-
--- the first, and those behind it
-pub record Next (low high n : ℕ) (ns : List ℕ) : Type 0 where
-  pub from : low ≤ n
-  pub to : n ≤ high
-  pub rest : ascends (n + 1) high ns ≡ true
-
-pub next_of : (low high n : ℕ) (ns : List ℕ) → ascends low high (n ∷ ns) ≡ true → Next low high n ns
-next_of low high n ns up =
-    let rest = ascends (n + 1) high ns in
-    let both : (nat_le low n && nat_le n high) ≡ true = left_and (nat_le low n && nat_le n high) rest up in
-    record {
-      from = leb-true low n (left_and (nat_le low n) (nat_le n high) both);
-      to = leb-true n high (right_and (nat_le low n) (nat_le n high) both);
-      rest = right_and (nat_le low n && nat_le n high) rest up;
-    }
 
 -- ---- the category of a start
 
