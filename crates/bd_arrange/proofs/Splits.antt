@@ -103,10 +103,6 @@ bytes_later c (e ∷ es) some =
       bytes-rows_more r e.chunks e.bytes (last_rows c.volumes),
     )
 
--- the last volume is one
-last_volume : List VolumeEntry → VolumeEntry
-last_volume es = record { rows = last_rows es; extents = last_extents es }
-
 -- ---- what is owned
 
 module _ (n : ℕ) where

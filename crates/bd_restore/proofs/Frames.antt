@@ -29,10 +29,6 @@ unfolding KeepsOthers
 target_once sources strays others = record { sources = sources; others = λ tells. (strays tells, others tells) }
 
 -- what a run says of files that tell
-pub same_strays : {F : Type 0} {g : Ghosts F} {name : List ℕ} {a b : F} → ChangesTarget g name a b → g.tells → g.strays b ≡ g.strays a
-unfolding KeepsOthers
-same_strays f tells = (f.others tells).0
-
 pub same_others : {F : Type 0} {g : Ghosts F} {name : List ℕ} {a b : F} → ChangesTarget g name a b → g.tells → ChangesOnly name (g.files a) (g.files b)
 unfolding KeepsOthers
 same_others f tells = (f.others tells).1

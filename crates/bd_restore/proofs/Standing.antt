@@ -23,13 +23,13 @@ use Rattle.bd_catalog.specs.Catalogue.{Catalogue, active_extents, recipe_extents
 use Rattle.bd_catalog.specs.Opening.{Found, opened}
 use Rattle.bd_catalog.specs.Rows.{spots_in, walk}
 use Rattle.bd_catalog.specs.Rules.{obeys}
-use Rattle.bd_catalog.specs.Sound.{content, is_stored, recipe_of, records_for}
+use Rattle.bd_catalog.specs.Sound.{is_stored, records_for}
 use Rattle.bd_catalog.specs.Standing.{StandsFor}
 use Rattle.bd_catalog.specs.Walks.{IsLean, front, is_used, recipe_reads, record_reads, restore_reads}
 use Rattle.bd_catalog.proofs.Standing.{Shows, stands-shows}
 use Rattle.bd_catalog.proofs.StandingFound.{numbers-each, obeys-each, opened-found}
 use Rattle.bd_recipe.specs.Reading.{recipe_found, recipe_places, total}
-use Rattle.bd_recipe.proofs.Standing.{chunks-stand, recipe-found, recipe-read, total-recipe, version-bounded, version-joined}
+use Rattle.bd_recipe.proofs.Standing.{chunks-stand, recipe-found, total-recipe, version-bounded, version-joined}
 use Rattle.bd_volume.specs.Holding.{HoldsLayout}
 use Rattle.bd_volume.proofs.ChunkCounts.{times, times-append, times-kept}
 use Rattle.bd_volume.proofs.Held.{layout_held}
@@ -164,13 +164,6 @@ module _ (shape : Shape) (st : VersionState) (phase : Phase) (held : ℕ) (image
       ∙ ap (joined (recipe h v)) records-are
       ∙ recipe_joined h v (walked h phase v) once apart
       ∙ version-joined shape st v
-
-  -- so the content of the version is its stream
-  pub content_is : content found image v ≡ stream_of st v
-  content_is =
-      ap (λ sizes. joined (recipe_of sizes c image v) (records_for found.sizes c image v)) shows.sizes
-      ∙ ap (λ es. joined es (records_for found.sizes c image v)) (recipe-read shape st v c image low high shows.numbers shows.versions some small)
-      ∙ content_stands
 
   pub whole_stands : IsWhole found.sizes found.catalogue image v (recipe h v)
   whole_stands = subst (λ sizes. IsWhole sizes c image v (recipe h v)) (sym shows.sizes) (record {

@@ -1,5 +1,5 @@
 -- Records that have each chunk of a version once, and others that marks tell apart, give its entries what they need.
-use Rattle.std.proofs.Common.{◌≡◌, ℕ, true, false, cond, not, ◌&&◌, List, [], ◌∷◌, ◌++◌, length, map, refl, sym, ◌∙◌, ap, subst, arith, replicate, nat_lt, lt-ltb, eq-eqb, append_assoc}
+use Rattle.std.proofs.Common.{◌≡◌, ℕ, true, false, cond, not, ◌&&◌, List, [], ◌∷◌, ◌++◌, length, map, refl, sym, ◌∙◌, ap, subst, arith, replicate, nat_lt, eq-eqb, append_assoc}
 use Rattle.std.specs.Prelude.{◌==◌}
 use Rattle.std.specs.Str.{bytes_eq}
 use Rattle.std.specs.List.{list_all, flat_map}
@@ -12,7 +12,7 @@ use Rattle.bd_model.specs.Records.{Stored}
 use Rattle.bd_model.proofs.ChunkListLemmas.{bytes_eq-refl, contains-append}
 use Rattle.bd_model.proofs.NeedLemmas.{TellsApart, has_mark-map}
 use Rattle.bd_catalog.specs.Sound.{is_stored, first_body, with_mark}
-use Rattle.bd_volume.proofs.ChunkCounts.{times, times-append, times-cons, contains-times}
+use Rattle.bd_volume.proofs.ChunkCounts.{times, times-append, times-cons}
 use Rattle.bd_volume.proofs.StoredChunks.{stored_of, with_mark-stored, contains_first, contains_later}
 use Rattle.bd_restore.specs.Walk.{joined, is_found, is_wanted}
 use Rattle.bd_restore.proofs.StandingReads.{AreTold}
@@ -21,9 +21,6 @@ use Rattle.bd_restore.proofs.StandingReads.{AreTold}
 module _ (h : History) (v : ℕ) (ws : List (List ℕ)) (once : (c : List ℕ) → contains (version h v) c ≡ true → times ws c ≡ 1) (apart : (c : List ℕ) → contains ws c ≡ true → TellsApart c (version h v)) where
   abbrev cs : List (List ℕ)
   cs = version h v
-
-  there : (c : List ℕ) → contains cs c ≡ true → contains ws c ≡ true
-  there c has = contains-times ws c ∙ lt-ltb 0 (times ws c) (omega (arith, once c has))
 
   apart_in : (c : List ℕ) → contains cs c ≡ true → (xs : List (List ℕ)) → ((d : List ℕ) → contains xs d ≡ true → contains ws d ≡ true) → TellsApart c xs
   apart_in c has xs inside = λ d in_xs same. sym (apart d (inside d in_xs) c has (sym same))

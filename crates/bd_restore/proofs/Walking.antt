@@ -4,7 +4,7 @@ use Rattle.std.specs.Prelude.{Some, None, is_some, bytes_eq, nat_lt}
 use Rattle.std.proofs.lemmas.List.{append-nil}
 use Rattle.std.proofs.lemmas.List.Elements.{filter-append}
 use Rattle.std.proofs.lemmas.List.Folds.{list_any_at}
-use Rattle.std.proofs.lemmas.Bool.{lt-ltb, ltb-true}
+use Rattle.std.proofs.lemmas.Bool.{lt-ltb}
 use Rattle.std.proofs.lemmas.Slice.Eq.{bytes_eq-Decides}
 use Rattle.bd_disk.specs.History.{History}
 use Rattle.bd_disk.specs.Trace.{ReadsOnly}
@@ -27,10 +27,6 @@ use Rattle.bd_restore.proofs.Marks.{mark_here, no_entry, first_is}
 pub bool_cases : (b : Bool) → (b ≡ true) ⊎ (b ≡ false)
 bool_cases true = inl refl
 bool_cases false = inr refl
-
-pub false_by : (b : Bool) → (b ≡ true → ⊥) → b ≡ false
-false_by true not_so = absurd (not_so refl)
-false_by false not_so = refl
 
 not_false : (a b : Bool) → a ≡ true → (a && not b) ≡ false → b ≡ true
 not_false a true hit is = refl
@@ -87,9 +83,6 @@ front_body [] ys some = absurd (miss some) where
   miss h = cc
 front_body (x ∷ xs) ys some = refl
 
-front_found : (xs ys : List Stored) → nat_lt 0 (length xs) ≡ true → nat_lt 0 (length (xs ++ ys)) ≡ true
-front_found xs ys some = lt-ltb 0 (length (xs ++ ys)) (omega (arith, length-append xs ys, ltb-true 0 (length xs) some))
-
 none_found : (xs : List Stored) → nat_lt 0 (length xs) ≡ false → xs ≡ []
 none_found [] miss = refl
 none_found (x ∷ xs) miss = clash (nat_lt 0 (length (x ∷ xs))) (lt-ltb 0 (length (x ∷ xs)) (omega arith)) miss
@@ -97,9 +90,6 @@ none_found (x ∷ xs) miss = clash (nat_lt 0 (length (x ∷ xs))) (lt-ltb 0 (len
 module _ (seen : List Stored) (r : Stored) (m : List ℕ) where
   more : with_mark m (seen ++ r ∷ []) ≡ with_mark m seen ++ with_mark m (r ∷ [])
   more = filter-append (λ x. bytes_eq x.mark m) seen (r ∷ [])
-
-  still_found : is_found seen m ≡ true → is_found (seen ++ r ∷ []) m ≡ true
-  still_found some = ap (λ l. nat_lt 0 (length l)) more ∙ front_found (with_mark m seen) (with_mark m (r ∷ [])) some
 
   same_first : is_found seen m ≡ true → first_body (with_mark m (seen ++ r ∷ [])) ≡ first_body (with_mark m seen)
   same_first some = ap first_body more ∙ front_body (with_mark m seen) (with_mark m (r ∷ [])) some

@@ -3,7 +3,6 @@ pub mod Beside
 pub mod ChunkCounts
 pub mod Copying
 pub mod Dropping
-pub mod Fills
 pub mod Held
 pub mod HeldRows
 pub mod HeldWalk
