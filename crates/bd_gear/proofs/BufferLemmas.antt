@@ -1,5 +1,5 @@
 -- The bytes between two places of a buffer.
-use Rattle.std.proofs.Common.{◌≡◌, ℕ, ◌+◌, ◌-◌, ◌≤◌, List, ◌++◌, sym, ◌∙◌, ap, arith, length, take, drop, slice_range, length-take, drop-drop, length-drop}
+use Rattle.std.proofs.Common.{◌≡◌, ℕ, ◌+◌, ◌-◌, ◌≤◌, List, ◌++◌, sym, ◌∙◌, ap, arith, length, take, drop, slice_range, length-take, drop-drop}
 use lib.Seq.{paste}
 use Rattle.std.proofs.lemmas.List.{drop-take, drop-append-le, take_all}
 use Rattle.std.proofs.lemmas.List.Edits.{take-paste}
@@ -22,7 +22,3 @@ pub slice_range-rest : (xs : List ℕ) (start end n : ℕ) → start + n ≤ end
 slice_range-rest xs start end n le =
     let whole : n + (end - (start + n)) ≡ end - start = omega arith in
     sym (ap (λ m. drop n (take m (drop start xs))) (sym whole) ∙ drop-take n (end - (start + n)) (drop start xs) ∙ ap (take (end - (start + n))) (drop-drop n start xs))
-
--- how many they are
-pub length-slice_range : (xs : List ℕ) (start end : ℕ) → end ≤ length xs → length (slice_range xs start end) ≡ end - start
-length-slice_range xs start end within = length-take (end - start) (drop start xs) ∙ omega (arith, length-drop start xs)

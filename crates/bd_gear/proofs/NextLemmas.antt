@@ -99,15 +99,6 @@ next_len-append cut s t start n is e =
     cond-true (is_decided cut (s ++ t) start || false) (Some (chunk_len cut (s ++ t) start)) None (or_left (is_decided cut (s ++ t) start) false (is_decided-append cut s t start is decided))
     ∙ ap Some (chunk_len-append cut s t start is decided ∙ parts.1)
 
--- at the end of input a length that was given stays
-pub next_len-finish : (cut : Cut) (s : List ℕ) (start n : ℕ) (finished : Bool) → next_len cut s start finished ≡ Some n → next_len cut s start true ≡ Some n
-next_len-finish cut s start n finished e =
-    let some = ltb start (length s) in
-    let parts = given-parts (is_decided cut s start || (finished && some)) (chunk_len cut s start) n e in
-    cond-true (is_decided cut s start || some) (Some (chunk_len cut s start)) None
-    (⊎_elim (λ d. or_left (is_decided cut s start) some d) (λ r. or_right (is_decided cut s start) some (and_parts finished some r).1) (or_cases (is_decided cut s start) (finished && some) parts.0))
-    ∙ ap Some parts.1
-
 -- a list in which something was found is not empty
 found-within : (p : ℕ → Bool) (a n : ℕ) → is_some (find p (range_with_len a n)) ≡ true → 1 ≤ n
 found-within p a zero is = absurd (false≢true is)

@@ -1,6 +1,6 @@
 -- The end of an intake.
 use Rattle.std.proofs.Common.{◌≡◌, ℕ, ◌+◌, ◌*◌, ◌<◌, ◌≤◌, cond, List, [], ◌∷◌, ◌++◌, length, filter, flat_map, not, true, false, refl, sym, ◌∙◌, ap, subst, arith, nat_lt, Option, Some, None, ltb-true, ltb-false}
-use Rattle.std.specs.Prelude.{Result, Ok, Err, All}
+use Rattle.std.specs.Prelude.{Result, All}
 use Rattle.std.specs.Str.{bytes_eq}
 use Rattle.std.specs.List.{AllByRecursion}
 use Rattle.std.proofs.Math.Nat.{mul-le-mul_right}
@@ -38,7 +38,7 @@ use Rattle.bd_intake.specs.declared.fault.IntakeFault.{IntakeFault}
 use Rattle.bd_intake.specs.declared.fault.IntakeFault.TheVariants.{Full, SourceFault, DiskFault, OutOfMemory}
 use Rattle.bd_intake.specs.declared.staging.Staging.{Staging}
 use Rattle.bd_intake.specs.Answers.{RefusesRoom, IsVersion, HoldsVersion, fresh_extents}
-use Rattle.bd_intake.specs.Causes.{FailsByDisk, FailsByCount, MissesSource}
+use Rattle.bd_intake.specs.Causes.{MissesSource}
 use Rattle.bd_intake.specs.declared.terms.Terms.{Terms}
 use Rattle.bd_intake.specs.Filling.{Filled, HasStream, LeavesFiles}
 use Rattle.bd_intake.specs.Firsts.{cut_in, first_by_mark, new_by_mark}
@@ -53,13 +53,6 @@ use Rattle.bd_intake.proofs.Firsts.{counted-whole}
 use Rattle.bd_catalog.proofs.Fitting.{VersionFacts, FreshFacts, no_category, one_category, fits_backup}
 use Rattle.bd_intake.proofs.Growing.{IsShort, IsSmall, staging_is_small, stream-low, stream-high}
 use Rattle.bd_intake.proofs.Owning.{owns_last, owns_nothing, taken_below}
-
-pub by_disk : (T : Type 0) (d e f g : ℕ) (r : Result T IntakeFault) → FailsByDisk d e r → g ≡ f → FailsByCount d e f g r
-by_disk T d e f g (Ok x) fails same = record { disk_later = fails.later; source_later = omega (arith, same); cause = (fails.cause, same) }
-by_disk T d e f g (Err (Full c h k)) fails same = record { disk_later = fails.later; source_later = omega (arith, same); cause = (fails.cause, same) }
-by_disk T d e f g (Err SourceFault) fails same = absurd fails.cause
-by_disk T d e f g (Err DiskFault) fails same = record { disk_later = fails.later; source_later = omega (arith, same); cause = (fails.cause, same) }
-by_disk T d e f g (Err OutOfMemory) fails same = record { disk_later = fails.later; source_later = omega (arith, same); cause = (fails.cause, same) }
 
 -- after its last chunks the whole source is staged
 pub whole_stream : (t : Given) (c d e : Chunking) (a b : Staging) (told : Type 0) (old new : List ℕ) (files_told : Type 0) (files : FileMap) (name : List ℕ) →

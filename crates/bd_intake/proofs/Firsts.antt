@@ -16,7 +16,6 @@ use Rattle.bd_model.specs.Recipe.{first_entries, entry_records, has_mark, recipe
 use Rattle.bd_model.specs.Room.{up, fresh, fresh_entries, need_of, counted_of, running_of}
 use Rattle.bd_model.specs.declared.layout.RecipeEntry.{RecipeEntry}
 use Rattle.bd_model.proofs.ChunkListLemmas.{bytes_eq-refl, bytes_eq-sym, filter-within, contains-append, contains-distinct}
-use Rattle.bd_model.proofs.ListLemmas.{filter-all}
 use Rattle.bd_model.proofs.MarkLemmas.{marks_tell_chunks_apart}
 use Rattle.bd_model.proofs.NeedLemmas.{filter-map, list_any-map, bytes_eq-mark}
 use Rattle.bd_model.proofs.RoomLemmas.{up-le}
@@ -186,10 +185,6 @@ first_chunks (c ∷ cs) apart =
     λ d has. ap not (bytes_eq-mark c d (apart c d here (inside d (sym (contains-distinct cs d) ∙ has)))) in
     ap (λ xs. c ∷ filter (λ d. not (bytes_eq (mark c) (mark d))) xs) (first_chunks cs (λ x y in_x in_y. apart x y (inside x in_x) (inside y in_y)))
     ∙ ap (λ xs. c ∷ xs) (filter-within _ _ (distinct cs) other)
-
--- where there is no recipe all different ones are new
-pub new_first : (cs : List (List ℕ)) → Distinct cs → new_by_mark [] cs ≡ distinct cs
-new_first cs apart = filter-all (λ c. not (has_mark [] (mark c))) (λ c. refl) (first_by_mark cs) ∙ first_chunks cs apart
 
 -- those that the newest recipe lacks are the fresh ones
 pub new_chunks : (h : History) (cs : List (List ℕ)) → Distinct (version h (newest h) ++ cs) → new_by_mark (recipe h (newest h)) cs ≡ fresh h cs

@@ -4,7 +4,7 @@ use Rattle.std.specs.Prelude.{IsTrue}
 use Rattle.std.proofs.lemmas.Bool.{cases_lt}
 use Rattle.std.proofs.lemmas.List.Elements.{All-nil, All-weaker}
 use Rattle.std.proofs.lemmas.Option.{slice_get-get_or}
-use Rattle.bd_model.specs.Sizes.{Sizes, sizes_of}
+use Rattle.bd_model.specs.Sizes.{sizes_of}
 use Rattle.bd_model.specs.declared.layout.RecipeEntry.{RecipeEntry}
 use Rattle.bd_model.specs.declared.shape.Shape.{Shape}
 use Rattle.bd_model.proofs.ListLemmas.{left_and, right_and}
@@ -48,7 +48,3 @@ recipe_fits shape c entries rules is =
       short = All-weaker (λ e. IsTrue (entry_holds (sizes_of shape) c c.newest e)) (λ e. e.length ≤ 65536) (λ e holds. holds_short shape c c.newest e holds) entries recipe.each;
     })
     (cases_lt (retained_in c) 1)
-
--- where nothing is retained there is no entry
-pub no_recipe : (s : Sizes) (c : Catalogue) (entries : List RecipeEntry) → entries ≡ [] → retained_in c ≡ 0 → IsRecipeOrNone s c entries
-no_recipe s c entries none nothing = record { none = λ _. none; newest = λ one. absurd (omega (arith, nothing, one)) }
