@@ -1,5 +1,5 @@
 -- What a piece of a range is on the disk, and what writing it changes.
-use Rattle.std.proofs.Common.{◌≡◌, inl, inr, ⊎_elim, ℕ, zero, suc, ◌∷◌, ◌+◌, ◌-◌, ◌*◌, ◌%◌, ◌<◌, ◌≤◌, List, [], ◌++◌, length, take, drop, get_or, refl, sym, ◌∙◌, ap, arith, length-take, length-drop, get_or-take, get_or-drop, length-append, drop-drop}
+use Rattle.std.proofs.Common.{◌≡◌, inl, inr, ⊎_elim, ℕ, zero, suc, ◌∷◌, ◌+◌, ◌-◌, ◌*◌, ◌%◌, ◌<◌, ◌≤◌, List, ◌++◌, length, take, drop, get_or, refl, sym, ◌∙◌, ap, arith, length-take, length-drop, get_or-take, get_or-drop, length-append, drop-drop}
 use Rattle.std.proofs.lemmas.Grind.{same_number_lists}
 use Rattle.std.proofs.lemmas.List.{get_or-append_right, get_or_append_left}
 use Rattle.std.proofs.lemmas.Bool.{cases_lt}
@@ -9,7 +9,7 @@ use borrow.Rule.Slice.PartMut.{put_mid}
 use Rattle.std.specs.List.{All, range_with_len}
 use Rattle.bd_disk.specs.Trace.{upward}
 use Rattle.bd_disk.specs.Images.{InRange, bytes_at, overwritten}
-use Rattle.bd_disk.proofs.Agreeing.{in_range, length-overwritten, overwritten_there, overwritten_elsewhere, length-bytes_at, get_or-bytes_at, agree_all, overwrite_agrees}
+use Rattle.bd_disk.proofs.Agreeing.{in_range, length-overwritten, overwritten_there, overwritten_elsewhere, length-bytes_at, get_or-bytes_at}
 use Rattle.bd_model.specs.Sizes.{Sizes, disk_bytes}
 use Rattle.bd_model.specs.Extents.{owner_bytes, owner_places, places_at}
 use Rattle.bd_extio.specs.Ranges.{place_of, AreExtents, InOwner, owner_range}
@@ -109,10 +109,6 @@ module _ (s : Sizes) (extents : List ℕ) (some : 1 ≤ s.extent) (image : List 
       let places = owner_places s extents in
       ap (λ l. places_at s extents at done ++ l) (sym (places_at-piece s extents some (at + done) n fits inside))
       ∙ sym (take-add done n (drop at places) ∙ ap (λ l. take done (drop at places) ++ take n l) (drop-drop done at places))
-
--- nothing is written
-pub overwritten-none : (xs : List ℕ) (at : ℕ) → overwritten xs at [] ≡ xs
-overwritten-none xs at = agree_all (λ place. InRange at 0 place → ⊥) xs (overwritten xs at []) (λ place r. omega (arith, r.0, r.1)) (overwrite_agrees xs at [])
 
 -- one piece more was written
 pub write_more : (s : Sizes) (extents : List ℕ) → 1 ≤ s.extent → (image now : List ℕ) → disk_bytes s ≤ length image → length now ≡ length image → AreExtents s extents → (at done n : ℕ) (from : List ℕ) → 1 ≤ n → done + n ≤ length from → at + length from ≤ length extents * s.extent → (at + done) % s.extent + n ≤ s.extent →

@@ -5,17 +5,12 @@ use Rattle.bd_disk.specs.History.{History, contents}
 use Rattle.bd_disk.specs.Made.{Makes, Stores}
 use Rattle.bd_disk.specs.Runs.{Writes}
 use Rattle.bd_disk.specs.declared.disk.Disk.{Ghosts}
+use Rattle.bd_disk.proofs.Agreeing.{overwritten-none}
 use Rattle.bd_disk.proofs.RunLemmas.{wider_writes}
 use Rattle.bd_model.specs.Sizes.{Sizes, half_bytes, half_place}
 use Rattle.bd_gate.specs.Superblock.{open_gate, closed_gate}
 use Rattle.bd_gate.specs.Halves.{InFrame, InGate, InHalf}
 use Rattle.bd_gate.specs.Commits.{closing_calls, IsStored}
-
-overwritten_none : (xs : List ℕ) (at : ℕ) → overwritten xs at [] ≡ xs
-unfolding overwritten
-overwritten_none [] at = refl
-overwritten_none (x ∷ xs) (suc at) = ap (λ (l : List ℕ). x ∷ l) (overwritten_none xs at)
-overwritten_none (x ∷ xs) zero = refl
 
 -- a byte before what was written behind it
 byte_before : (xs : List ℕ) (at byte : ℕ) (bytes : List ℕ) → overwritten (overwritten xs (at + 1) bytes) at (byte ∷ []) ≡ overwritten xs at (byte ∷ bytes)
@@ -24,14 +19,14 @@ byte_before [] at byte bytes = refl
 byte_before (x ∷ xs) (suc at) byte bytes =
     let e : suc at + 1 ≡ suc (at + 1) = omega arith in
     ap (λ n. overwritten (overwritten (x ∷ xs) n bytes) (suc at) (byte ∷ [])) e ∙ ap (λ (l : List ℕ). x ∷ l) (byte_before xs at byte bytes)
-byte_before (x ∷ xs) zero byte bytes = ap (λ (l : List ℕ). byte ∷ l) (overwritten_none (overwritten xs zero bytes) zero)
+byte_before (x ∷ xs) zero byte bytes = ap (λ (l : List ℕ). byte ∷ l) (overwritten-none (overwritten xs zero bytes) zero)
 
 -- a byte that is written again
 byte_again : (xs : List ℕ) (at byte other : ℕ) (bytes : List ℕ) → overwritten (overwritten xs at (other ∷ [])) at (byte ∷ bytes) ≡ overwritten xs at (byte ∷ bytes)
 unfolding overwritten
 byte_again [] at byte other bytes = refl
 byte_again (x ∷ xs) (suc at) byte other bytes = ap (λ (l : List ℕ). x ∷ l) (byte_again xs at byte other bytes)
-byte_again (x ∷ xs) zero byte other bytes = ap (λ l. byte ∷ overwritten l zero bytes) (overwritten_none xs zero)
+byte_again (x ∷ xs) zero byte other bytes = ap (λ l. byte ∷ overwritten l zero bytes) (overwritten-none xs zero)
 
 -- whether the half was closed or not, the open gate and the frame stand over it
 closed_first : (s : Sizes) (number : ℕ) (was_open : Bool) (frame : List ℕ) {a b : History} → Makes (closing_calls s number was_open) a b

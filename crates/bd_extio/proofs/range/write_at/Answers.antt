@@ -1,12 +1,12 @@
 use Rattle.std.proofs.Common.{◌≡◌, ◌+◌, ◌-◌, ◌*◌, ◌%◌, ◌≤◌, ◌∙◌, ap, sym, arith, length, refl}
 use Rattle.bd_disk.specs.History.{contents}
 use Rattle.bd_disk.specs.Images.{bytes_at, overwritten}
-use Rattle.bd_disk.proofs.Agreeing.{length-bytes_at}
+use Rattle.bd_disk.proofs.Agreeing.{length-bytes_at, overwritten-none}
 use Rattle.bd_disk.proofs.RunLemmas.{both_writes, no_writes, wider_writes, write_once}
 use Rattle.bd_model.specs.Sizes.{sizes_of, disk_bytes}
 use Rattle.bd_model.specs.Extents.{owner_bytes}
 use Rattle.bd_extio.proofs.Places.{range_small}
-use Rattle.bd_extio.proofs.Ranges.{overwritten-none, write_more, piece_in_owner}
+use Rattle.bd_extio.proofs.Ranges.{write_more, piece_in_owner}
 use Rattle.bd_extio.proofs.range.write_at.Goals as goal
 
 pub loop-done-init : goal.loop-done-init
