@@ -1,5 +1,5 @@
 -- What all turns leave is the settled layout.
-use Rattle.std.proofs.Common.{◌≡◌, ⊎_elim, ℕ, zero, suc, ◌+◌, ◌-◌, ◌<◌, ◌≤◌, true, List, [], ◌∷◌, ◌++◌, length, map, filter, take, nat_eq, refl, sym, ◌∙◌, ap, subst, arith}
+use Rattle.std.proofs.Common.{◌≡◌, ⊎_elim, ℕ, suc, ◌+◌, ◌-◌, ◌<◌, ◌≤◌, true, List, [], ◌∷◌, ◌++◌, length, map, filter, take, nat_eq, refl, sym, ◌∙◌, ap, subst, arith}
 use Rattle.std.specs.Prelude.{IsTrue}
 use Rattle.std.specs.List.{IsDistinct, flat_map, list_all, range_with_len}
 use Rattle.std.proofs.lemmas.List.{length-map}
@@ -8,18 +8,17 @@ use Rattle.std.proofs.lemmas.List.FromFn.{length-map-range_with_len}
 use Rattle.bd_model.specs.Chunks.{numbers}
 use Rattle.bd_model.specs.Extents.{owner_bytes}
 use Rattle.bd_model.specs.History.{History, newest, oldest}
-use Rattle.bd_model.specs.Laws.{SameLayout, grown}
+use Rattle.bd_model.specs.Laws.{grown}
 use Rattle.bd_model.specs.Layout.{closed_volume, open_category, record_bytes, rows}
 use Rattle.bd_model.specs.Records.{records_of}
-use Rattle.bd_model.specs.Room.{owned, reserve_left, up}
+use Rattle.bd_model.specs.Room.{reserve_left, up}
 use Rattle.bd_model.specs.Sizes.{Sizes}
-use Rattle.bd_model.specs.declared.layout.Phase.{Phase}
 use Rattle.bd_model.specs.declared.layout.Phase.TheVariants.{Settled, Waiting}
 use Rattle.bd_model.specs.declared.layout.RecipeEntry.{RecipeEntry}
 use Rattle.bd_model.proofs.ArrangeLemmas.{all_done}
 use Rattle.bd_model.proofs.HistoryLemmas.{newest-grown}
-use Rattle.bd_model.proofs.LawLemmas.{a_backup_leaves_its_reserve, closed_volumes_grow}
-use Rattle.bd_model.proofs.ListLemmas.{left_and, right_and, sum_by-agree, sum_by-numbers}
+use Rattle.bd_model.proofs.LawLemmas.{closed_volumes_grow, from_start, owned-same}
+use Rattle.bd_model.proofs.ListLemmas.{left_and, right_and}
 use Rattle.bd_model.proofs.RecordLemmas.{length-records}
 use Rattle.bd_model.proofs.RowLemmas.{rows_describe_the_volume, rows_over-same}
 use Rattle.bd_catalog.specs.Catalogue.{Catalogue, VolumeEntry, active_extents, bytes_of_rows, oldest_in, volume_extents}
@@ -48,20 +47,6 @@ last_sized s (e ∷ []) some hold = count_in_volume s e (left_and (volume_holds 
 last_sized s (e ∷ second ∷ es) some hold = last_sized s (second ∷ es) (omega arith) (right_and (volume_holds s e) (list_all (volume_holds s) (second ∷ es)) hold)
 
 -- ---- what is owned
-
-module _ (extent : ℕ) (h : History) (w : List (List ℕ)) (one : 1 ≤ extent) (some : h.expired < length h.versions) where
-  owned_later : (k i : ℕ) → h.base + 1 ≤ i → i + k ≡ newest h + 1 → owned extent (grown h w) (Waiting (newest h + 1)) ≤ owned extent (grown h w) (Waiting i) + reserve_left extent (grown h w) (Waiting i)
-  owned_later zero i low end = let last : i ≡ newest h + 1 = omega arith in omega (arith, ap (λ n. owned extent (grown h w) (Waiting n)) last)
-  owned_later (suc k) i low end = omega (arith, owned_later k (i + 1) (omega arith) (omega arith), a_backup_leaves_its_reserve.stays_free extent h w i one low (omega arith) some)
-
-  same_owned : (one other : Phase) → SameLayout (grown h w) one other → owned extent (grown h w) one ≡ owned extent (grown h w) other
-  unfolding owned
-  same_owned one other same =
-      omega (
-        arith,
-        sum_by-agree _ _ (λ j. ap (λ cs. up extent (record_bytes cs)) (same.volumes j)) (numbers (oldest (grown h w)) (newest (grown h w) - 1)),
-        sum_by-numbers _ _ (h.base + 1) (newest (grown h w)) (λ i low high. ap (λ cs. up extent (record_bytes cs)) (same.categories i high)),
-      )
 
 nothing_left : (extent : ℕ) (h : History) → reserve_left extent h Settled ≡ 0
 unfolding reserve_left
@@ -182,7 +167,7 @@ module _ (s : Sizes) (h : History) (w : List (List ℕ)) (entries : List RecipeE
         arith,
         reserve.fits,
         nothing_left s.extent next,
-        owned_later s.extent h w are.sizes.extent are.some (newest h + 1 - cursor) cursor are.low (omega arith),
-        same_owned s.extent h w are.sizes.extent are.some (Waiting (newest h + 1)) Settled (all_done h w),
+        from_start s.extent h w cursor (newest h + 1 - cursor) are.sizes.extent are.low (omega arith) are.some,
+        owned-same s.extent next (Waiting (newest h + 1)) Settled (all_done h w),
       );
     }

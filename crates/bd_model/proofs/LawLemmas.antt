@@ -155,12 +155,12 @@ stays_free extent h w i one low high some =
     ] refl split
 
 -- from any start on
-from_start : (extent : ℕ) (h : History) (w : List (List ℕ)) (i k : ℕ) → 1 ≤ extent → h.base + 1 ≤ i → i + k ≡ newest h + 1 → h.expired < length h.versions →
+pub from_start : (extent : ℕ) (h : History) (w : List (List ℕ)) (i k : ℕ) → 1 ≤ extent → h.base + 1 ≤ i → i + k ≡ newest h + 1 → h.expired < length h.versions →
     owned extent (grown h w) (Waiting (newest h + 1)) ≤ owned extent (grown h w) (Waiting i) + reserve_left extent (grown h w) (Waiting i)
 from_start extent h w i zero one low end some = let last : i ≡ newest h + 1 = omega arith in omega (arith, ap (λ n. owned extent (grown h w) (Waiting n)) last)
 from_start extent h w i (suc k) one low end some = omega (arith, from_start extent h w (i + 1) k one (omega arith) (omega arith) some, stays_free extent h w i one low (omega arith) some)
 
-owned-same : (extent : ℕ) (h : History) (one other : Phase) → SameLayout h one other → owned extent h one ≡ owned extent h other
+pub owned-same : (extent : ℕ) (h : History) (one other : Phase) → SameLayout h one other → owned extent h one ≡ owned extent h other
 unfolding owned
 owned-same extent h one other same =
     omega (
