@@ -10,16 +10,13 @@ use Rattle.bd_model.specs.Recipe.{first_entries, entry_records, has_mark, starts
 use Rattle.bd_model.specs.Room.{up, kept_entries, archived_entries, entries_from}
 use Rattle.bd_model.specs.declared.layout.RecipeEntry.{RecipeEntry}
 use Rattle.bd_model.proofs.ListLemmas.{filter-filter, sum_by-agree, sum_by-filter}
+use Rattle.bd_model.proofs.FromRecipesLemmas.{cond-plus}
 use Rattle.bd_intake.specs.declared.tally.Share.{Share}
 use Rattle.bd_intake.specs.declared.tally.Tally.{Tally}
 use Rattle.bd_intake.specs.Given.{FitsSums}
 use Rattle.bd_intake.specs.Tallies.{Counts, moved_of, share_at, share_of}
 
 -- ---- parts of a list have no more bytes
-
-cond-plus : {X : Type 0} (f : X → ℕ) (b : Bool) (x : X) (xs : List X) → sum_by f (cond b (x ∷ xs) xs) ≡ cond b (f x) 0 + sum_by f xs
-cond-plus f true x xs = sum_by-cons f x xs
-cond-plus f false x xs = omega arith
 
 cond-le : (b : Bool) (n : ℕ) → cond b n 0 ≤ n
 cond-le true n = omega arith

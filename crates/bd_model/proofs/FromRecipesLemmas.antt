@@ -24,7 +24,7 @@ use Rattle.bd_model.proofs.CountedLemmas.{first_above}
 abbrev pub has_start : List RecipeEntry → ℕ → Bool
 has_start es i = list_any (λ e. nat_eq e.start i) es
 
-cond-plus : {X : Type 0} (f : X → ℕ) (b : Bool) (x : X) (xs : List X) → sum_by f (cond b (x ∷ xs) xs) ≡ cond b (f x) 0 + sum_by f xs
+pub cond-plus : {X : Type 0} (f : X → ℕ) (b : Bool) (x : X) (xs : List X) → sum_by f (cond b (x ∷ xs) xs) ≡ cond b (f x) 0 + sum_by f xs
 cond-plus f true x xs = sum_by-cons f x xs
 cond-plus f false x xs = omega arith
 
