@@ -1,9 +1,9 @@
 -- An image that stands for a state has no damage in its open categories.
-use Rattle.std.proofs.Common.{◌≡◌, ⊎_elim, ℕ, zero, suc, ◌+◌, ◌-◌, ◌<◌, ◌≤◌, Bool, true, false, cond, ◌&&◌, List, [], ◌∷◌, ◌++◌, length, map, filter, flat_map, max, sum_by, refl, sym, ◌∙◌, ap, subst, arith, drop, le-leb, nat_le}
+use Rattle.std.proofs.Common.{◌≡◌, ⊎_elim, ℕ, zero, suc, ◌+◌, ◌-◌, ◌≤◌, Bool, true, false, cond, ◌&&◌, List, [], ◌∷◌, ◌++◌, length, map, filter, max, sum_by, refl, sym, ◌∙◌, ap, subst, arith, drop, le-leb, nat_le}
 use Rattle.std.specs.Prelude.{Contains, ◌==◌, Ok}
 use Rattle.std.specs.Str.{bytes_eq}
-use Rattle.std.specs.List.{list_all, range_with_len}
-use Rattle.std.proofs.lemmas.Bool.{eqb-true, false≢true, leb-true, or_cases}
+use Rattle.std.specs.List.{list_all}
+use Rattle.std.proofs.lemmas.Bool.{eqb-true, false≢true, leb-true}
 use Rattle.std.proofs.lemmas.List.Elements.{All-contains}
 use Rattle.std.proofs.lemmas.List.Folds.{fold-map, list_all-append}
 use Rattle.std.proofs.lemmas.List.Sums.{AllPass-from_list_all, sum_by-cons}
@@ -19,7 +19,7 @@ use Rattle.bd_model.specs.declared.damage.Damage.{Damage}
 use Rattle.bd_model.specs.declared.damage.Damage.TheVariants.{Entry, Sum, Header, Row, Body, Length, Missing}
 use Rattle.bd_model.specs.declared.layout.Phase.{Phase}
 use Rattle.bd_model.specs.declared.shape.Shape.{Shape}
-use Rattle.bd_model.proofs.ChunkListLemmas.{contains-append}
+use Rattle.bd_model.proofs.ChunkListLemmas.{in_some}
 use Rattle.bd_model.proofs.ListLemmas.{left_and, right_and}
 use Rattle.bd_model.proofs.PlaceLemmas.{a_version_uses_a_front}
 use Rattle.bd_catalog.specs.Catalogue.{Catalogue, OpenEntry}
@@ -41,14 +41,6 @@ use Rattle.bd_arrange.specs.Arranged.{IsDamageOfDue}
 use Rattle.bd_arrange.specs.Cuts.{IsOfHeaders}
 use Rattle.bd_arrange.specs.Turns.{due, is_due}
 use Rattle.bd_arrange.proofs.Staying.{among_map}
-
--- one of the lists of a range has what their concatenation has
-in_some : (f : ℕ → List (List ℕ)) (x : List ℕ) (P : Type 0) (a n : ℕ) → contains (flat_map f (range_with_len a n)) x ≡ true → ((k : ℕ) → a ≤ k → k < a + n → contains (f k) x ≡ true → P) → P
-in_some f x P a zero has each = absurd (false≢true has)
-in_some f x P a (suc n) has each =
-    let rest = flat_map f (range_with_len (a + 1) n) in
-    ⊎_elim (λ first. each a (omega arith) (omega arith) first) (λ later. in_some f x P (a + 1) n later (λ k low high. each k (omega arith) (omega arith)))
-    (or_cases (contains (f a) x) (contains rest x) (sym (contains-append (f a) rest x) ∙ has))
 
 -- rows of some categories are rows of all
 row_behind : (e : OpenEntry) (xs es : List OpenEntry) (p : RowPlace) → (Contains (map open_row xs) p → Contains (map open_row es) p) → Contains (open_row e ∷ map open_row xs) p → Contains (map open_row (e ∷ es)) p

@@ -1,6 +1,6 @@
 -- In which category a chunk of a version lies, and in which part of a closed volume.
 use Rattle.std.proofs.Common.{◌≡◌, ℕ, zero, suc, ◌+◌, ◌-◌, ◌<◌, ◌≤◌, Bool, true, false, cond, not, ◌&&◌, List, [], ◌∷◌, refl, sym, ◌∙◌, ap, subst, arith, filter, nat_eq, eq-eqb, ⊎_elim}
-use Rattle.std.proofs.lemmas.Bool.{false≢true, or_cases, eqb-true, cases_lt}
+use Rattle.std.proofs.lemmas.Bool.{false≢true, eqb-true, cases_lt}
 use Rattle.std.proofs.lemmas.List.Folds.{list_all-append}
 use Rattle.std.proofs.lemmas.Grind.{flat_map-append}
 use Rattle.std.specs.List.{list_all, range_with_len, flat_map}
@@ -13,7 +13,7 @@ use Rattle.bd_model.specs.Layout.{arranged_to, is_closed, row_chunks}
 use Rattle.bd_model.specs.Recipe.{start_of}
 use Rattle.bd_model.specs.Laws.{front_of, LiesInOneCategory, EachChunkLiesInOneCategory, AVersionUsesAFront}
 use Rattle.bd_model.proofs.ListLemmas.{left_and, right_and, numbers-split, filter-filter, filter-same, and_comm, flat_map-filter}
-use Rattle.bd_model.proofs.ChunkListLemmas.{contains-filter, contains-filter_distinct, contains-append, filter-equal}
+use Rattle.bd_model.proofs.ChunkListLemmas.{contains-filter, contains-filter_distinct, filter-equal, in_some}
 use Rattle.bd_model.proofs.HistoryLemmas.{version-past}
 use Rattle.bd_model.proofs.RecipeLemmas.{lasts-suc, start_of-is, start_of-le, start_of-low}
 use Rattle.bd_model.proofs.LayoutLemmas.{closed_volume-rows}
@@ -119,15 +119,6 @@ module _ (h : History) (c : List ℕ) where
           swap : (r : List ℕ → Bool) (xs : List (List ℕ)) → filter (bytes_eq c) (filter r xs) ≡ filter r (filter (bytes_eq c) xs)
           swap r xs = filter-filter (bytes_eq c) r xs ∙ filter-same (λ x. and_comm (r x) (bytes_eq c x)) refl ∙ sym (filter-filter r (bytes_eq c) xs)
 
-  -- what one of the lists of a range has
-  in_flat_map : (f : ℕ → List (List ℕ)) (b : Bool) (a n : ℕ) → contains (flat_map f (range_with_len a n)) c ≡ true → ((k : ℕ) → a ≤ k → k < a + n → contains (f k) c ≡ true → b ≡ true) → b ≡ true
-  in_flat_map f b a zero has each = absurd (false≢true has)
-  in_flat_map f b a (suc n) has each =
-      ⊎_elim
-      (λ first. each a (omega arith) (omega arith) first)
-      (λ later. in_flat_map f b (a + 1) n later (λ k low high. each k (omega arith) (omega arith)))
-      (or_cases (contains (f a) c) (contains (flat_map f (range_with_len (a + 1) n)) c) (sym (contains-append (f a) (flat_map f (range_with_len (a + 1) n)) c) ∙ has))
-
   in_cond : (t : Bool) (cs : List (List ℕ)) → contains (cond t cs []) c ≡ true → contains cs c ≡ true
   in_cond true cs has = has
   in_cond false cs has = absurd (false≢true has)
@@ -136,13 +127,13 @@ module _ (h : History) (c : List ℕ) where
   row_used : (phase : Phase) (j r v : ℕ) → r ≤ v → v ≤ j → contains (row_chunks h phase j r) c ≡ true → contains (version h v) c ≡ true
   row_used phase j r v le in_j has =
       let least = cond (nat_eq r (oldest h)) (h.base + 1) r in
-      in_flat_map (λ i. cond (is_closed h phase j i) (category h i j) []) (contains (version h v) c) least (r + 1 - least)
+      in_some (λ i. cond (is_closed h phase j i) (category h i j) []) c (contains (version h v) c ≡ true) least (r + 1 - least)
       (ap (λ cs. contains cs c) (sym (ap (λ is. flat_map (λ i. category h i j) (filter (is_closed h phase j) is)) (recorded_as-numbers h r) ∙ flat_map-filter (λ i. category h i j) (is_closed h phase j) (numbers least r))) ∙ has)
       (λ k low high there. used k j v (in_cond (is_closed h phase j k) (category h k j) there) (omega arith) in_j)
 
   pub front_used : (phase : Phase) (v j : ℕ) → v ≤ j → contains (front_of h phase j v) c ≡ true → contains (version h v) c ≡ true
   front_used phase v j in_j has =
-      in_flat_map (row_chunks h phase j) (contains (version h v) c) (oldest h) (v + 1 - oldest h) has (λ r low high there. row_used phase j r v (omega arith) in_j there)
+      in_some (row_chunks h phase j) c (contains (version h v) c ≡ true) (oldest h) (v + 1 - oldest h) has (λ r low high there. row_used phase j r v (omega arith) in_j there)
 
 pub each_chunk_lies_in_one_category : EachChunkLiesInOneCategory
 each_chunk_lies_in_one_category h v c has = lies_in_one h c v has

@@ -1,9 +1,9 @@
 -- What a restore finds in an image that stands for a state, of any retained version and at any phase: the version's recipe,
 -- whole records that give its stream, and no more to read than it should.
-use Rattle.std.proofs.Common.{◌≡◌, ◌⊎◌, inl, inr, ⊎_elim, ℕ, zero, suc, ◌+◌, ◌-◌, ◌*◌, ◌^◌, ◌<◌, ◌≤◌, max, true, false, cond, List, [], ◌∷◌, ◌++◌, length, map, refl, sym, ◌∙◌, ap, subst, arith, filter, append_assoc}
+use Rattle.std.proofs.Common.{◌≡◌, ◌⊎◌, inl, inr, ⊎_elim, ℕ, ◌+◌, ◌-◌, ◌*◌, ◌^◌, ◌<◌, ◌≤◌, max, true, false, cond, List, [], ◌∷◌, ◌++◌, length, map, refl, sym, ◌∙◌, ap, subst, arith, filter, append_assoc}
 use Rattle.std.specs.Prelude.{Ok, IsTrue}
-use Rattle.std.specs.List.{list_all, flat_map, range_with_len}
-use Rattle.std.proofs.lemmas.Bool.{cases_lt, false≢true, or_cases, or_left, or_right}
+use Rattle.std.specs.List.{list_all, flat_map}
+use Rattle.std.proofs.lemmas.Bool.{cases_lt, or_cases, or_left, or_right}
 use Rattle.bd_model.specs.declared.shape.Shape.{Shape}
 use Rattle.bd_model.specs.declared.layout.Phase.{Phase}
 use Rattle.bd_model.specs.Chunks.{numbers}
@@ -15,7 +15,7 @@ use Rattle.bd_model.specs.Marks.{Near}
 use Rattle.bd_model.specs.Recipe.{recipe}
 use Rattle.bd_model.specs.Sizes.{Sizes, sizes_of}
 use Rattle.bd_model.specs.State.{VersionState, history, stream_of}
-use Rattle.bd_model.proofs.ChunkListLemmas.{contains-append}
+use Rattle.bd_model.proofs.ChunkListLemmas.{contains-append, in_some}
 use Rattle.bd_model.proofs.ListLemmas.{flat_map-numbers}
 use Rattle.bd_model.proofs.NeedLemmas.{TellsApart}
 use Rattle.bd_model.proofs.PlaceLemmas.{a_version_uses_a_front}
@@ -43,14 +43,6 @@ use Rattle.bd_restore.proofs.StandingLean.{found_once, front-is, is_lean}
 use Rattle.bd_restore.proofs.StandingReads.{AreTold, told-reads}
 
 -- ---- the chunks on the walk
-
--- one of the lists of a range has what their concatenation has
-in_some : (f : ℕ → List (List ℕ)) (x : List ℕ) (P : Type 0) (a n : ℕ) → contains (flat_map f (range_with_len a n)) x ≡ true → ((k : ℕ) → a ≤ k → k < a + n → contains (f k) x ≡ true → P) → P
-in_some f x P a zero has each = absurd (false≢true has)
-in_some f x P a (suc n) has each =
-    let rest = flat_map f (range_with_len (a + 1) n) in
-    ⊎_elim (λ first. each a (omega arith) (omega arith) first) (λ later. in_some f x P (a + 1) n later (λ k low high. each k (omega arith) (omega arith)))
-    (or_cases (contains (f a) x) (contains rest x) (sym (contains-append (f a) rest x) ∙ has))
 
 module _ (h : History) (phase : Phase) (v : ℕ) (low : oldest h ≤ v) (high : v ≤ newest h) where
   -- the version has the chunk, or the one before it does
