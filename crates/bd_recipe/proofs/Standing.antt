@@ -1,9 +1,7 @@
 -- The recipe of a retained version, as it is read back.
 use Rattle.std.proofs.Common.{◌≡◌, ℕ, zero, suc, ◌+◌, ◌-◌, ◌^◌, ◌<◌, ◌≤◌, true, cond, ◌&&◌, List, [], ◌∷◌, length, map, get_or, refl, sym, ◌∙◌, ap, arith, nat_le, nat_lt, le-leb, lt-ltb, eq-eqb, None}
 use Rattle.std.specs.Prelude.{◌==◌, All, Ok, Err}
-use Rattle.std.specs.Str.{bytes_eq}
 use Rattle.std.specs.List.{list_all, flat_map}
-use Rattle.std.proofs.lemmas.Bool.{or_left, or_right}
 use Rattle.std.proofs.lemmas.List.{length-map}
 use Rattle.std.proofs.lemmas.List.Elements.{All-cons}
 use Rattle.std.proofs.lemmas.List.Concat.{concat_is, length-flat_map}
@@ -31,20 +29,13 @@ use Rattle.bd_recipe.specs.Laws.{FitsEntry}
 use Rattle.bd_recipe.proofs.Entries.{first_bad-none}
 use Rattle.bd_recipe.proofs.ReadingBack.{entries-begin}
 use Rattle.bd_model.proofs.RecordLemmas.{length-mark}
-use Rattle.bd_model.proofs.ChunkListLemmas.{bytes_eq-refl}
-
--- what a list of chunks has as its first one, and what it has behind
-has_first : (c : List ℕ) (cs : List (List ℕ)) → contains (c ∷ cs) c ≡ true
-has_first c cs = or_left (bytes_eq c c) (contains cs c) (bytes_eq-refl c)
-
-has_later : (c d : List ℕ) (cs : List (List ℕ)) → contains cs d ≡ true → contains (c ∷ cs) d ≡ true
-has_later c d cs has = or_right (bytes_eq d c) (contains cs d) has
+use Rattle.bd_model.proofs.ChunkListLemmas.{contains-first, contains-later}
 
 -- ---- entries
 
 fit_all : (e : List ℕ → RecipeEntry) (cs : List (List ℕ)) → ((c : List ℕ) → contains cs c ≡ true → FitsEntry (e c)) → All FitsEntry (map e cs)
 fit_all e [] fits = λ i d lt. absurd (omega arith)
-fit_all e (c ∷ cs) fits = All-cons FitsEntry (e c) (map e cs) (fits c (has_first c cs)) (fit_all e cs (λ d has. fits d (has_later c d cs has)))
+fit_all e (c ∷ cs) fits = All-cons FitsEntry (e c) (map e cs) (fits c (contains-first c cs)) (fit_all e cs (λ d has. fits d (contains-later c d cs has)))
 
 -- ---- the chunks of a version
 
@@ -108,13 +99,13 @@ module _ (shape : Shape) (st : VersionState) (v : ℕ) where
     entries_hold : (cs : List (List ℕ)) → ((x : List ℕ) → contains cs x ≡ true → contains (version h v) x ≡ true) → list_all (entry_holds (sizes_of shape) c v) (map (entry_of h v) cs) ≡ true
     entries_hold [] inside = refl
     entries_hold (x ∷ cs) inside =
-        let has : contains (version h v) x ≡ true = inside x (has_first x cs) in
+        let has : contains (version h v) x ≡ true = inside x (contains-first x cs) in
         let bounds = version-bounded x has in
         let one : nat_le 1 (length x) ≡ true = le-leb 1 (length x) bounds.0 in
         let most : nat_le (length x) shape.max ≡ true = le-leb (length x) shape.max bounds.1 in
         let above : nat_lt c.base (start_of h v x) ≡ true = lt-ltb c.base (start_of h v x) (omega (arith, start_of-low h v x has, numbered.base)) in
         let within : nat_le (start_of h v x) v ≡ true = le-leb (start_of h v x) v (start_of-le h v x) in
-        λ i. ((((one i && most i) && above i) && within i) && entries_hold cs (λ y more. inside y (has_later x y cs more)) i)
+        λ i. ((((one i && most i) && above i) && within i) && entries_hold cs (λ y more. inside y (contains-later x y cs more)) i)
 
     pub recipe-found : recipe_found (sizes_of shape) c image v ≡ Ok (recipe h v)
     recipe-found =

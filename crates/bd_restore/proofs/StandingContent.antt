@@ -9,11 +9,11 @@ use Rattle.bd_model.specs.History.{History, version, contains}
 use Rattle.bd_model.specs.Marks.{mark}
 use Rattle.bd_model.specs.Recipe.{recipe, entry_of, has_mark}
 use Rattle.bd_model.specs.Records.{Stored}
-use Rattle.bd_model.proofs.ChunkListLemmas.{bytes_eq-refl, contains-append}
+use Rattle.bd_model.proofs.ChunkListLemmas.{bytes_eq-refl, contains-append, contains-first, contains-later}
 use Rattle.bd_model.proofs.NeedLemmas.{TellsApart, has_mark-map}
 use Rattle.bd_catalog.specs.Sound.{is_stored, first_body, with_mark}
 use Rattle.bd_volume.proofs.ChunkCounts.{times, times-append, times-cons}
-use Rattle.bd_volume.proofs.StoredChunks.{stored_of, with_mark-stored, contains_first, contains_later}
+use Rattle.bd_volume.proofs.StoredChunks.{stored_of, with_mark-stored}
 use Rattle.bd_restore.specs.Walk.{joined, is_found, is_wanted}
 use Rattle.bd_restore.proofs.StandingReads.{AreTold}
 
@@ -37,7 +37,7 @@ module _ (h : History) (v : ℕ) (ws : List (List ℕ)) (once : (c : List ℕ) �
   entries_stored : (xs : List (List ℕ)) → ((c : List ℕ) → contains xs c ≡ true → contains cs c ≡ true) → list_all (is_stored (map stored_of ws)) (map (entry_of h v) xs) ≡ true
   entries_stored [] inside = refl
   entries_stored (c ∷ xs) inside =
-      λ i. entry_stored c (inside c (contains_first c xs)) i && entries_stored xs (λ d has. inside d (contains_later c d xs has)) i
+      λ i. entry_stored c (inside c (contains-first c xs)) i && entries_stored xs (λ d has. inside d (contains-later c d xs has)) i
 
   -- each entry is stored
   pub recipe_stored : list_all (is_stored (map stored_of ws)) (recipe h v) ≡ true
@@ -46,7 +46,7 @@ module _ (h : History) (v : ℕ) (ws : List (List ℕ)) (once : (c : List ℕ) �
   entries_joined : (xs : List (List ℕ)) → ((c : List ℕ) → contains xs c ≡ true → contains cs c ≡ true) → joined (map (entry_of h v) xs) (map stored_of ws) ≡ flat_map (λ c. c) xs
   entries_joined [] inside = refl
   entries_joined (c ∷ xs) inside =
-      λ i. first_body (own_record c (inside c (contains_first c xs)) i) ++ entries_joined xs (λ d has. inside d (contains_later c d xs has)) i
+      λ i. first_body (own_record c (inside c (contains-first c xs)) i) ++ entries_joined xs (λ d has. inside d (contains-later c d xs has)) i
 
   -- and their bodies are the chunks
   pub recipe_joined : joined (recipe h v) (map stored_of ws) ≡ flat_map (λ c. c) cs
@@ -68,7 +68,7 @@ module _ (h : History) (v : ℕ) (ws : List (List ℕ)) (once : (c : List ℕ) �
 
   told_here : (front behind : List (List ℕ)) (c : List ℕ) → front ++ (c ∷ behind) ≡ ws → is_wanted (recipe h v) (map stored_of front) (mark c) ≡ contains cs c
   told_here front behind c so =
-      let in_ws : contains ws c ≡ true = ap (λ xs. contains xs c) (sym so) ∙ contains-append front (c ∷ behind) c ∙ or_right (contains front c) (contains (c ∷ behind) c) (contains_first c behind) in
+      let in_ws : contains ws c ≡ true = ap (λ xs. contains xs c) (sym so) ∙ contains-append front (c ∷ behind) c ∙ or_right (contains front c) (contains (c ∷ behind) c) (contains-first c behind) in
       let known : has_mark (recipe h v) (mark c) ≡ contains cs c = has_mark-map (entry_of h v) (λ _. refl) cs c (apart c in_ws) in
       ap (λ t. t && not (is_found (map stored_of front) (mark c))) known
       ∙ elim (contains cs c) as (λ t. contains cs c ≡ t → (t && not (is_found (map stored_of front) (mark c))) ≡ t) [

@@ -4,7 +4,6 @@ use Rattle.std.specs.Prelude.{◌==◌}
 use Rattle.std.specs.Str.{bytes_eq}
 use Rattle.std.specs.Int.{w32, from_be_bytes}
 use Rattle.std.specs.List.{list_all}
-use Rattle.std.proofs.lemmas.Bool.{or_left, or_right}
 use Rattle.std.proofs.lemmas.List.Folds.{fold-map}
 use Rattle.bd_model.specs.History.{contains}
 use Rattle.bd_model.specs.Layout.{record_bytes, row_of}
@@ -12,7 +11,7 @@ use Rattle.bd_model.specs.Marks.{mark}
 use Rattle.bd_model.specs.Records.{Stored, record_of, records_of, stored_at, stored_in}
 use Rattle.bd_model.specs.Sizes.{Sizes}
 use Rattle.bd_model.specs.declared.mark.Mark.{Mark}
-use Rattle.bd_model.proofs.ChunkListLemmas.{bytes_eq-refl, bytes_eq-same, bytes_eq-other}
+use Rattle.bd_model.proofs.ChunkListLemmas.{bytes_eq-refl, bytes_eq-same, bytes_eq-other, contains-first, contains-later}
 use Rattle.bd_model.proofs.NeedLemmas.{TellsApart, bytes_eq-mark}
 use Rattle.bd_category.proofs.ReadingBack.{length-read, rest-read, stored-read}
 use Rattle.bd_catalog.specs.Sound.{Part, part_holds, part_records, stored_holds, with_mark}
@@ -26,13 +25,6 @@ stored_of c = record { length = length c; mark = mark c; body = c }
 -- chunks have a byte, and no more than a chunk may have
 abbrev pub Bounded : Sizes → List (List ℕ) → Type 0
 Bounded s cs = (c : List ℕ) → contains cs c ≡ true → (1 ≤ length c) × (length c ≤ s.max)
-
--- which a longer list tells of its rest
-pub contains_first : (c : List ℕ) (cs : List (List ℕ)) → contains (c ∷ cs) c ≡ true
-contains_first c cs = or_left (bytes_eq c c) (contains cs c) (bytes_eq-refl c)
-
-pub contains_later : (c d : List ℕ) (cs : List (List ℕ)) → contains cs d ≡ true → contains (c ∷ cs) d ≡ true
-contains_later c d cs has = or_right (bytes_eq d c) (contains cs d) has
 
 -- ---- one record
 
@@ -53,10 +45,10 @@ module _ (c rest : List ℕ) (small : length c < 2 ^ 32) where
 
 module _ (s : Sizes) (short : s.max ≤ 65536) where
   pub small_first : (c : List ℕ) (cs : List (List ℕ)) → Bounded s (c ∷ cs) → length c < 2 ^ 32
-  small_first c cs bounded = omega (arith, (bounded c (contains_first c cs)).1)
+  small_first c cs bounded = omega (arith, (bounded c (contains-first c cs)).1)
 
   pub bounded_later : (c : List ℕ) (cs : List (List ℕ)) → Bounded s (c ∷ cs) → Bounded s cs
-  bounded_later c cs bounded = λ d has. bounded d (contains_later c d cs has)
+  bounded_later c cs bounded = λ d has. bounded d (contains-later c d cs has)
 
   pub stored-records : (cs : List (List ℕ)) → Bounded s cs → stored_in (length cs) (records_of cs) ≡ map stored_of cs
   stored-records [] bounded = refl
@@ -70,7 +62,7 @@ module _ (s : Sizes) (short : s.max ≤ 65536) where
   all_hold : (cs : List (List ℕ)) → Bounded s cs → list_all (stored_holds s) (map stored_of cs) ≡ true
   all_hold [] bounded = refl
   all_hold (c ∷ cs) bounded =
-      let b = bounded c (contains_first c cs) in
+      let b = bounded c (contains-first c cs) in
       let low : nat_le 1 (length c) ≡ true = le-leb 1 (length c) b.0 in
       let high : nat_le (length c) s.max ≡ true = le-leb (length c) s.max b.1 in
       let same : (length c == length c) ≡ true = eq-eqb (length c) (length c) refl in
@@ -99,8 +91,8 @@ pub with_mark-stored : (cs : List (List ℕ)) (c : List ℕ) → TellsApart c cs
 with_mark-stored [] c apart = refl
 with_mark-stored (d ∷ cs) c apart =
     let rest = with_mark (mark c) (map stored_of cs) in
-    let more : rest ≡ replicate (times cs c) (stored_of c) = with_mark-stored cs c (λ x has. apart x (contains_later d x cs has)) in
-    ap (λ t. cond t (stored_of d ∷ rest) rest) (same_mark c d (apart d (contains_first d cs)))
+    let more : rest ≡ replicate (times cs c) (stored_of c) = with_mark-stored cs c (λ x has. apart x (contains-later d x cs has)) in
+    ap (λ t. cond t (stored_of d ∷ rest) rest) (same_mark c d (apart d (contains-first d cs)))
     ∙ elim (bytes_eq c d) as (λ t. bytes_eq c d ≡ t → cond t (stored_of d ∷ rest) rest ≡ replicate (cond t 1 0 + times cs c) (stored_of c)) [
       | true ↦ λ e.
           let count : suc (times cs c) ≡ 1 + times cs c = omega arith in
