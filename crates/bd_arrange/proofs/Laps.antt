@@ -45,10 +45,9 @@ use Rattle.bd_catalog.specs.Standing.{BeginWith}
 use Rattle.bd_catalog.proofs.Expiring.{AscendsFrom, ascends_first}
 use Rattle.bd_catalog.proofs.Fitting.{all_differ-once}
 use Rattle.bd_catalog.proofs.InPlace.{starts}
-use Rattle.bd_catalog.proofs.Obeying.{IsBounded, distinct_of, rules_of}
+use Rattle.bd_catalog.proofs.Obeying.{IsBounded, count_in_volume, distinct_of, open_ascend, rules_of}
 use Rattle.bd_catalog.proofs.OneArranging.{splits_rules}
-use Rattle.bd_catalog.proofs.Owning.{distinct_ascending, in_categories, open_ascend, waiting_volume}
-use Rattle.bd_catalog.proofs.StandingOwned.{count_in_volume}
+use Rattle.bd_catalog.proofs.Owning.{distinct_ascending, in_categories, waiting_volume}
 use Rattle.bd_catalog.proofs.StandingFound.{Obeys, obeys-each, opened-found}
 use Rattle.bd_recipe.specs.Reading.{IfDamaged}
 use Rattle.bd_recipe.specs.declared.fault.ReadFault.{ReadFault}

@@ -25,7 +25,7 @@ use Rattle.bd_catalog.specs.Splitting.{MaySplit, SplitEntry, after_split, extent
 use Rattle.bd_catalog.specs.Standing.{BeginWith, HasActives}
 use Rattle.bd_catalog.proofs.InPlace.{at_other, put_differ, same_or_not, starts}
 use Rattle.bd_catalog.proofs.StandingLists.{map-range_with_len}
-use Rattle.bd_catalog.proofs.StandingOwned.{count_in_category}
+use Rattle.bd_catalog.proofs.Obeying.{count_in_category}
 use Rattle.bd_arrange.specs.Turns.{taken_by}
 use Rattle.bd_arrange.proofs.LastVolume.{extents-grown, last_rows-are, rows-grown, rows_of}
 use Rattle.bd_arrange.proofs.OpenRows.{at_put, put_rows}

@@ -26,11 +26,10 @@ use Rattle.bd_catalog.specs.Rules.{obeys, volume_holds}
 use Rattle.bd_catalog.specs.Splitting.{SplitEntry, after_splits, last_extents, last_rows}
 use Rattle.bd_catalog.specs.Standing.{BeginWith, HasActives, HasNumbers, HasReserve, HasVolumes}
 use Rattle.bd_catalog.proofs.InPlace.{same_or_not, starts}
-use Rattle.bd_catalog.proofs.Obeying.{rules_of}
-use Rattle.bd_catalog.proofs.Owning.{distinct_ascending, open_ascend}
+use Rattle.bd_catalog.proofs.Obeying.{count_in_volume, open_ascend, rules_of}
+use Rattle.bd_catalog.proofs.Owning.{distinct_ascending}
 use Rattle.bd_catalog.proofs.StandingFound.{obeys-each}
 use Rattle.bd_catalog.proofs.StandingLists.{map-range_with_len}
-use Rattle.bd_catalog.proofs.StandingOwned.{count_in_volume}
 use Rattle.bd_catalog.specs.Rows.{open_row}
 use Rattle.bd_volume.specs.Holding.{HoldsRows, groups_over}
 use Rattle.bd_arrange.specs.Turns.{AreArranged, Ground, archived_bytes, due, ground, grown_bytes, is_due}

@@ -14,7 +14,7 @@ use Rattle.bd_model.specs.declared.layout.CategoryRow.{CategoryRow}
 use Rattle.bd_catalog.specs.Catalogue.{Catalogue, VersionEntry, VolumeEntry, OpenEntry, oldest_in, starts_of}
 use Rattle.bd_catalog.specs.Spelling.{spelled_extents, spelled_phase, spelled_row, spelled_version, spelled_volume, spelled_active, spelled}
 use Rattle.bd_catalog.specs.Rules.{ascends, starts_hold, active_holds, obeys}
-use Rattle.bd_catalog.proofs.Obeying.{ascends_count, IsBounded, rules_of, numbers_of, owned_of, row_of, open_row_of, open_extents_of}
+use Rattle.bd_catalog.proofs.Obeying.{ascends_count, IsBounded, rules_of, numbers_of, owned_of, row_of, open_row_of, count_in_category}
 
 pub length-fours : (ns : List ℕ) → length (flat_map four ns) ≡ 4 * length ns
 length-fours [] = refl
@@ -57,7 +57,7 @@ some_extent : (s : Sizes) → IsBounded s → (e : OpenEntry) → active_holds s
 some_extent s bounded e h =
     let row = row_of s bounded e.row (open_row_of s bounded e h) in
     let one : 1 ≤ up s.extent e.row.bytes = le-div 1 (e.row.bytes + (s.extent - 1)) s.extent bounded.extent (omega (arith, row.some, row.least)) in
-    omega (arith, open_extents_of s bounded e h)
+    omega (arith, count_in_category s e h)
 
 length-actives : (s : Sizes) → IsBounded s → (es : List OpenEntry) → list_all (active_holds s) es ≡ true →
     length (flat_map spelled_active es) ≤ 28 * length (flat_map (λ e. e.extents) es)

@@ -161,6 +161,20 @@ fit_list top numbers small own = record {
 fits_eight_of : (n : ℕ) → fits_eight n ≡ true → n < 2 ^ 64
 fits_eight_of n h = ltb-true n (2 ^ 64) h
 
+-- the extents of a volume and of an open category are as many as their bytes need
+pub count_in_volume : (s : Sizes) (e : VolumeEntry) → volume_holds s e ≡ true → length e.extents ≡ up s.extent (bytes_of_rows e.rows)
+count_in_volume s e h =
+    let p1 = list_all (row_holds s) e.rows in
+    let p2 = length e.extents == up s.extent (bytes_of_rows e.rows) in
+    eqb-true (length e.extents) (up s.extent (bytes_of_rows e.rows)) (right_and p1 p2 (left_and (p1 && p2) (fits_eight (bytes_of_rows e.rows)) h))
+
+pub count_in_category : (s : Sizes) (e : OpenEntry) → active_holds s e ≡ true → length e.extents ≡ up s.extent e.row.bytes
+count_in_category s e h = eqb-true (length e.extents) (up s.extent e.row.bytes) (right_and (row_holds s e.row) (length e.extents == up s.extent e.row.bytes) h)
+
+-- the starts of the open categories ascend
+pub open_ascend : (c : Catalogue) → actives_hold c ≡ true → ascends (c.base + 1) c.newest (map (λ e. e.row.start) c.actives) ≡ true
+open_ascend c h = left_and (ascends (c.base + 1) c.newest (map (λ e. e.row.start) c.actives)) (nat_lt 0 (length c.versions) || length c.actives == 0) h
+
 module _ (s : Sizes) (bounded : IsBounded s) where
   -- the parts of one version's rule
   pub record VersionHolds (e : VersionEntry) : Type 0 where
@@ -264,9 +278,6 @@ module _ (s : Sizes) (bounded : IsBounded s) where
   pub open_row_of : (e : OpenEntry) → active_holds s e ≡ true → row_holds s e.row ≡ true
   open_row_of e h = left_and (row_holds s e.row) (length e.extents == up s.extent e.row.bytes) h
 
-  pub open_extents_of : (e : OpenEntry) → active_holds s e ≡ true → length e.extents ≡ up s.extent e.row.bytes
-  open_extents_of e h = eqb-true (length e.extents) (up s.extent e.row.bytes) (right_and (row_holds s e.row) (length e.extents == up s.extent e.row.bytes) h)
-
   actives_fit : (low high : ℕ) (es : List OpenEntry) → high < 2 ^ 32 → ascends low high (map (λ e. e.row.start) es) ≡ true → list_all (active_holds s) es ≡ true
       → OwnFew s.extents (flat_map (λ e. e.extents) es) → All FitsOpen es
   actives_fit low high [] small up_to h own = All-nil FitsOpen
@@ -296,9 +307,6 @@ module _ (s : Sizes) (bounded : IsBounded s) where
       let below : cursor ≤ c.newest = leb-true cursor c.newest (right_and (nat_le 2 (length c.versions) && nat_lt c.base cursor) (nat_le cursor c.newest) h) in
       omega arith
 
-  pub starts_of_open : (c : Catalogue) → actives_hold c ≡ true → ascends (c.base + 1) c.newest (map (λ e. e.row.start) c.actives) ≡ true
-  starts_of_open c h = left_and (ascends (c.base + 1) c.newest (map (λ e. e.row.start) c.actives)) (nat_lt 0 (length c.versions) || length c.actives == 0) h
-
   -- each number of a catalogue that obeys the rules fits its field
   pub spellable : (c : Catalogue) → obeys s c ≡ true → IsSpellable c
   spellable c h =
@@ -310,7 +318,7 @@ module _ (s : Sizes) (bounded : IsBounded s) where
       let actives = flat_map (λ (e : OpenEntry). e.extents) c.actives in
       let closed = few_left s.extents (versions ++ volumes) actives own in
       let opens = few_right s.extents (versions ++ volumes) actives own in
-      let starts = starts_of_open c rules.open_starts in
+      let starts = open_ascend c rules.open_starts in
       record {
         base = omega (arith, numbers.base, numbers.newest);
         newest = numbers.newest;

@@ -15,8 +15,8 @@ use Rattle.bd_catalog.specs.Rules.{ascends, obeys}
 use Rattle.bd_catalog.specs.Splitting.{AreSplits, FitsArrange, KeptEntry, MaySplits, SplitEntry, after_arrange, after_split, after_splits, in_place, kept_of, last_grown, last_rows, put_in_place}
 use Rattle.bd_catalog.proofs.Expiring.{obeys_by_rules}
 use Rattle.bd_catalog.proofs.InPlace.{Named, among, first, later, put_contains, put_differ, put_none, same_or_not, starts}
-use Rattle.bd_catalog.proofs.Obeying.{IsBounded, Rules, rules_of}
-use Rattle.bd_catalog.proofs.Owning.{distinct_ascending, open_ascend}
+use Rattle.bd_catalog.proofs.Obeying.{IsBounded, Rules, open_ascend, rules_of}
+use Rattle.bd_catalog.proofs.Owning.{distinct_ascending}
 use Rattle.bd_catalog.proofs.Splitting.{split_rules}
 
 -- ---- the volumes

@@ -1,5 +1,5 @@
 -- What a catalogue owns before a step, with what the step brings, is what it owns afterwards and what the step gives up.
-use Rattle.std.proofs.Common.{◌≡◌, ◌≢◌, ⊎_elim, ℕ, suc, ◌+◌, ◌<◌, ◌≤◌, true, false, cond, ◌&&◌, nat_eq, nat_le, nat_lt, ◌||◌, List, [], ◌∷◌, ◌++◌, length, map, take, drop, refl, sym, ◌∙◌, ap, arith, subst, append_assoc}
+use Rattle.std.proofs.Common.{◌≡◌, ◌≢◌, ⊎_elim, ℕ, suc, ◌+◌, ◌<◌, ◌≤◌, true, false, cond, ◌&&◌, nat_eq, nat_le, List, [], ◌∷◌, ◌++◌, length, map, take, drop, refl, sym, ◌∙◌, ap, arith, subst, append_assoc}
 use Rattle.std.specs.Prelude.{All, Contains, IsPermutation, ◌==◌}
 use Rattle.std.specs.List.{flat_map, IsDistinct}
 use Rattle.std.proofs.lemmas.Bool.{cases_lt, leb-true}
@@ -18,11 +18,11 @@ use Rattle.bd_catalog.specs.declared.step.Step.{Step}
 use Rattle.bd_catalog.specs.declared.step.Step.TheVariants.{Backup, Expire, Arrange}
 use Rattle.bd_catalog.specs.Shown.{version_entry}
 use Rattle.bd_catalog.specs.Splitting.{KeptEntry, AreSplits, FitsArrange, after_arrange, after_expire, begun_from, expired, extents_at, in_place, kept_extents, last_grown, put_in_place, replaced}
-use Rattle.bd_catalog.specs.Rules.{actives_hold, ascends, obeys}
+use Rattle.bd_catalog.specs.Rules.{ascends, obeys}
 use Rattle.bd_catalog.specs.Steps.{Fits, brought, dropped, fresh_entries, kept_entry, stepped}
 use Rattle.bd_catalog.proofs.Counting.{permutation_by_times, times, times-append}
 use Rattle.bd_catalog.proofs.InPlace.{NextSplit, among, at_head, at_later, next_split, put_head, put_later, same_or_not, starts}
-use Rattle.bd_catalog.proofs.Obeying.{NumbersHold, numbers_of, rules_of}
+use Rattle.bd_catalog.proofs.Obeying.{NumbersHold, numbers_of, open_ascend, rules_of}
 use Rattle.bd_catalog.proofs.StandingNamed.{settled_with_few}
 
 same_lists : (xs ys : List ℕ) → xs ≡ ys → IsPermutation xs ys
@@ -195,9 +195,6 @@ distinct_ascending low high (n ∷ ns) h =
         let bounds = nat_le low n && nat_le n high in
         let above : low ≤ n = leb-true low n (left_and (nat_le low n) (nat_le n high) (left_and bounds (ascends (n + 1) high ns) h)) in
         ⊎_elim (λ same. omega (arith, same, above, less)) (λ later. below_none (n + 1) high ns (right_and bounds (ascends (n + 1) high ns) h) k (omega (arith, above, less)) later) (among n ns k has)
-
-pub open_ascend : (c : Catalogue) → actives_hold c ≡ true → ascends (c.base + 1) c.newest (map (λ e. e.row.start) c.actives) ≡ true
-open_ascend c h = left_and (ascends (c.base + 1) c.newest (map (λ e. e.row.start) c.actives)) (nat_lt 0 (length c.versions) || length c.actives == 0) h
 
 -- splits that ascend, of open categories that ascend, are of different ones
 pub fit_splits : (s : Sizes) (c : Catalogue) (rows : List CategoryRow) (added : List ℕ) (es : List KeptEntry) → obeys s c ≡ true → FitsArrange s c rows added es → AreSplits es c.actives

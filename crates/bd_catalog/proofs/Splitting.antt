@@ -19,8 +19,8 @@ use Rattle.bd_catalog.specs.Splitting.{MaySplit, SplitEntry, after_split, extent
 use Rattle.bd_catalog.proofs.Counting.{permutation_by_times, times-append}
 use Rattle.bd_catalog.proofs.Expiring.{AscendsFrom, all_by_each, ascends_cons, ascends_first, fewer_hold, obeys_by_rules, row_by_facts, rows_join}
 use Rattle.bd_catalog.proofs.InPlace.{put_head, put_later, same_or_not, starts}
-use Rattle.bd_catalog.proofs.Obeying.{IsBounded, NumbersHold, Rules, numbers_of, owned_of, rules_of}
-use Rattle.bd_catalog.proofs.Owning.{all_times, distinct_ascending, in_categories, last_times, open_ascend, put_times, waiting_volume}
+use Rattle.bd_catalog.proofs.Obeying.{IsBounded, NumbersHold, Rules, numbers_of, open_ascend, owned_of, rules_of}
+use Rattle.bd_catalog.proofs.Owning.{all_times, distinct_ascending, in_categories, last_times, put_times, waiting_volume}
 
 -- ---- more of the last row
 

@@ -1,8 +1,8 @@
 -- An image that stands for a state owns as many extents as the state does, and as many are free.
-use Rattle.std.proofs.Common.{◌≡◌, ℕ, zero, suc, ◌+◌, ◌-◌, ◌*◌, ◌≤◌, true, false, cond, ◌&&◌, ◌==◌, List, [], ◌∷◌, ◌++◌, length, map, filter, flat_map, sum_by, refl, sym, ◌∙◌, ap, subst, arith, nat_lt, length-append}
+use Rattle.std.proofs.Common.{◌≡◌, ℕ, zero, suc, ◌+◌, ◌-◌, ◌*◌, ◌≤◌, true, false, cond, List, [], ◌∷◌, ◌++◌, length, map, filter, flat_map, sum_by, refl, sym, ◌∙◌, ap, subst, arith, nat_lt, length-append}
 use Rattle.std.specs.Prelude.{Ok}
 use Rattle.std.specs.List.{list_all, range_with_len}
-use Rattle.std.proofs.lemmas.Bool.{eqb-true, ltb-false}
+use Rattle.std.proofs.lemmas.Bool.{ltb-false}
 use Rattle.std.proofs.lemmas.List.Concat.{length-flat_map}
 use Rattle.std.proofs.lemmas.List.Sums.{sum_by-cons}
 use Rattle.bd_model.specs.declared.answer.VersionLine.{VersionLine}
@@ -25,21 +25,12 @@ use Rattle.bd_space.proofs.Exact.{taken_count-exact}
 use Rattle.bd_space.proofs.Uses.{counts-all}
 use Rattle.bd_catalog.specs.Catalogue.{Catalogue, VersionEntry, VolumeEntry, OpenEntry, all_extents, bytes_of_rows, oldest_in}
 use Rattle.bd_catalog.specs.Opening.{Found, opened}
-use Rattle.bd_catalog.specs.Rules.{active_holds, fits_eight, row_holds, version_holds, volume_holds}
+use Rattle.bd_catalog.specs.Rules.{active_holds, version_holds, volume_holds}
 use Rattle.bd_catalog.specs.Standing.{StandsFor, lines_from}
-use Rattle.bd_catalog.proofs.Obeying.{bounded_of, version_of}
+use Rattle.bd_catalog.proofs.Obeying.{bounded_of, count_in_category, count_in_volume, version_of}
 use Rattle.bd_catalog.proofs.Standing.{Shows, stands-shows}
 use Rattle.bd_catalog.proofs.StandingLists.{line_of}
 use Rattle.bd_catalog.proofs.StandingFound.{Obeys, obeys-each, opened-found}
-
-pub count_in_volume : (s : Sizes) (e : VolumeEntry) → volume_holds s e ≡ true → length e.extents ≡ up s.extent (bytes_of_rows e.rows)
-count_in_volume s e h =
-    let p1 = list_all (row_holds s) e.rows in
-    let p2 = length e.extents == up s.extent (bytes_of_rows e.rows) in
-    eqb-true (length e.extents) (up s.extent (bytes_of_rows e.rows)) (right_and p1 p2 (left_and (p1 && p2) (fits_eight (bytes_of_rows e.rows)) h))
-
-pub count_in_category : (s : Sizes) (e : OpenEntry) → active_holds s e ≡ true → length e.extents ≡ up s.extent e.row.bytes
-count_in_category s e h = eqb-true (length e.extents) (up s.extent e.row.bytes) (right_and (row_holds s e.row) (length e.extents == up s.extent e.row.bytes) h)
 
 no_line : {x : VersionLine} {xs : List VersionLine} → x ∷ xs ≡ [] → ⊥
 no_line e = cc

@@ -32,11 +32,12 @@ use Rattle.bd_extio.proofs.Places.{get_or-owner_bytes, length-owner_bytes}
 use Rattle.bd_catalog.specs.Catalogue.{Catalogue, OpenEntry, VersionEntry, VolumeEntry, active_extents, all_extents, bytes_of_rows, oldest_in, recipe_extents, volume_extents}
 use Rattle.bd_catalog.specs.Opening.{Found, opened}
 use Rattle.bd_catalog.specs.Rows.{open_row}
-use Rattle.bd_catalog.specs.Rules.{active_holds, all_differ, fits_eight, obeys, row_holds, version_holds, volume_holds}
+use Rattle.bd_catalog.specs.Rules.{active_holds, all_differ, fits_eight, obeys, version_holds, volume_holds}
 use Rattle.bd_catalog.specs.Standing.{BeginWith, HasActives, HasNumbers, HasVersions, HasVolumes, StandsFor}
 use Rattle.bd_catalog.proofs.Standing.{Shows, shows_same, stands-shown, stands-shows}
 use Rattle.bd_catalog.proofs.StandingFound.{Obeys, obeys-each, opened-found}
 use Rattle.bd_catalog.proofs.StandingLines.{chunks_recorded}
+use Rattle.bd_catalog.proofs.Obeying.{count_in_category, count_in_volume}
 use Rattle.bd_volume.specs.Named.{InNamed, Named, named_by, open_named, recipe_named, volume_named}
 use Rattle.bd_volume.proofs.Held.{one_entry, rows_stand}
 use Rattle.bd_volume.proofs.Naming.{AreOwned, opens_owned}
@@ -101,15 +102,6 @@ module _ (s : Sizes) (some : 1 ≤ s.extent) where
       let p6 = p5 && fits_eight (40 * e.chunks) in
       eqb-true (length e.extents) (up s.extent (40 * e.chunks)) (right_and p3 (length e.extents == up s.extent (40 * e.chunks)) (left_and p4 (fits_eight (s.max * e.chunks)) (left_and p5 (fits_eight (40 * e.chunks)) (left_and p6 (fits_eight e.length) h))))
 
-  sized_volume : (e : VolumeEntry) → volume_holds s e ≡ true → length e.extents ≡ up s.extent (bytes_of_rows e.rows)
-  sized_volume e h =
-      let rows_fit = list_all (row_holds s) e.rows in
-      let sized = length e.extents == up s.extent (bytes_of_rows e.rows) in
-      eqb-true (length e.extents) (up s.extent (bytes_of_rows e.rows)) (right_and rows_fit sized (left_and (rows_fit && sized) (fits_eight (bytes_of_rows e.rows)) h))
-
-  sized_open : (e : OpenEntry) → active_holds s e ≡ true → length e.extents ≡ up s.extent e.row.bytes
-  sized_open e h = eqb-true (length e.extents) (up s.extent e.row.bytes) (right_and (row_holds s e.row) (length e.extents == up s.extent e.row.bytes) h)
-
   pub all_fit : (c : Catalogue) → IsTrue (obeys s c) → All (FitsNamed s) (named_by c)
   all_fit c rules =
       let each : Obeys s c = obeys-each s c rules in
@@ -123,8 +115,8 @@ module _ (s : Sizes) (some : 1 ≤ s.extent) where
       All-append (FitsNamed s) (map recipe_named c.versions ++ map volume_named c.volumes) (map open_named c.actives)
       (All-append (FitsNamed s) (map recipe_named c.versions) (map volume_named c.volumes)
       (fit_each recipe_named (version_holds s) sized_version c.versions each.versions (left_and (are_below versions) (are_below volumes) parts))
-      (fit_each volume_named (volume_holds s) sized_volume c.volumes each.volumes (right_and (are_below versions) (are_below volumes) parts)))
-      (fit_each open_named (active_holds s) sized_open c.actives each.categories opens)
+      (fit_each volume_named (volume_holds s) (count_in_volume s) c.volumes each.volumes (right_and (are_below versions) (are_below volumes) parts)))
+      (fit_each open_named (active_holds s) (count_in_category s) c.actives each.categories opens)
 
 -- ---- owners among those that are named
 
