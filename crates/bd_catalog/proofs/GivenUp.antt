@@ -2,7 +2,7 @@
 use Rattle.std.proofs.Common.{◌≡◌, ℕ, zero, suc, ◌+◌, ◌<◌, ◌≤◌, false, cond, nat_eq, length-append, List, [], ◌∷◌, ◌++◌, length, map, flat_map, take, drop, set, get_or, refl, sym, ◌∙◌, ap, arith, subst, append_assoc}
 use Rattle.std.specs.Prelude.{All, Contains, nat_eq}
 use Rattle.std.specs.List.{IsDistinct}
-use Rattle.std.proofs.lemmas.List.{append-nil}
+use Rattle.std.proofs.lemmas.List.{append-nil, nil_from_length}
 use Rattle.std.proofs.lemmas.Bool.{ne_eqb}
 use Rattle.std.proofs.lemmas.List.{length-map}
 use Rattle.std.proofs.lemmas.List.Concat.{flat_map-append}
@@ -61,10 +61,6 @@ owned_first {old} {new} xs {ys} owned gives = record {
   exactly = gives.owners (owned.others ++ xs) (subst (TakenExactly old) (sym (append_assoc owned.others xs ys)) owned.exactly);
 }
 
-pub nothing_left : {X : Type 0} (xs : List X) → length xs ≡ 0 → xs ≡ []
-nothing_left [] none = refl
-nothing_left (x ∷ xs) none = absurd (omega (arith, none))
-
 -- the last of several owners
 pub flat_map-last : {X : Type 0} (f : X → List ℕ) (xs : List X) (x : X) → flat_map f (xs ++ x ∷ []) ≡ flat_map f xs ++ f x
 flat_map-last f xs x = flat_map-append f xs (x ∷ []) ∙ ap (λ (ns : List ℕ). flat_map f xs ++ ns) (append-nil (f x))
@@ -109,7 +105,7 @@ expired_two c v w two some is_version is_volume =
 pub owned_alone : (c : Contents) (rest : List VersionRow) (v : VersionRow) → length c.versions.items ≡ 1 → c.volumes.items ≡ [] → c.versions.items ≡ rest ++ v ∷ [] →
     all_extents (catalogue_of_contents c) ≡ v.recipe.numbers ++ flat_map (λ (a : ActiveCategory). a.extents.numbers) c.actives.items
 owned_alone c rest v one none is =
-    let empty : rest ≡ [] = nothing_left rest (omega (arith, ap (λ (xs : List VersionRow). length xs) is, length-append rest (v ∷ []), one)) in
+    let empty : rest ≡ [] = nil_from_length rest (omega (arith, ap (λ (xs : List VersionRow). length xs) is, length-append rest (v ∷ []), one)) in
     let versions : flat_map (λ (e : VersionEntry). e.extents) (map version_entry c.versions.items) ≡ v.recipe.numbers =
     ap (λ xs. flat_map (λ (e : VersionEntry). e.extents) (map version_entry xs)) (is ∙ ap (λ xs. xs ++ v ∷ []) empty) ∙ append-nil v.recipe.numbers in
     let volumes : flat_map (λ (e : VolumeEntry). e.extents) (map volume_entry c.volumes.items) ≡ [] = ap (λ xs. flat_map (λ (e : VolumeEntry). e.extents) (map volume_entry xs)) none in

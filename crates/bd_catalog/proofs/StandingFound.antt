@@ -2,6 +2,7 @@
 use Rattle.std.proofs.Common.{◌≡◌, ℕ, ◌+◌, ◌%◌, ◌≤◌, Bool, true, false, cond, ◌&&◌, ◌||◌, ◌-◌, ◌<◌, ◌^◌, map, le-ltb, not, List, [], ◌∷◌, length, refl, sym, ◌∙◌, ap, subst, arith, Option, Some, None, IfSome, nat_le, nat_lt, replicate}
 use Rattle.std.specs.Prelude.{Result, Ok, Err, IfOk, IsTrue, bytes_eq, ◌==◌}
 use Rattle.std.proofs.lemmas.Bool.{leb-true, ltb-true, ltb-false, eqb-true}
+use Rattle.std.proofs.lemmas.List.{nil_from_length}
 use Rattle.bd_disk.specs.Images.{bytes_at}
 use Rattle.bd_model.specs.Sizes.{Sizes, payload_room, disk_bytes, is_shape}
 use Rattle.bd_model.specs.declared.place.Place.{Place}
@@ -115,10 +116,6 @@ numbers-each s c all =
       volumes = eqb-true (length c.volumes) (length c.versions - 1) (right_and (few && since && none && small) volumes all);
     }
 
-no_elements : {X : Type 0} (xs : List X) → length xs ≡ 0 → xs ≡ []
-no_elements [] e = refl
-no_elements (x ∷ xs) e = absurd (omega (arith, e))
-
 no_phase : (c : Catalogue) (phase : Phase) → IsTrue (phase_holds c phase) → length c.versions ≡ 0 → phase ≡ Settled
 no_phase c Settled holds none = refl
 no_phase c (Waiting cursor) holds none =
@@ -136,9 +133,9 @@ nothing-else s c rules none =
       base = c.base;
       newest = sym (numbered.none none) k;
       phase = no_phase c c.phase rules.phase none k;
-      versions = no_elements c.versions none k;
-      volumes = no_elements c.volumes (omega (arith, numbered.volumes, none)) k;
-      actives = no_elements c.actives actives k;
+      versions = nil_from_length c.versions none k;
+      volumes = nil_from_length c.volumes (omega (arith, numbered.volumes, none)) k;
+      actives = nil_from_length c.actives actives k;
     }
 
 -- the newest half is one of the two

@@ -1,12 +1,12 @@
 use Rattle.std.proofs.Common.{◌≡◌, ◌++◌, ◌∷◌, [], ℕ, List, flat_map, map, length, length-append, sym, subst, arith, ◌∙◌, ap, true, false}
 use Rattle.std.specs.Prelude.{option_to_list}
-use Rattle.std.proofs.lemmas.List.{append-nil, map-append}
+use Rattle.std.proofs.lemmas.List.{append-nil, map-append, nil_from_length}
 use Rattle.std.proofs.lemmas.List.Concat.{flat_map-append}
 use Rattle.bd_catalog.specs.declared.step.SplitRow.{SplitRow}
 use Rattle.bd_catalog.specs.Giving.{AreOwned, GivesUp}
 use Rattle.bd_catalog.specs.Splitting.{KeptEntry, kept_extents}
 use Rattle.bd_catalog.specs.Steps.{fresh_entries, kept_entry}
-use Rattle.bd_catalog.proofs.GivenUp.{nothing_left, gives_both, gives_none, owned_first, owned_second}
+use Rattle.bd_catalog.proofs.GivenUp.{gives_both, gives_none, owned_first, owned_second}
 use Rattle.bd_arrange.proofs.ending.free_splits.Goals as goal
 use Rattle.bd_arrange.proofs.ending.free_splits.Goals.{in-Some, in_default}
 
@@ -48,5 +48,5 @@ loop-preserved c =
 
 pub returns : goal.returns
 returns c =
-    let none : c.loop.splits.items ≡ [] = nothing_left c.loop.splits.items (omega (arith, c.loop.invariant.left, c.len-end.ensures, c.loop-test.false)) in
+    let none : c.loop.splits.items ≡ [] = nil_from_length c.loop.splits.items (omega (arith, c.loop.invariant.left, c.len-end.ensures, c.loop-test.false)) in
     c.loop.invariant.gives c.loop.space (subst (λ (xs : List SplitRow). GivesUp (all xs) c.loop.space c.loop.space) (sym none) (gives_none c.loop.space))

@@ -1,8 +1,9 @@
 use Rattle.std.proofs.Common.{◌≡◌, ◌++◌, ◌∷◌, [], ℕ, List, flat_map, length, length-append, sym, subst, arith, ◌∙◌, ap, true, false}
+use Rattle.std.proofs.lemmas.List.{nil_from_length}
 use Rattle.std.specs.Prelude.{option_to_list}
 use Rattle.bd_catalog.specs.declared.rows.ActiveCategory.{ActiveCategory}
 use Rattle.bd_catalog.specs.Giving.{AreOwned, GivesUp}
-use Rattle.bd_catalog.proofs.GivenUp.{nothing_left, flat_map-last, gives_both, gives_none, owned_first, owned_second}
+use Rattle.bd_catalog.proofs.GivenUp.{flat_map-last, gives_both, gives_none, owned_first, owned_second}
 use Rattle.bd_catalog.proofs.giving.release_all.Goals as goal
 use Rattle.bd_catalog.proofs.giving.release_all.Goals.{in-Some, in_default}
 
@@ -35,5 +36,5 @@ loop-preserved c =
 
 pub returns-clause-gives : goal.returns-clause-gives
 returns-clause-gives c =
-    let none : c.loop.actives.items ≡ [] = nothing_left c.loop.actives.items (omega (arith, c.loop.invariant.left, c.len-end.ensures, c.loop-test.false)) in
+    let none : c.loop.actives.items ≡ [] = nil_from_length c.loop.actives.items (omega (arith, c.loop.invariant.left, c.len-end.ensures, c.loop-test.false)) in
     c.loop.invariant.gives c.loop.space (subst (λ (xs : List ActiveCategory). GivesUp (flat_map numbers xs) c.loop.space c.loop.space) (sym none) (gives_none c.loop.space))

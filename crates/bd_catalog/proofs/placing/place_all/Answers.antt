@@ -1,13 +1,13 @@
 use Rattle.std.proofs.Common.{◌≡◌, ◌++◌, ◌∷◌, [], List, map, length, length-append, true, false, sym, ◌∙◌, ap, subst, arith}
 use Rattle.std.specs.Prelude.{option_to_list}
-use Rattle.std.proofs.lemmas.List.{map-append}
+use Rattle.std.proofs.lemmas.List.{map-append, nil_from_length}
 use Rattle.bd_catalog.specs.declared.step.SplitRow.{SplitRow}
 use Rattle.bd_catalog.specs.Catalogue.{OpenEntry}
 use Rattle.bd_catalog.specs.Giving.{AreOwned, GivesUp}
 use Rattle.bd_catalog.specs.Shown.{open_entry}
 use Rattle.bd_catalog.specs.Splitting.{KeptEntry, AreSplits, extents_at, in_place, put_in_place, replaced}
 use Rattle.bd_catalog.specs.Steps.{kept_entry}
-use Rattle.bd_catalog.proofs.GivenUp.{gives_both, gives_none, nothing_left, owned_first, owned_second}
+use Rattle.bd_catalog.proofs.GivenUp.{gives_both, gives_none, owned_first, owned_second}
 use Rattle.bd_catalog.proofs.InPlace.{LastSplit, last_split}
 use Rattle.bd_catalog.proofs.placing.place_all.Goals as goal
 use Rattle.bd_catalog.proofs.placing.place_all.Goals.{in-Some, in_default}
@@ -58,10 +58,10 @@ loop-preserved c =
 
 pub returns-clause-actives : goal.returns-clause-actives
 returns-clause-actives c =
-    let none : c.loop.splits.items ≡ [] = nothing_left c.loop.splits.items (omega (arith, c.loop.invariant.left, c.len-end.ensures, c.loop-test.false)) in
+    let none : c.loop.splits.items ≡ [] = nil_from_length c.loop.splits.items (omega (arith, c.loop.invariant.left, c.len-end.ensures, c.loop-test.false)) in
     ap (λ xs. in_place (map kept_entry xs) (map open_entry c.loop.actives.items)) (sym none) ∙ c.loop.invariant.placed
 
 pub returns-clause-gives : goal.returns-clause-gives
 returns-clause-gives c =
-    let none : c.loop.splits.items ≡ [] = nothing_left c.loop.splits.items (omega (arith, c.loop.invariant.left, c.len-end.ensures, c.loop-test.false)) in
+    let none : c.loop.splits.items ≡ [] = nil_from_length c.loop.splits.items (omega (arith, c.loop.invariant.left, c.len-end.ensures, c.loop-test.false)) in
     c.loop.invariant.gives c.loop.space (subst (λ xs. GivesUp (replaced (map kept_entry xs) (map open_entry c.loop.actives.items)) c.loop.space c.loop.space) (sym none) (gives_none c.loop.space))
