@@ -35,8 +35,9 @@ use Rattle.bd_arrange.specs.Cuts.{archived_records, bytes_in, kept_records, reco
 use Rattle.bd_arrange.specs.Turns.{Ground, IsKeptOf, IsSplit, IsToSplit, Turns, archived_bytes, archived_on, ground, kept_on, taken_by}
 use Rattle.bd_arrange.proofs.LastVolume.{rows_of}
 use Rattle.bd_arrange.proofs.OneTurn.{IsAt, SplitsSo, has_room, left_at, rows_now, same_volume, split_at}
-use Rattle.bd_arrange.proofs.OpenRows.{IsAlone, starting}
+use Rattle.bd_arrange.proofs.OpenRows.{IsAlone}
 use Rattle.bd_arrange.proofs.Told.{archived-told, bytes-stored, kept-told, records-held, written-stored}
+use Rattle.bd_arrange.proofs.Splits.{starting}
 
 -- The categories f wait from the cursor on, as they were before the version of the chunks w, and the entries tell which of
 -- their chunks it uses.

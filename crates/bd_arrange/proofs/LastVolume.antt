@@ -6,6 +6,7 @@ use Rattle.bd_model.specs.declared.layout.CategoryRow.{CategoryRow}
 use Rattle.std.specs.Prelude.{max}
 use Rattle.bd_catalog.specs.Catalogue.{Catalogue, VolumeEntry, oldest_in, volume_extents}
 use Rattle.bd_catalog.specs.Splitting.{SplitEntry, after_split, after_splits, last_extents, last_grown, last_rows}
+use Rattle.bd_catalog.proofs.Splitting.{length-last}
 
 abbrev pub rows_of : List VolumeEntry → List (List CategoryRow)
 rows_of es = map (λ e. e.rows) es
@@ -76,11 +77,6 @@ last_extents-at (e ∷ []) (suc k) long = absurd (omega (arith, long))
 last_extents-at (e ∷ second ∷ es) zero long = absurd (omega (arith, long))
 last_extents-at (e ∷ second ∷ es) (suc k) long = last_extents-at (second ∷ es) k (omega (arith, long))
 
-pub length-grown : (f : List CategoryRow → List CategoryRow) (added : List ℕ) (es : List VolumeEntry) → length (last_grown f added es) ≡ length es
-length-grown f added [] = refl
-length-grown f added (e ∷ []) = refl
-length-grown f added (e ∷ second ∷ es) = ap suc (length-grown f added (second ∷ es))
-
 front-grown : (f : List CategoryRow → List CategoryRow) (added : List ℕ) (es : List VolumeEntry) (k : ℕ) → k + 1 < length es → get_or (extents_of (last_grown f added es)) k [] ≡ get_or (extents_of es) k []
 front-grown f added [] k within = refl
 front-grown f added (e ∷ []) k within = absurd (omega (arith, within))
@@ -92,13 +88,9 @@ pub front-splits : (c : Catalogue) (es : List SplitEntry) (j : ℕ) → j - olde
 front-splits c [] j within = refl
 front-splits c (e ∷ es) j within =
     let f : List CategoryRow → List CategoryRow = rows_more (max e.start (oldest_in c)) e.chunks e.bytes in
-    front-splits (after_split c e) es j (omega (arith, within, length-grown f e.added c.volumes))
+    front-splits (after_split c e) es j (omega (arith, within, length-last f e.added c.volumes))
     ∙ front-grown f e.added c.volumes (j - oldest_in c) within
 
 pub length-splits : (c : Catalogue) (es : List SplitEntry) → length (after_splits c es).volumes ≡ length c.volumes
 length-splits c [] = refl
-length-splits c (e ∷ es) = length-splits (after_split c e) es ∙ length-grown (rows_more (max e.start (oldest_in c)) e.chunks e.bytes) e.added c.volumes
-
-pub oldest-splits : (c : Catalogue) (es : List SplitEntry) → oldest_in (after_splits c es) ≡ oldest_in c
-oldest-splits c [] = refl
-oldest-splits c (e ∷ es) = oldest-splits (after_split c e) es
+length-splits c (e ∷ es) = length-splits (after_split c e) es ∙ length-last (rows_more (max e.start (oldest_in c)) e.chunks e.bytes) e.added c.volumes

@@ -1,8 +1,8 @@
 -- Open categories while splits are made.
-use Rattle.std.proofs.Common.{◌≡◌, ◌≢◌, ⊎_elim, ℕ, zero, suc, ◌+◌, ◌<◌, ◌≤◌, true, false, cond, List, [], ◌∷◌, ◌++◌, length, map, filter, refl, sym, ◌∙◌, ap, subst, arith, nat_eq, nat_lt, eq-eqb}
+use Rattle.std.proofs.Common.{◌≡◌, ◌≢◌, ⊎_elim, ℕ, zero, suc, ◌+◌, ◌<◌, ◌≤◌, true, false, cond, List, [], ◌∷◌, ◌++◌, length, map, refl, sym, ◌∙◌, ap, subst, arith, nat_eq, nat_lt, eq-eqb}
 use Rattle.std.specs.Prelude.{All, Contains}
 use Rattle.std.specs.List.{IsDistinct, flat_map, range_with_len}
-use Rattle.std.proofs.lemmas.Bool.{cases_lt, ne_eqb}
+use Rattle.std.proofs.lemmas.Bool.{cases_lt}
 use Rattle.std.proofs.lemmas.List.{append-nil, map-append}
 use Rattle.std.proofs.lemmas.List.Elements.{All-contains_itself, All-weaker}
 use Rattle.bd_model.specs.Layout.{row_of}
@@ -11,8 +11,9 @@ use Rattle.bd_model.proofs.RowLemmas.{rows_over}
 use Rattle.bd_space.proofs.Distinct.{distinct_head, distinct_tail}
 use Rattle.bd_catalog.specs.Catalogue.{OpenEntry}
 use Rattle.bd_catalog.specs.Splitting.{extents_at, put_in_place}
-use Rattle.bd_catalog.proofs.InPlace.{Named, among, at_head, at_later, at_none, first, later, put_head, put_later, same_or_not, starts}
+use Rattle.bd_catalog.proofs.InPlace.{Named, among, at_head, at_later, at_none, put_head, put_later, same_or_not, starts}
 use Rattle.bd_volume.proofs.Held.{one_entry}
+use Rattle.bd_arrange.proofs.Splits.{one_starting, starting}
 
 abbrev pub entry_rows : List OpenEntry → List CategoryRow
 entry_rows es = map (λ e. e.row) es
@@ -108,34 +109,9 @@ at_put i kept (a ∷ cs) differ has named one =
 
 -- ---- a category by its start
 
-abbrev pub starting : ℕ → List OpenEntry → List OpenEntry
-starting i cs = filter (λ x. nat_eq x.row.start i) cs
-
-none_starts : (i : ℕ) (cs : List OpenEntry) → (Contains (starts cs) i → ⊥) → starting i cs ≡ []
-none_starts i [] none = refl
-none_starts i (a ∷ cs) none =
-    ap (λ t. cond t (a ∷ starting i cs) (starting i cs)) (ne_eqb a.row.start i (λ e. none (first a.row.start (starts cs) i e)))
-    ∙ none_starts i cs (λ has. none (later a.row.start (starts cs) i has))
-
 -- it is the only one of its start
 abbrev pub IsAlone : List OpenEntry → OpenEntry → Type 0
 IsAlone cs a = starting a.row.start cs ≡ a ∷ []
 
-has_start : (cs : List OpenEntry) (x : OpenEntry) → Contains cs x → Contains (starts cs) x.row.start
-has_start [] x has = absurd (omega (arith, has.1))
-has_start (a ∷ cs) x (zero, lt, at) = first a.row.start (starts cs) x.row.start (ap (λ (y : OpenEntry). y.row.start) at)
-has_start (a ∷ cs) x (suc k, lt, at) = later a.row.start (starts cs) x.row.start (has_start cs x (k, omega (arith, lt), at))
-
-alone_in : (cs : List OpenEntry) (x : OpenEntry) → IsDistinct nat_eq (starts cs) → Contains cs x → IsAlone cs x
-alone_in [] x differ has = absurd (omega (arith, has.1))
-alone_in (a ∷ cs) x differ (zero, lt, at) =
-    let start : a.row.start ≡ x.row.start = ap (λ (y : OpenEntry). y.row.start) at in
-    ap (λ t. cond t (a ∷ starting x.row.start cs) (starting x.row.start cs)) (eq-eqb a.row.start x.row.start start)
-    ∙ (λ k. at k ∷ none_starts x.row.start cs (λ has. distinct_head a.row.start (starts cs) differ (subst (Contains (starts cs)) (sym start) has)) k)
-alone_in (a ∷ cs) x differ (suc k, lt, at) =
-    let among_rest : Contains cs x = (k, omega (arith, lt), at) in
-    ap (λ t. cond t (a ∷ starting x.row.start cs) (starting x.row.start cs)) (ne_eqb a.row.start x.row.start (λ same. distinct_head a.row.start (starts cs) differ (subst (Contains (starts cs)) (sym same) (has_start cs x among_rest))))
-    ∙ alone_in cs x (distinct_tail a.row.start (starts cs) differ) among_rest
-
 pub each_alone : (cs : List OpenEntry) → IsDistinct nat_eq (starts cs) → All (IsAlone cs) cs
-each_alone cs differ = All-weaker (Contains cs) (IsAlone cs) (λ x has. alone_in cs x differ has) cs (All-contains_itself cs)
+each_alone cs differ = All-weaker (Contains cs) (IsAlone cs) (λ x has. one_starting cs x differ has) cs (All-contains_itself cs)

@@ -35,9 +35,10 @@ use Rattle.bd_volume.specs.Holding.{HoldsRows, groups_over}
 use Rattle.bd_arrange.specs.Turns.{AreArranged, Ground, archived_bytes, due, ground, grown_bytes, is_due}
 use Rattle.bd_arrange.proofs.AllTurns.{AreWaiting, Leads, turns_lead}
 use Rattle.bd_arrange.proofs.DueHeld.{due_held, waiting_numbers, waits}
-use Rattle.bd_arrange.proofs.LastVolume.{front-splits, last_extents-at, last_rows-are, length-splits, oldest-splits, rows_of}
+use Rattle.bd_arrange.proofs.LastVolume.{front-splits, last_extents-at, last_rows-are, length-splits, rows_of}
 use Rattle.bd_arrange.proofs.OneTurn.{IsAt}
 use Rattle.bd_arrange.proofs.OpenRows.{IsAlone, each_alone}
+use Rattle.bd_arrange.proofs.Splits.{same_oldest}
 
 -- the last volume has the extents of its rows
 last_sized : (s : Sizes) (es : List VolumeEntry) → 1 ≤ length es → list_all (volume_holds s) es ≡ true → length (last_extents es) ≡ up s.extent (bytes_of_rows (last_rows es))
@@ -140,7 +141,7 @@ module _ (s : Sizes) (h : History) (w : List (List ℕ)) (entries : List RecipeE
         records = λ j from to.
             ⊎_elim
             (λ here.
-            let place : length d.volumes ≡ suc (newest h - oldest_in d) = length-splits c es ∙ length_volumes ∙ ap (λ n. suc (newest h - n)) (sym (oldest-splits c es ∙ since)) in
+            let place : length d.volumes ≡ suc (newest h - oldest_in d) = length-splits c es ∙ length_volumes ∙ ap (λ n. suc (newest h - n)) (sym (same_oldest c es ∙ since)) in
             subst (λ n. BeginWith s (volume_extents d n) (records_of (closed_volume next Settled n)) now) (sym here)
             (subst (λ xs. BeginWith s xs (records_of (closed_volume next Settled (newest h))) now) (sym (last_extents-at d.volumes (newest h - oldest_in d) place))
             (subst (λ bytes. BeginWith s (last_extents d.volumes) bytes now) grown_records arranged.volume)))

@@ -187,7 +187,7 @@ ascends_last low high n (m ∷ ns) up below from to =
 
 -- ---- the category of a start
 
-abbrev starting : ℕ → List OpenEntry → List OpenEntry
+abbrev pub starting : ℕ → List OpenEntry → List OpenEntry
 starting i cs = filter (λ a. a.row.start == i) cs
 
 none_starting : (i : ℕ) (cs : List OpenEntry) → (Contains (starts cs) i → ⊥) → starting i cs ≡ []

@@ -82,7 +82,7 @@ module _ (s : Sizes) (bounded : IsBounded s) where
 
 -- ---- the last volume
 
-length-last : (f : List CategoryRow → List CategoryRow) (added : List ℕ) (es : List VolumeEntry) → length (last_grown f added es) ≡ length es
+pub length-last : (f : List CategoryRow → List CategoryRow) (added : List ℕ) (es : List VolumeEntry) → length (last_grown f added es) ≡ length es
 length-last f added [] = refl
 length-last f added (e ∷ []) = refl
 length-last f added (e ∷ second ∷ es) = ap suc (length-last f added (second ∷ es))
