@@ -14,6 +14,7 @@ use Rattle.bd_model.specs.declared.damage.Damage.{Damage}
 use Rattle.bd_model.specs.declared.damage.Damage.TheVariants.{Body as BadBody, Length as BadLength}
 use Rattle.bd_model.specs.declared.layout.RecipeEntry.{RecipeEntry}
 use Rattle.bd_model.specs.declared.mark.Mark.{Mark}
+use Rattle.bd_model.proofs.ListLemmas.{left_and}
 use Rattle.bd_catalog.specs.Damages.{header_places, record_places}
 use Rattle.bd_catalog.specs.Rows.{RowPlace, Spot, row_end, spot_in}
 use Rattle.bd_category.specs.declared.fault.Header.{Header}
@@ -21,7 +22,7 @@ use Rattle.bd_category.specs.Records.{header_at, body_at}
 use Rattle.bd_restore.specs.Met.{HasEntry, MetAt}
 use Rattle.bd_restore.specs.Walk.{AreFlags, Sought, is_found, is_wanted}
 use Rattle.bd_volume.proofs.ReadHeaders.{IsStored, good_header, is_stored, refused_header}
-use Rattle.bd_restore.proofs.Walking.{both_true, has_then}
+use Rattle.bd_restore.proofs.Walking.{both_true}
 
 module _ (w : Sought) (image : List ℕ) (p : RowPlace) (at : ℕ) where
   abbrev s : Sizes
@@ -71,7 +72,7 @@ module _ (w : Sought) (image : List ℕ) (p : RowPlace) (at : ℕ) where
               refl,
               sym stored.place,
               (good_header s image p at h fits is, stored.mark, ap mark (given ∙ stored.body), differ, refl),
-              has_then (has_mark entries h.mark.0) (not (is_found seen h.mark.0)) (sym (wanted seen flags)),
+              left_and (has_mark entries h.mark.0) (not (is_found seen h.mark.0)) (sym (wanted seen flags)),
             );
             read = whole_read reads;
           })

@@ -46,10 +46,6 @@ both_true false true is = absurd (miss is) where
   miss : false ≡ true → ⊥
   miss h = cc
 
-pub has_then : (a b : Bool) → (a && b) ≡ true → a ≡ true
-has_then true b is = refl
-has_then false b is = is
-
 clash : {A : Type 0} (b : Bool) → b ≡ true → b ≡ false → A
 clash {A} b hit miss = absurd (tf (sym hit ∙ miss)) where
   tf : true ≡ false → ⊥
