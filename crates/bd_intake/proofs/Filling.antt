@@ -1,5 +1,5 @@
 -- A source that comes piece after piece.
-use Rattle.std.proofs.Common.{inl, inr, ⊎_elim, ◌≡◌, ℕ, ◌+◌, ◌-◌, ◌^◌, ◌<◌, ◌≤◌, List, ◌++◌, length, take, drop, Some, min, sym, ◌∙◌, ap, subst, arith, length-append, length-take, take-append-drop}
+use Rattle.std.proofs.Common.{inl, inr, ⊎_elim, ◌≡◌, ℕ, ◌+◌, ◌-◌, ◌^◌, ◌<◌, ◌≤◌, List, ◌++◌, length, take, drop, min, sym, ◌∙◌, ap, subst, arith, length-append, length-take, take-append-drop}
 use Rattle.std.specs.List.{concat}
 use Rattle.std.proofs.Math.Seq.{take-add}
 use Rattle.std.proofs.lemmas.List.{take_all}
@@ -7,6 +7,7 @@ use Rattle.bd_disk.specs.Images.{bytes_at}
 use Rattle.bd_model.specs.FileMap.{FileMap}
 use Rattle.bd_space.specs.Allotment.{Allotment}
 use Rattle.bd_files.specs.Files.{Fetches, Holds, Lacks}
+use Rattle.bd_files.proofs.FileLemmas.{held_once}
 use Rattle.bd_gear.specs.Chunking.{Chunking}
 use Rattle.bd_gear.specs.Feeding.{HasFed}
 use Rattle.bd_intake.specs.declared.staging.Staging.{Staging}
@@ -17,13 +18,6 @@ use Rattle.bd_intake.specs.Given.{Given, given}
 use Rattle.bd_intake.specs.Staging.{Goes, HasTaken, IsStaging}
 use Rattle.bd_intake.proofs.Growing.{IsSmall, staging_is_small}
 
-some_same : {x y : List ℕ} → Some x ≡ Some y → x ≡ y
-some_same e = cc
-
--- a name has one file
-pub one_file : (files : FileMap) (name one other : List ℕ) → Holds files name one → Holds files name other → one ≡ other
-one_file files name one other a b = some_same (sym a.there ∙ b.there)
-
 -- the bytes that were fetched follow those before
 pub front_more : (told : Type 0) (files : FileMap) (name front into : List ℕ) (at room n : ℕ) → length front ≡ at → n ≤ length into → (told → Fetches files name at room n into) →
     IsFront told files name front → IsFront told files name (front ++ take n into)
@@ -31,7 +25,7 @@ front_more told files name front into at room n size within fetched before = rec
   so = λ t stream holds.
       let f = fetched t in
       let piece = take n into in
-      let same : f.bytes ≡ stream = one_file files name f.bytes stream f.file holds in
+      let same : f.bytes ≡ stream = held_once files name f.bytes stream f.file holds in
       let long : length (front ++ piece) ≡ at + n = omega (arith, length-append front piece, length-take n into, size, within) in
       let first : front ≡ take at stream = before.so t stream holds ∙ ap (λ m. take m stream) size in
       let second : piece ≡ take n (drop at stream) = f.so ∙ ap (bytes_at at n) same in
@@ -94,7 +88,7 @@ missing_more files other name a b d same first next = record {
 -- a piece without bytes is behind the source
 pub ended : (files : FileMap) (name into : List ℕ) (at room n : ℕ) → n ≡ 0 → room ≡ 65536 → Fetches files name at room n into → (stream : List ℕ) → Holds files name stream → length stream ≤ at
 ended files name into at room n none some f stream holds =
-    let same : f.bytes ≡ stream = one_file files name f.bytes stream f.file holds in
+    let same : f.bytes ≡ stream = held_once files name f.bytes stream f.file holds in
     ⊎_elim (λ short. omega (arith, short, ap length same)) (λ no_room. absurd (omega (arith, no_room, some))) (f.ends.0 none)
 
 -- the source ended

@@ -1,6 +1,6 @@
 -- Whether an entry is the first with its mark, by the first index of the mark.
 use Rattle.std.proofs.Common.{◌≡◌, ℕ, zero, suc, ◌+◌, ◌<◌, ◌≤◌, true, false, cond, not, ◌||◌, List, [], ◌∷◌, refl, sym, ◌∙◌, ap, subst, arith, length, take, get_or, nat_eq, nat_lt, le-ltb, lt-ltb, unwrap_or, Some, None}
-use Rattle.std.specs.Prelude.{IfSome, slice_get}
+use Rattle.std.specs.Prelude.{slice_get}
 use Rattle.std.specs.Str.{bytes_eq}
 use Rattle.std.proofs.lemmas.Bool.{or_left}
 use Rattle.std.proofs.lemmas.Option.{get_or_from_slice_get, slice_get_within}
@@ -8,13 +8,7 @@ use Rattle.bd_model.specs.Recipe.{has_mark}
 use Rattle.bd_model.specs.declared.layout.RecipeEntry.{RecipeEntry}
 use Rattle.bd_model.proofs.ChunkListLemmas.{bytes_eq-refl}
 use Rattle.bd_recipe.specs.Marked.{first_from}
-use Rattle.bd_recipe.proofs.Marking.{first_from-within}
-use Rattle.bd_recipe.proofs.Occurring.{none-before_first}
-
-at_least : (i j : ℕ) (es : List RecipeEntry) (m : List ℕ) → first_from i es m ≡ Some j → i ≤ j
-at_least i j es m is =
-    let at : (i ≤ j) × (j < i + length es) = subst (λ o. IfSome o (λ k. (i ≤ k) × (k < i + length es))) is (first_from-within i es m) in
-    at.0
+use Rattle.bd_recipe.proofs.Occurring.{at_least, none-before_first}
 
 -- a front has the mark exactly where it reaches past the first index
 has_front : (i j n : ℕ) (es : List RecipeEntry) (m : List ℕ) → first_from i es m ≡ Some j → has_mark (take n es) m ≡ nat_lt j (i + n)

@@ -8,7 +8,7 @@ use Rattle.bd_recipe.proofs.Marking.{first_from-within, next_here}
 
 -- ---- from an index on
 
-at_least : (i j : ℕ) (es : List RecipeEntry) (m : List ℕ) → first_from i es m ≡ Some j → i ≤ j
+pub at_least : (i j : ℕ) (es : List RecipeEntry) (m : List ℕ) → first_from i es m ≡ Some j → i ≤ j
 at_least i j es m is =
     let at : (i ≤ j) × (j < i + length es) = subst (λ o. IfSome o (λ k. (i ≤ k) × (k < i + length es))) is (first_from-within i es m) in
     at.0
