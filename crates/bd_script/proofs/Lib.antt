@@ -1,6 +1,5 @@
 mod Cuts
 mod Decimals
-mod Digits
 mod Lines
 mod Plain
 pub mod ReadBack

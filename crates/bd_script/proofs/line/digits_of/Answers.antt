@@ -1,5 +1,5 @@
 use Rattle.std.proofs.Common.{◌≡◌, arith, length, OnOk, IsOk, Result, Ok, Err, ◌∙◌, rules}
-use Rattle.bd_script.proofs.Digits.{encode_digits}
+use Rattle.bd_marks.proofs.Digits.{encode_digits}
 use Rattle.bd_script.proofs.line.digits_of.Goals as goal
 
 done : {T E P : Type 0} (r : Result T E) → IsOk r → OnOk r P → P
