@@ -58,6 +58,7 @@ use Rattle.bd_volume.specs.Headers.{HasGoodHeaders}
 use Rattle.bd_volume.specs.Named.{InNamed}
 use Rattle.bd_volume.proofs.Copying.{no_work, work_told}
 use Rattle.bd_volume.proofs.RowsMore.{bytes-rows_more}
+use Rattle.bd_volume.proofs.Unnamed.{in_flat}
 use Rattle.bd_arrange.specs.Arranged.{InDue, IsAllotted, IsDamageOfDue}
 use Rattle.bd_arrange.specs.Cuts.{InCategory, IsDamageIn, IsOfHeaders, IsWhole, archived_records, bytes_in, kept_records, records_in}
 use Rattle.bd_arrange.specs.Desks.{Archives, Becomes, BecomesSplit, InRoom, IsCategory, IsToMove, KeepsExtents, OnDesk, Tells, Turned, new_extents}
@@ -68,11 +69,6 @@ use Rattle.bd_arrange.proofs.Staying.{IsAtWork, active_among_all, among_map, kep
 use Rattle.bd_arrange.proofs.TakingTurns.{KeptStays, free_after, free_last, grown-last, to_move, to_split, turns_later, turns_left, turns_split}
 
 -- ---- lists
-
-in_flat : {X Y : Type 0} (f : X → List Y) (xs : List X) (x : X) (y : Y) → Contains xs x → Contains (f x) y → Contains (flat_map f xs) y
-in_flat f [] x y has inside = absurd (omega (arith, has.1))
-in_flat {X} {Y} f (z ∷ xs) x y (zero, lt, at) inside = Contains-append_left (f z) (flat_map f xs) y (subst (λ (w : X). Contains (f w) y) (sym at) inside)
-in_flat f (z ∷ xs) x y (suc k, lt, at) inside = Contains-append_right (f z) (flat_map f xs) y (in_flat f xs x y (k, omega (arith, lt), at) inside)
 
 pub due_below : (newest : ℕ) (phase : Phase) (a : OpenEntry) → is_due newest phase a ≡ true → a.row.start < newest
 due_below newest Settled a is = absurd (false≢true is)

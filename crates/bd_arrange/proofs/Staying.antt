@@ -28,7 +28,7 @@ use Rattle.bd_volume.specs.Growing.{CanGrow}
 use Rattle.bd_volume.specs.Named.{InNamed, IsUnnamed, Named, named_by, open_named, recipe_named, volume_named}
 use Rattle.bd_volume.proofs.Beside.{ends_within, free_or_taken}
 use Rattle.bd_volume.proofs.NamedPlaces.{FitsNamed, all_fit, begin_named}
-use Rattle.bd_volume.proofs.Unnamed.{named_bytes_decide}
+use Rattle.bd_volume.proofs.Unnamed.{in_flat, named_bytes_decide}
 use Rattle.bd_arrange.specs.Cuts.{IsWhole, bytes_in, records_in}
 use Rattle.bd_arrange.specs.Desks.{InRoom, OnDesk, new_extents}
 use Rattle.bd_arrange.specs.Underway.{IsStaged}
@@ -103,12 +103,7 @@ pub active_among_all : (c : Catalogue) (a : OpenEntry) → Contains c.actives a 
 active_among_all c a has n own =
     let versions = flat_map (λ (x : VersionEntry). x.extents) c.versions in
     let volumes = flat_map (λ (x : VolumeEntry). x.extents) c.volumes in
-    Contains-append_right (versions ++ volumes) (flat_map (λ (x : OpenEntry). x.extents) c.actives) n (in_each c.actives has)
-  where
-    in_each : (cs : List OpenEntry) → Contains cs a → Contains (flat_map (λ (x : OpenEntry). x.extents) cs) n
-    in_each [] there = absurd (omega (arith, there.1))
-    in_each (x ∷ cs) (zero, lt, at) = Contains-append_left x.extents (flat_map (λ (y : OpenEntry). y.extents) cs) n (subst (λ (y : OpenEntry). Contains y.extents n) (sym at) own)
-    in_each (x ∷ cs) (suc k, lt, at) = Contains-append_right x.extents (flat_map (λ (y : OpenEntry). y.extents) cs) n (in_each cs (k, omega (arith, lt), at))
+    Contains-append_right (versions ++ volumes) (flat_map (λ (x : OpenEntry). x.extents) c.actives) n (in_flat (λ (x : OpenEntry). x.extents) c.actives a n has own)
 
 -- the newest closed volume while it grows, and whose extents are taken
 pub record IsAtWork (found : Found) (space : Allotment) (desk : OnDesk) : Type 0 where
@@ -156,15 +151,10 @@ module _ (found : Found) (some : 1 ≤ found.sizes.extent) (rules : IsTrue (obey
           let volumes = flat_map (λ (x : VolumeEntry). x.extents) c.volumes in
           let actives = flat_map (λ (x : OpenEntry). x.extents) c.actives in
           let once : IsDistinct nat_eq ((versions ++ volumes) ++ actives) = distinct_left_of in
-          distinct_apart (versions ++ volumes) actives m once (Contains-append_right versions volumes m (last_owned c.volumes m last)) (in_each c.actives has)
+          distinct_apart (versions ++ volumes) actives m once (Contains-append_right versions volumes m (last_owned c.volumes m last)) (in_flat (λ (x : OpenEntry). x.extents) c.actives a m has mine)
         where
           distinct_left_of : IsDistinct nat_eq (all_extents c)
           distinct_left_of = distinct_left (all_extents c) (new_extents desk) work.owners.once
-
-          in_each : (cs : List OpenEntry) → Contains cs a → Contains (flat_map (λ (x : OpenEntry). x.extents) cs) m
-          in_each [] none = absurd (omega (arith, none.1))
-          in_each (x ∷ cs) (zero, lt, at) = Contains-append_left x.extents (flat_map (λ (y : OpenEntry). y.extents) cs) m (subst (λ (y : OpenEntry). Contains y.extents m) (sym at) mine)
-          in_each (x ∷ cs) (suc k, lt, at) = Contains-append_right x.extents (flat_map (λ (y : OpenEntry). y.extents) cs) m (in_each cs (k, omega (arith, lt), at))
 
   kept_apart : (n : ℕ) → Contains (kept_extents desk.splits) n → Contains f.numbers n → ⊥
   kept_apart n own there =

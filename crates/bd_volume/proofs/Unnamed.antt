@@ -1,5 +1,5 @@
 -- Places at which no named byte lies: in extents without an owner, and behind the named bytes of one.
-use Rattle.std.proofs.Common.{◌≡◌, ◌≢◌, ⊎_elim, ℕ, ◌+◌, ◌-◌, ◌*◌, ◌/◌, ◌%◌, ◌<◌, ◌≤◌, List, [], ◌∷◌, ◌++◌, length, map, get_or, refl, sym, ◌∙◌, ap, subst, arith, nat_lt, length-append}
+use Rattle.std.proofs.Common.{◌≡◌, ◌≢◌, ⊎_elim, ℕ, zero, suc, ◌+◌, ◌-◌, ◌*◌, ◌/◌, ◌%◌, ◌<◌, ◌≤◌, List, [], ◌∷◌, ◌++◌, length, map, get_or, refl, sym, ◌∙◌, ap, subst, arith, nat_lt, length-append}
 use Rattle.std.specs.Prelude.{AllPairs, Contains, IsTrue, Ok}
 use Rattle.std.specs.List.{flat_map, list_all}
 use Rattle.std.proofs.Math.Nat.{le-div_iff_mul-le}
@@ -54,13 +54,11 @@ extents_in os = flat_map (λ o. o.extents) os
 only : (x o : Named) → Contains (x ∷ []) o → x ≡ o
 only x o here = let first : here.0 ≡ 0 = omega (arith, here.1) in ap (λ k. get_or (x ∷ []) k o) (sym first) ∙ here.2
 
-in_some : (os : List Named) (o : Named) (e : ℕ) → Contains os o → Contains o.extents e → Contains (extents_in os) e
-in_some [] o e has inside = absurd (omega (arith, has.1))
-in_some (x ∷ os) o e has inside =
-    ⊎_elim
-    (λ here. let same : x ≡ o = only x o here in Contains-append_left x.extents (extents_in os) e (subst (λ y. Contains y.extents e) (sym same) inside))
-    (λ later. Contains-append_right x.extents (extents_in os) e (in_some os o e later inside))
-    (Contains-append_cases (x ∷ []) os o has)
+-- what one of the lists has they have together
+pub in_flat : {X Y : Type 0} (f : X → List Y) (xs : List X) (x : X) (y : Y) → Contains xs x → Contains (f x) y → Contains (flat_map f xs) y
+in_flat f [] x y has inside = absurd (omega (arith, has.1))
+in_flat {X} {Y} f (z ∷ xs) x y (zero, lt, at) inside = Contains-append_left (f z) (flat_map f xs) y (subst (λ (w : X). Contains (f w) y) (sym at) inside)
+in_flat f (z ∷ xs) x y (suc k, lt, at) inside = Contains-append_right (f z) (flat_map f xs) y (in_flat f xs x y (k, omega (arith, lt), at) inside)
 
 -- an extent has one owner
 one_owner : (os : List Named) → Differ (extents_in os) → (o p : Named) (e : ℕ) → Contains os o → Contains os p → Contains o.extents e → Contains p.extents e → o ≡ p
@@ -70,10 +68,10 @@ one_owner (x ∷ os) differ o p e has has_p in_o in_p =
     ⊎_elim
     (λ here. ⊎_elim
     (λ here_p. sym (only x o here) ∙ only x p here_p)
-    (λ later. absurd (never_both x.extents rest e differ (subst (λ y. Contains y.extents e) (sym (only x o here)) in_o) (in_some os p e later in_p)))
+    (λ later. absurd (never_both x.extents rest e differ (subst (λ y. Contains y.extents e) (sym (only x o here)) in_o) (in_flat (λ (n : Named). n.extents) os p e later in_p)))
     (Contains-append_cases (x ∷ []) os p has_p))
     (λ later. ⊎_elim
-    (λ here_p. absurd (never_both x.extents rest e differ (subst (λ y. Contains y.extents e) (sym (only x p here_p)) in_p) (in_some os o e later in_o)))
+    (λ here_p. absurd (never_both x.extents rest e differ (subst (λ y. Contains y.extents e) (sym (only x p here_p)) in_p) (in_flat (λ (n : Named). n.extents) os o e later in_o)))
     (λ later_p. one_owner os (differ_right x.extents rest differ) o p e later later_p in_o in_p)
     (Contains-append_cases (x ∷ []) os p has_p))
     (Contains-append_cases (x ∷ []) os o has)
@@ -135,7 +133,7 @@ module _ (s : Sizes) (some : 1 ≤ s.extent) (c : Catalogue) (rules : IsTrue (ob
   pub unowned_unnamed : (place : ℕ) (e : ℕ) → InRange (extent_place s e) s.extent place → (Contains (all_extents c) e → ⊥) → IsUnnamed s c place
   unowned_unnamed place e here free = record {
     behind = omega (arith, here.0);
-    unnamed = λ p. free (subst (λ l. Contains l e) (extents-named c) (in_some (named_by c) p.owner e p.among (named_extent place e here p)));
+    unnamed = λ p. free (subst (λ l. Contains l e) (extents-named c) (in_flat (λ (n : Named). n.extents) (named_by c) p.owner e p.among (named_extent place e here p)));
   }
 
   -- nor behind the named bytes of an owner, in its own extents and in further ones that nobody has
