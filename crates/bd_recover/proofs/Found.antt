@@ -16,6 +16,7 @@ use Rattle.bd_gate.specs.Halves.{newest_by, newest_half, half_at, payload_of}
 use Rattle.bd_catalog.specs.Catalogue.{empty_catalogue}
 use Rattle.bd_catalog.specs.Rules.{catalogue_of}
 use Rattle.bd_catalog.specs.Opening.{Found, opened, opened_half, opened_payload}
+use Rattle.bd_catalog.proofs.StandingFound.{opened-is, opened_by}
 use Rattle.bd_recover.specs.Fresh.{HoldsFresh, fresh_found, fresh_half, superblock_body}
 
 -- a shut gate, or none at all, is no store
@@ -63,22 +64,6 @@ all_pass : (short gate magic number shape padding room : Bool) (found : Result F
     → short ≡ false → gate ≡ true → magic ≡ true → number ≡ true → shape ≡ true → padding ≡ true → room ≡ false
     → (if short then Err Short else (if not gate then Err Gate else (if not magic then Err Magic else (if not number then Err Number else (if not shape then Err Shape else (if not padding then Err Padding else (if room then Err Room else found))))))) ≡ found
 all_pass _ _ _ _ _ _ _ found e1 e2 e3 e4 e5 e6 e7 = rw (e1, e2, e3, e4, e5, e6, e7) refl
-
--- and what they are of these sizes
-checked : Sizes → List ℕ → Result Found Place
-checked s image =
-    if nat_lt (length image) 64 then Err Short else
-    (if not (byte_at image 0 == open_gate) then Err Gate else
-    (if not (bytes_eq (bytes_at 1 7 image) magic) then Err Magic else
-    (if not (four_at image 8 == 1) then Err Number else
-    (if not (is_shape s) then Err Shape else
-    (if not (bytes_eq (bytes_at 36 28 image) (replicate 28 0)) then Err Padding else
-    (if nat_lt (length image) (disk_bytes s) then Err Room else
-    opened_half s image (newest_half s image)))))))
-
-checked_is : (image : List ℕ) → opened image ≡ checked (sizes_at image) image
-unfolding opened checked
-checked_is image = refl
 
 newest_first : (open0 : Bool) (turn0 : ℕ) (open1 : Bool) (turn1 : ℕ) → open0 ≡ true → turn0 ≡ 0 → open1 ≡ false → newest_by open0 turn0 open1 turn1 ≡ Some 0
 unfolding newest_by
@@ -133,13 +118,12 @@ module _ (s : Sizes) (image : List ℕ) (h : HoldsFresh s image) where
       ∙ ap (opened_payload s half image) (ap (catalogue_of s) (part_of_half 10 21 (omega arith)) ∙ empty_read s)
 
   pub opened_fresh : IsShape s.extent s.extents s.retain s.min s.bits s.max → byte_at image 0 ≡ open_gate → opened image ≡ Ok (fresh_found s)
-  unfolding checked
   opened_fresh is gate =
       let short : nat_lt (length image) 64 ≡ false = le-ltb (length image) 64 (omega (arith, h.room)) in
       let mark : bytes_at 1 7 image ≡ magic = sub_bytes 1 63 0 7 image (omega arith) ∙ ap (take 7) h.body in
       let padding : bytes_at 36 28 image ≡ replicate 28 0 = sub_bytes 1 63 35 28 image (omega arith) ∙ ap (λ l. take 28 (drop 35 l)) h.body in
-      checked_is image
-      ∙ ap (λ t. checked t image) (sizes is)
+      opened-is image
+      ∙ ap (λ t. opened_by t (length image) (byte_at image 0) (bytes_at 1 7 image) (four_at image 8) (bytes_at 36 28 image) (opened_half t image (newest_half t image))) (sizes is)
       ∙ all_pass _ _ _ _ _ _ _ _ short
       (eq-eqb (byte_at image 0) open_gate gate)
       (ap (λ l. bytes_eq l magic) mark)
