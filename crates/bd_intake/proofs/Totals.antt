@@ -10,7 +10,7 @@ use Rattle.bd_model.specs.Recipe.{first_entries, entry_records, has_mark, starts
 use Rattle.bd_model.specs.Room.{up, kept_entries, archived_entries, entries_from}
 use Rattle.bd_model.specs.declared.layout.RecipeEntry.{RecipeEntry}
 use Rattle.bd_model.proofs.ListLemmas.{filter-filter, sum_by-agree, sum_by-filter}
-use Rattle.bd_model.proofs.FromRecipesLemmas.{cond-plus}
+use Rattle.bd_model.proofs.ChunkListLemmas.{sum_by-cond}
 use Rattle.bd_intake.specs.declared.tally.Share.{Share}
 use Rattle.bd_intake.specs.declared.tally.Tally.{Tally}
 use Rattle.bd_intake.specs.Given.{FitsSums}
@@ -24,15 +24,15 @@ cond-le false n = omega arith
 
 sum_by-part : {X : Type 0} (f : X → ℕ) (p : X → Bool) (xs : List X) → sum_by f (filter p xs) ≤ sum_by f xs
 sum_by-part f p [] = omega arith
-sum_by-part f p (x ∷ xs) = omega (arith, cond-plus f (p x) x (filter p xs), cond-le (p x) (f x), sum_by-cons f x xs, sum_by-part f p xs)
+sum_by-part f p (x ∷ xs) = omega (arith, sum_by-cond f (p x) x (filter p xs), cond-le (p x) (f x), sum_by-cons f x xs, sum_by-part f p xs)
 
 -- a list in two parts
 sum_by-parts : {X : Type 0} (f : X → ℕ) (p : X → Bool) (xs : List X) → sum_by f (filter p xs) + sum_by f (filter (λ x. not (p x)) xs) ≡ sum_by f xs
 sum_by-parts f p [] = refl
 sum_by-parts f p (x ∷ xs) = omega (
   arith,
-  cond-plus f (p x) x (filter p xs),
-  cond-plus f (not (p x)) x (filter (λ y. not (p y)) xs),
+  sum_by-cond f (p x) x (filter p xs),
+  sum_by-cond f (not (p x)) x (filter (λ y. not (p y)) xs),
   sum_by-cons f x xs,
   sum_by-parts f p xs,
   either (p x) (f x),
@@ -117,7 +117,7 @@ starts-part q (e ∷ es) xs =
     ∙ sym (sum_by-filter from_rest both (starts_of es)) in
     omega (
       arith,
-      cond-plus from (q s) s (filter q (filter other (starts_of es))),
+      sum_by-cond from (q s) s (filter q (filter other (starts_of es))),
       cond-le (q s) (from s),
       later,
       starts-part both es (others s xs),

@@ -13,7 +13,7 @@ use Rattle.bd_model.specs.Recipe.{start_of, entry_of, recipe, first_entries, has
 use Rattle.bd_model.specs.Layout.{record_bytes}
 use Rattle.bd_model.specs.Room.{up, need, counted, running, fresh, need_of, counted_of, running_of, fresh_entries, kept_entries, archived_entries, entries_from}
 use Rattle.bd_model.proofs.ListLemmas.{filter-same, filter-filter, sum_by-agree, sum_by-zero, sum_by-plus, sum_by-one_key, sum_by-filter}
-use Rattle.bd_model.proofs.ChunkListLemmas.{bytes_eq-refl, contains-append}
+use Rattle.bd_model.proofs.ChunkListLemmas.{bytes_eq-refl, contains-append, sum_by-cond}
 use Rattle.bd_model.proofs.RecipeLemmas.{start_of-low, start_of-le}
 use Rattle.bd_model.proofs.RoomLemmas.{up-le}
 use Rattle.bd_model.specs.Laws.{RecipesGiveTheCounts}
@@ -23,10 +23,6 @@ use Rattle.bd_model.proofs.CountedLemmas.{first_above}
 -- whether an entry has the start
 abbrev pub has_start : List RecipeEntry → ℕ → Bool
 has_start es i = list_any (λ e. nat_eq e.start i) es
-
-pub cond-plus : {X : Type 0} (f : X → ℕ) (b : Bool) (x : X) (xs : List X) → sum_by f (cond b (x ∷ xs) xs) ≡ cond b (f x) 0 + sum_by f xs
-cond-plus f true x xs = sum_by-cons f x xs
-cond-plus f false x xs = omega arith
 
 -- what one start more adds at a number
 one_start : (f : ℕ → ℕ) (p : ℕ → Bool) (s i : ℕ) (t : Bool) → cond (p i && (nat_eq s i || t)) (f i) 0 ≡ cond (nat_eq s i && p s) (f s) 0 + cond ((not (nat_eq s i) && p i) && t) (f i) 0
@@ -48,7 +44,7 @@ sum_by-starts_of f p a z (e ∷ es) range =
     let other : ℕ → Bool = λ i. not (nat_eq e.start i) in
     let here : (a ≤ e.start) × (e.start ≤ z) = range e.start (or_left (nat_eq e.start e.start) (has_start es e.start) (eq-eqb e.start e.start refl)) in
     let later : (i : ℕ) → has_start es i ≡ true → (a ≤ i) × (i ≤ z) = λ i has. range i (or_right (nat_eq e.start i) (has_start es i) has) in
-    cond-plus f (p e.start) e.start (filter p (filter other (starts_of es)))
+    sum_by-cond f (p e.start) e.start (filter p (filter other (starts_of es)))
     ∙ (λ k. sym (sum_by-one_key e.start (p e.start) (f e.start) a z here.0 here.1) k
     + (ap (sum_by f) (filter-filter p other (starts_of es)) ∙ sum_by-starts_of f (λ i. other i && p i) a z es later) k)
     ∙ sym (sum_by-plus (λ i. cond (nat_eq e.start i && p e.start) (f e.start) 0) (λ i. cond ((other i && p i) && has_start es i) (f i) 0) (numbers a z))
@@ -139,8 +135,8 @@ first_entries-take p (suc n) (e ∷ es) =
     let size : RecipeEntry → ℕ = λ x. 36 + x.length in
     omega (
       arith,
-      cond-plus size (p e) e (filter p (filter other (first_entries (take n es)))),
-      cond-plus size (p e) e (filter p (filter other (first_entries es))),
+      sum_by-cond size (p e) e (filter p (filter other (first_entries (take n es)))),
+      sum_by-cond size (p e) e (filter p (filter other (first_entries es))),
       ap entry_records (filter-filter p other (first_entries (take n es))),
       ap entry_records (filter-filter p other (first_entries es)),
       first_entries-take (λ x. other x && p x) n es,
