@@ -9,6 +9,7 @@ use Rattle.std.specs.Cmp.Lexicographic.{slice_cmp, nat_list_cmp_total}
 use Rattle.std.specs.Cmp.{tied_itself}
 use Rattle.std.proofs.lemmas.List.{take-append-drop, length-drop, length-replicate, get_or-replicate, drop-drop}
 use Rattle.std.proofs.lemmas.List.Sums.{sum_by-cons}
+use Rattle.std.proofs.lemmas.Bool.{false≢true}
 use Rattle.bd_model.specs.FileMap.{FileMap}
 use Rattle.bd_model.specs.Records.{Stored}
 use Rattle.bd_model.specs.declared.layout.RecipeEntry.{RecipeEntry}
@@ -24,15 +25,11 @@ use Rattle.bd_restore.proofs.Walking.{bool_cases}
 -- what holds at Ok, where it's no error
 pub ok_of : {X E : Type 0} (r : Result X E) (P : Type 0) → is_err r ≡ false → OnOk r P → P
 ok_of (Ok x) P not_err p = p
-ok_of (Err e) P not_err p = absurd (wrong not_err) where
-  wrong : true ≡ false → ⊥
-  wrong h = cc
+ok_of (Err e) P not_err p = absurd (false≢true (sym not_err))
 
 pub err_of : {X E : Type 0} (r : Result X E) (P : Type 0) → is_err r ≡ true → OnErr r P → P
 err_of (Err e) P err p = p
-err_of (Ok x) P err p = absurd (wrong err) where
-  wrong : false ≡ true → ⊥
-  wrong h = cc
+err_of (Ok x) P err p = absurd (false≢true err)
 
 -- ---- before the first record
 
@@ -43,9 +40,7 @@ flags_none entries filled is = record {
 }
 
 pub given_none : (entries : List RecipeEntry) (file : List ℕ) → AreGiven entries [] file
-given_none entries file = record { each = λ k lt found. absurd (no_record found); marks = λ k lt found. absurd (no_record found) } where
-  no_record : false ≡ true → ⊥
-  no_record h = cc
+given_none entries file = record { each = λ k lt found. absurd (false≢true found); marks = λ k lt found. absurd (false≢true found) }
 
 pub target_begun : (entries : List RecipeEntry) (old new : FileMap) (name : List ℕ) (n : ℕ) → n ≡ total entries → new ≡ finmap.insert old name (replicate n 0) → IsTarget entries name new
 target_begun entries old new name n is so =
@@ -90,9 +85,7 @@ only_put old new name bytes changes there =
           let same : q ≡ name = only_equal_names_tie q name (subst (λ b. T b) (sym tie) tt) in
           ap (finmap.get new) same ∙ there ∙ ap (λ b. cond b (Some bytes) (finmap.get old q)) (sym tie)
       | inr apart ↦
-          let other : q ≡ name → ⊥ = λ same. tf (sym (ap is_eq (tied_itself nat_list_cmp_total name)) ∙ ap (λ x. eq_by_cmp (slice_cmp nat_cmp) x name) (sym same) ∙ apart) in
+          let other : q ≡ name → ⊥ = λ same. false≢true (sym (sym (ap is_eq (tied_itself nat_list_cmp_total name)) ∙ ap (λ x. eq_by_cmp (slice_cmp nat_cmp) x name) (sym same) ∙ apart)) in
           changes.others q other ∙ ap (λ b. cond b (Some bytes) (finmap.get old q)) (sym apart)
     ] in
-    by ∙ sym (get-insert nat_list_cmp_total old name bytes q)) where
-      tf : true ≡ false → ⊥
-      tf h = cc
+    by ∙ sym (get-insert nat_list_cmp_total old name bytes q))

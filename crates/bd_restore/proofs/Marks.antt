@@ -1,15 +1,13 @@
 -- Entries by their marks, each found from the one before it.
-use Rattle.std.proofs.Common.{◌≡◌, ◌≢◌, ℕ, ◌<◌, true, false, List, [], length, get_or, sym, ◌∙◌, subst, Some, None, IfSome, unwrap_or}
+use Rattle.std.proofs.Common.{◌≡◌, ◌≢◌, ℕ, ◌<◌, false, List, [], length, get_or, sym, ◌∙◌, subst, Some, None, IfSome, unwrap_or}
 use Rattle.std.specs.Prelude.{Option, bytes_eq}
 use Rattle.std.proofs.lemmas.List.{get_or-map}
 use Rattle.std.proofs.lemmas.Slice.Eq.{bytes_eq-Decides}
+use Rattle.std.proofs.lemmas.Bool.{false≢true}
 use Rattle.bd_model.specs.declared.layout.RecipeEntry.{RecipeEntry}
 use Rattle.bd_recipe.specs.Marked.{first_from, next_after}
 use Rattle.bd_recipe.proofs.Occurring.{first-marked, none-before_first, next-marked, none-between}
 use Rattle.bd_restore.specs.Target.{mark_at}
-
-ne_true : false ≡ true → ⊥
-ne_true h = cc
 
 abbrev pub no_entry : RecipeEntry
 no_entry = record { mark = record { 0 = [] }; length = 0; start = 0 }
@@ -18,7 +16,7 @@ pub mark_here : (entries : List RecipeEntry) (i : ℕ) (d : RecipeEntry) → i <
 mark_here entries i d lt = get_or-map (λ e. e.mark.0) entries i d [] lt
 
 apart : (x y : List ℕ) → bytes_eq x y ≡ false → y ≢ x
-apart x y differ same = ne_true (sym differ ∙ (bytes_eq-Decides x y).1 (sym same))
+apart x y differ same = false≢true (sym differ ∙ (bytes_eq-Decides x y).1 (sym same))
 
 -- the index that was found, or the end
 abbrev pub limit_of : List RecipeEntry → Option ℕ → ℕ

@@ -2,7 +2,7 @@
 use Rattle.std.proofs.Common.{◌≡◌, ◌≢◌, ℕ, zero, suc, ◌+◌, ◌*◌, ◌<◌, ◌≤◌, Bool, true, false, cond, not, List, [], ◌∷◌, ◌++◌, get_or, map, inl, inr, append_assoc, le-leb, refl, sym, ◌∙◌, ap, subst, arith, Some, slice_get}
 use Rattle.std.specs.Prelude.{length, nat_lt, bytes_eq, ◌&&◌, ◌==◌}
 use Rattle.std.specs.List.{Contains, list_all}
-use Rattle.std.proofs.lemmas.Bool.{eqb-true, lt-ltb, ne_eqb}
+use Rattle.std.proofs.lemmas.Bool.{eqb-true, false≢true, ne_eqb}
 use Rattle.std.proofs.lemmas.List.{get_or-map, map-append}
 use Rattle.std.proofs.lemmas.Grind.{flat_map-append}
 use Rattle.std.proofs.lemmas.List.Elements.{All-weaker, Contains-append_left, Contains-append_right, Contains-get_or, filter-append}
@@ -35,14 +35,7 @@ use Rattle.bd_restore.specs.Walk.{AreFlags, Sought, is_found}
 use Rattle.bd_volume.specs.Headers.{HasGoodHeaders}
 use Rattle.bd_volume.proofs.Spots.{past_sum, place_is, taken}
 use Rattle.bd_volume.proofs.WalkRecords.{part_at, records_both, row_records, walk_parts, walk_records}
-use Rattle.bd_restore.proofs.Walking.{bool_cases}
-
-clash : true ≡ false → ⊥
-clash e = cc
-
-no_element : {X : Type 0} (xs : List X) → nat_lt 0 (length xs) ≡ false → xs ≡ []
-no_element [] miss = refl
-no_element (x ∷ xs) miss = absurd (clash (sym (lt-ltb 0 (length (x ∷ xs)) (omega arith)) ∙ miss))
+use Rattle.bd_restore.proofs.Walking.{bool_cases, none_found}
 
 -- an entry of a list that passes a test
 pub passing_entry : (test : RecipeEntry → Bool) (entries : List RecipeEntry) (k : ℕ) → k < length entries → list_all test entries ≡ true → (e : RecipeEntry) × (test e ≡ true) × (mark_at entries k ≡ e.mark.0) × (length_at entries k ≡ e.length)
@@ -152,7 +145,7 @@ module _ (s : Sizes) (c : Catalogue) (image : List ℕ) (v : ℕ) where
         let hit : test x ≡ true = (λ i. (bytes_eq-Decides x.stored.mark e.mark.0).1 same i && not (ne_eqb x.stored.length e.length differ i)) in
         ap (λ l. slice_get l 0)
         (ap (unlike e) spots_are ∙ filter-append test ahead (x ∷ rest)
-        ∙ (λ i. none_unlike e ahead (no_element (with_mark e.mark.0 (records_at ahead)) unseen) i ++ cond (hit i) (x ∷ unlike e rest) (unlike e rest)))
+        ∙ (λ i. none_unlike e ahead (none_found (with_mark e.mark.0 (records_at ahead)) unseen) i ++ cond (hit i) (x ∷ unlike e rest) (unlike e rest)))
 
     module _ (are : entries ≡ recipe_of s c image v) where
       rule_of : (d : Damage) → BreaksAt w (records_at ahead) p x d met.places → BreaksRule s c image (walk c v) d met.places
@@ -244,7 +237,7 @@ module _ (s : Sizes) (c : Catalogue) (image : List ℕ) (v : ℕ) where
 
       good_header : (said left : ℕ) → IsBadHeader s p x said left met.places → ⊥
       good_header said left (inl bad) = omega (arith, bad.0, bad.1, fits_in)
-      good_header said left (inr bad) = clash (sym header_is ∙ bad.2)
+      good_header said left (inr bad) = false≢true (sym bad.2 ∙ header_is)
 
       good_length : (m : Mark) (recorded : ℕ) → x.stored.mark ≡ m.0 → x.stored.length ≢ recorded → HasEntry entries m.0 recorded → ⊥
       good_length m recorded same differs has =
@@ -297,7 +290,7 @@ module _ (s : Sizes) (c : Catalogue) (image : List ℕ) (v : ℕ) where
           so = reads.so;
           read = All-weaker (λ x. Contains (recipe_places s c v) x) (λ x. Contains (recipe_places s c v ++ more) x) (λ x h. Contains-append_left (recipe_places s c v) more x h) (places_at s (recipe_extents c v) (40 * k) 40)
               (places_of_entry s (recipe_extents c v) k (chunks_in c v) (omega (arith, inside, count)));
-          breaks = (e, slice_get-get_or recipe k no_one inside, (λ i. record { 0 = marks i }), no_element (with_mark m.0 (records_for s c image v)) (ap (λ l. nat_lt 0 (length (with_mark l (records_for s c image v)))) is_mark ∙ not_found), refl);
+          breaks = (e, slice_get-get_or recipe k no_one inside, (λ i. record { 0 = marks i }), none_found (with_mark m.0 (records_for s c image v)) (ap (λ l. nat_lt 0 (length (with_mark l (records_for s c image v)))) is_mark ∙ not_found), refl);
           comes = good;
         }
 
@@ -307,4 +300,4 @@ module _ (s : Sizes) (c : Catalogue) (image : List ℕ) (v : ℕ) where
         let entry = passing_entry (is_stored records) entries k lt sound.entries_stored in
         let e = entry.0 in
         let some : nat_lt 0 (length (with_mark e.mark.0 records)) ≡ true = left_and (nat_lt 0 (length (with_mark e.mark.0 records))) (list_all (λ (r : Stored). r.length == e.length) (with_mark e.mark.0 records)) entry.1 in
-        clash (sym some ∙ ap (λ l. nat_lt 0 (length (with_mark l records))) (sym entry.2) ∙ not_found)
+        false≢true (sym (sym some ∙ ap (λ l. nat_lt 0 (length (with_mark l records))) (sym entry.2) ∙ not_found))

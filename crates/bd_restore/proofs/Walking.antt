@@ -4,7 +4,7 @@ use Rattle.std.specs.Prelude.{Some, None, is_some, bytes_eq, nat_lt}
 use Rattle.std.proofs.lemmas.List.{append-nil}
 use Rattle.std.proofs.lemmas.List.Elements.{filter-append}
 use Rattle.std.proofs.lemmas.List.Folds.{list_any_at}
-use Rattle.std.proofs.lemmas.Bool.{lt-ltb}
+use Rattle.std.proofs.lemmas.Bool.{false≢true, lt-ltb}
 use Rattle.std.proofs.lemmas.Slice.Eq.{bytes_eq-Decides}
 use Rattle.bd_disk.specs.History.{History}
 use Rattle.bd_disk.specs.Trace.{ReadsOnly}
@@ -30,26 +30,16 @@ bool_cases false = inr refl
 
 not_false : (a b : Bool) → a ≡ true → (a && not b) ≡ false → b ≡ true
 not_false a true hit is = refl
-not_false true false hit is = absurd (miss is) where
-  miss : true ≡ false → ⊥
-  miss h = cc
-not_false false false hit is = absurd (miss hit) where
-  miss : false ≡ true → ⊥
-  miss h = cc
+not_false true false hit is = absurd (false≢true (sym is))
+not_false false false hit is = absurd (false≢true hit)
 
 pub both_true : (a b : Bool) → (a && not b) ≡ true → b ≡ false
 both_true a false is = refl
-both_true true true is = absurd (miss is) where
-  miss : false ≡ true → ⊥
-  miss h = cc
-both_true false true is = absurd (miss is) where
-  miss : false ≡ true → ⊥
-  miss h = cc
+both_true true true is = absurd (false≢true is)
+both_true false true is = absurd (false≢true is)
 
 clash : {A : Type 0} (b : Bool) → b ≡ true → b ≡ false → A
-clash {A} b hit miss = absurd (tf (sym hit ∙ miss)) where
-  tf : true ≡ false → ⊥
-  tf h = cc
+clash {A} b hit miss = absurd (false≢true (sym miss ∙ hit))
 
 -- ---- entries with a mark
 
@@ -74,12 +64,10 @@ module _ (entries : List RecipeEntry) (m : List ℕ) (filled : List Bool) (seen 
 -- ---- one record more
 
 front_body : (xs ys : List Stored) → nat_lt 0 (length xs) ≡ true → first_body (xs ++ ys) ≡ first_body xs
-front_body [] ys some = absurd (miss some) where
-  miss : nat_lt 0 0 ≡ true → ⊥
-  miss h = cc
+front_body [] ys some = absurd (false≢true some)
 front_body (x ∷ xs) ys some = refl
 
-none_found : (xs : List Stored) → nat_lt 0 (length xs) ≡ false → xs ≡ []
+pub none_found : {X : Type 0} (xs : List X) → nat_lt 0 (length xs) ≡ false → xs ≡ []
 none_found [] miss = refl
 none_found (x ∷ xs) miss = clash (nat_lt 0 (length (x ∷ xs))) (lt-ltb 0 (length (x ∷ xs)) (omega arith)) miss
 
