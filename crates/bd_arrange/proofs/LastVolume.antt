@@ -3,6 +3,7 @@ use Rattle.std.proofs.Common.{◌≡◌, ℕ, zero, suc, ◌+◌, ◌-◌, ◌<�
 use Rattle.std.specs.List.{range_with_len}
 use Rattle.bd_model.specs.Laws.{rows_more}
 use Rattle.bd_model.specs.declared.layout.CategoryRow.{CategoryRow}
+use Rattle.bd_model.proofs.ListLemmas.{not_nil}
 use Rattle.std.specs.Prelude.{max}
 use Rattle.bd_catalog.specs.Catalogue.{Catalogue, VolumeEntry, oldest_in, volume_extents}
 use Rattle.bd_catalog.specs.Splitting.{SplitEntry, after_split, after_splits, last_extents, last_grown, last_rows}
@@ -14,26 +15,20 @@ rows_of es = map (λ e. e.rows) es
 abbrev pub extents_of : List VolumeEntry → List (List ℕ)
 extents_of es = map (λ e. e.extents) es
 
-none_some : {x : List CategoryRow} {xs : List (List CategoryRow)} → [] ≡ x ∷ xs → ⊥
-none_some e = cc
-
-some_none : {x : List CategoryRow} {xs : List (List CategoryRow)} → x ∷ xs ≡ [] → ⊥
-some_none e = cc
-
 -- ---- its rows
 
 pub last_rows-are : (es : List VolumeEntry) (r : ℕ → List CategoryRow) (a n : ℕ) → rows_of es ≡ map r (range_with_len a (suc n)) → last_rows es ≡ r (a + n)
-last_rows-are [] r a n is = absurd (none_some is)
+last_rows-are [] r a n is = absurd (not_nil (sym is))
 last_rows-are (e ∷ []) r a zero is =
     let first : e.rows ≡ r a = cc in
     let place : a ≡ a + zero = omega arith in
     first ∙ ap r place
 last_rows-are (e ∷ []) r a (suc n) is =
     let rest : [] ≡ r (a + 1) ∷ map r (range_with_len (a + 1 + 1) n) = cc in
-    absurd (none_some rest)
+    absurd (not_nil (sym rest))
 last_rows-are (e ∷ second ∷ es) r a zero is =
     let rest : rows_of (second ∷ es) ≡ [] = cc in
-    absurd (some_none rest)
+    absurd (not_nil rest)
 last_rows-are (e ∷ second ∷ es) r a (suc n) is =
     let rest : rows_of (second ∷ es) ≡ map r (range_with_len (a + 1) (suc n)) = cc in
     let place : a + 1 + n ≡ a + suc n = omega arith in
@@ -42,17 +37,17 @@ last_rows-are (e ∷ second ∷ es) r a (suc n) is =
 -- the last one's change, and no other's
 pub rows-grown : (f : List CategoryRow → List CategoryRow) (added : List ℕ) (es : List VolumeEntry) (r now : ℕ → List CategoryRow) (a n : ℕ) → rows_of es ≡ map r (range_with_len a (suc n)) →
     ((j : ℕ) → a ≤ j → j < a + n → now j ≡ r j) → now (a + n) ≡ f (r (a + n)) → rows_of (last_grown f added es) ≡ map now (range_with_len a (suc n))
-rows-grown f added [] r now a n is other last = absurd (none_some is)
+rows-grown f added [] r now a n is other last = absurd (not_nil (sym is))
 rows-grown f added (e ∷ []) r now a zero is other last =
     let first : e.rows ≡ r a = cc in
     let place : a + zero ≡ a = omega arith in
     ap (λ rows. rows ∷ []) (ap f first ∙ ap (λ j. f (r j)) (sym place) ∙ sym last ∙ ap now place)
 rows-grown f added (e ∷ []) r now a (suc n) is other last =
     let rest : [] ≡ r (a + 1) ∷ map r (range_with_len (a + 1 + 1) n) = cc in
-    absurd (none_some rest)
+    absurd (not_nil (sym rest))
 rows-grown f added (e ∷ second ∷ es) r now a zero is other last =
     let rest : rows_of (second ∷ es) ≡ [] = cc in
-    absurd (some_none rest)
+    absurd (not_nil rest)
 rows-grown f added (e ∷ second ∷ es) r now a (suc n) is other last =
     let first : e.rows ≡ r a = cc in
     let rest : rows_of (second ∷ es) ≡ map r (range_with_len (a + 1) (suc n)) = cc in

@@ -17,7 +17,7 @@ use Rattle.bd_model.specs.declared.layout.Phase.TheVariants.{Settled, Waiting}
 use Rattle.bd_model.proofs.ArrangeLemmas.{one_step_of_arranging}
 use Rattle.bd_model.proofs.HistoryLemmas.{newest-grown}
 use Rattle.bd_model.proofs.LawLemmas.{a_backup_leaves_its_reserve, a_new_version_splits_the_categories}
-use Rattle.bd_model.proofs.ListLemmas.{left_and}
+use Rattle.bd_model.proofs.ListLemmas.{left_and, not_nil}
 use Rattle.bd_model.proofs.RowLemmas.{rows_describe_the_volume, rows_over, rows_over-same}
 use Rattle.bd_catalog.specs.Catalogue.{Catalogue, OpenEntry, VolumeEntry, active_extents, bytes_of_rows, oldest_in}
 use Rattle.bd_catalog.specs.Rules.{active_holds}
@@ -65,11 +65,8 @@ few_kept s i cs (k ∷ []) few hold is =
           let row : k.row ≡ row_of i cs = cc in
           let size : length k.extents ≡ up s.extent k.row.bytes = count_in_category s k (left_and (active_holds s k) true hold) in
           omega (arith, length-append k.extents [], size, ap (λ (r : CategoryRow). up s.extent r.bytes) row)
-      | false ↦ λ same. absurd (no_row same)
+      | false ↦ λ same. absurd (not_nil same)
     ] is
-  where
-    no_row : {x : CategoryRow} {xs : List CategoryRow} → x ∷ xs ≡ [] → ⊥
-    no_row e = cc
 
 module _ (s : Sizes) (h : History) (w : List (List ℕ)) (now : List ℕ) (one : 1 ≤ s.extent) (some : h.expired < length h.versions) (i : ℕ) (low : h.base + 1 ≤ i) (high : i ≤ newest h) where
   abbrev next : History

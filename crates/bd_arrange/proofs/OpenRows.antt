@@ -8,6 +8,7 @@ use Rattle.std.proofs.lemmas.List.Elements.{All-contains_itself, All-weaker}
 use Rattle.bd_model.specs.Layout.{row_of}
 use Rattle.bd_model.specs.declared.layout.CategoryRow.{CategoryRow}
 use Rattle.bd_model.proofs.RowLemmas.{rows_over}
+use Rattle.bd_model.proofs.ListLemmas.{not_nil}
 use Rattle.bd_space.proofs.Distinct.{distinct_head, distinct_tail}
 use Rattle.bd_catalog.specs.Catalogue.{OpenEntry}
 use Rattle.bd_catalog.specs.Splitting.{extents_at, put_in_place}
@@ -18,15 +19,12 @@ use Rattle.bd_arrange.proofs.Splits.{one_starting, starting}
 abbrev pub entry_rows : List OpenEntry → List CategoryRow
 entry_rows es = map (λ e. e.row) es
 
-some_none : {x : CategoryRow} {xs : List CategoryRow} → x ∷ xs ≡ [] → ⊥
-some_none e = cc
-
 -- ---- their rows
 
 -- categories that begin later stay
 put_past : (i : ℕ) (kept : List OpenEntry) (f : ℕ → List (List ℕ)) (es : List OpenEntry) (a n : ℕ) → entry_rows es ≡ rows_over f (range_with_len a n) → i < a → put_in_place i kept es ≡ es
 put_past i kept f [] a n is past = refl
-put_past i kept f (e ∷ es) a zero is past = absurd (some_none is)
+put_past i kept f (e ∷ es) a zero is past = absurd (not_nil is)
 put_past i kept f (e ∷ es) a (suc n) is past =
     let rest = rows_over f (range_with_len (a + 1) n) in
     elim (nat_lt 0 (length (f a))) as (λ t. entry_rows (e ∷ es) ≡ cond t (row_of a (f a) ∷ rest) rest → put_in_place i kept (e ∷ es) ≡ e ∷ es) [

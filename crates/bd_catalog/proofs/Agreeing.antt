@@ -12,6 +12,7 @@ use Rattle.bd_model.specs.Sizes.{Sizes, half_bytes, half_place, payload_room, ex
 use Rattle.bd_model.specs.Extents.{owner_bytes}
 use Rattle.bd_model.specs.declared.place.Place.{Place}
 use Rattle.bd_model.specs.declared.place.Place.TheVariants.{Payload}
+use Rattle.bd_model.proofs.ListLemmas.{same_some}
 use Rattle.bd_gate.specs.Superblock.{open_gate, byte_at, four_at, sizes_at}
 use Rattle.bd_gate.specs.Standing.{Standing, SameStanding, behind}
 use Rattle.bd_gate.specs.Halves.{Half, half_at, newest_half, newest_by, is_open, turn_at, payload_of, log_place}
@@ -277,9 +278,6 @@ same_standing_opens found old new opens agree same =
         none_some : {x : Standing} → None ≡ Some x → ⊥
         none_some g = cc
     from_standing s k bytes (Some j) e f =
-        let both : standing_at s new j ≡ record { number = k; bytes = bytes } = some_same f in
+        let both : standing_at s new j ≡ record { number = k; bytes = bytes } = same_some f in
         let number : j ≡ k = ap (λ x. x.number) both in
         (e ∙ ap Some number, sym (ap (behind s new) number) ∙ ap (λ x. x.bytes) both)
-      where
-        some_same : {x y : Standing} → Some x ≡ Some y → x ≡ y
-        some_same g = cc

@@ -11,6 +11,7 @@ use Rattle.bd_model.specs.Sizes.{Sizes, sizes_of, extent_place}
 use Rattle.bd_model.specs.State.{VersionState}
 use Rattle.bd_model.specs.declared.layout.Phase.{Phase}
 use Rattle.bd_model.specs.declared.shape.Shape.{Shape}
+use Rattle.bd_model.proofs.ListLemmas.{same_some}
 use Rattle.bd_space.specs.Allotment.{Allotment, IsFree, IsTaken, TakenExactly}
 use Rattle.bd_space.specs.declared.space.Use.TheVariants.{Free, Taken}
 use Rattle.bd_gate.specs.Halves.{Half, InHalves, half_at, newest_half, payload_of}
@@ -26,9 +27,6 @@ use Rattle.bd_catalog.proofs.Standing.{InStore, found_once, halves_agree, stands
 use Rattle.bd_catalog.proofs.StandingFound.{IsFound, opened-found}
 
 -- ---- one catalogue in two images
-
-same_some : {A : Type 0} {x y : A} → Some x ≡ Some y → x ≡ y
-same_some e = cc e
 
 -- Images that open with the same sizes and agree on both halves have the same catalogue. Of an image at entry the halves
 -- alone are sure, so that its superblock isn't known to be that of the contents.

@@ -25,7 +25,7 @@ use Rattle.bd_model.specs.State.{VersionState, history}
 use Rattle.bd_model.specs.Step.{drop_oldest, expired_extents, Outcome, unchanged, version_line}
 use Rattle.bd_model.proofs.ExpiryLemmas.{expiry_takes_only_the_oldest}
 use Rattle.bd_model.proofs.GrownLemmas.{lines_stay}
-use Rattle.bd_model.proofs.ListLemmas.{numbers-cons}
+use Rattle.bd_model.proofs.ListLemmas.{not_nil, numbers-cons}
 use Rattle.bd_model.proofs.StepLemmas.{length-history}
 use Rattle.bd_gate.specs.Halves.{InHalves}
 use Rattle.bd_gate.proofs.Kept.{within_halves}
@@ -48,17 +48,11 @@ use Rattle.bd_catalog.proofs.StandingOwned.{owned-stands}
 -- ---- lists without their first
 
 without_first : {X Y : Type 0} (f : X → Y) (g : ℕ → Y) (a b : ℕ) (xs : List X) → a ≤ b → map f xs ≡ map g (numbers a b) → map f (drop 1 xs) ≡ map g (numbers (a + 1) b)
-without_first f g a b [] le same = absurd (no_first (same ∙ ap (map g) (numbers-cons a b le)))
-  where
-    no_first : {Z : Type 0} {z : Z} {zs : List Z} → [] ≡ z ∷ zs → ⊥
-    no_first e = cc
+without_first f g a b [] le same = absurd (not_nil (sym (same ∙ ap (map g) (numbers-cons a b le))))
 without_first f g a b (x ∷ xs) le same = same_tail (same ∙ ap (map g) (numbers-cons a b le))
 
 later_lines : (v a b : ℕ) (g : ℕ → VersionLine) (es : List VersionEntry) → a ≤ b → lines_from v es ≡ map g (numbers a b) → lines_from (v + 1) (drop 1 es) ≡ map g (numbers (a + 1) b)
-later_lines v a b g [] le same = absurd (no_first (same ∙ ap (map g) (numbers-cons a b le)))
-  where
-    no_first : {z : VersionLine} {zs : List VersionLine} → [] ≡ z ∷ zs → ⊥
-    no_first e = cc
+later_lines v a b g [] le same = absurd (not_nil (sym (same ∙ ap (map g) (numbers-cons a b le))))
 later_lines v a b g (e ∷ es) le same = same_tail (same ∙ ap (map g) (numbers-cons a b le))
 
 -- an index counted from the next number

@@ -16,7 +16,7 @@ use Rattle.bd_model.specs.Room.{owned, recipe_bytes, up}
 use Rattle.bd_model.specs.Sizes.{Sizes, sizes_of}
 use Rattle.bd_model.specs.State.{VersionState, history}
 use Rattle.bd_model.specs.Step.{free_extents, version_line}
-use Rattle.bd_model.proofs.ListLemmas.{left_and, right_and}
+use Rattle.bd_model.proofs.ListLemmas.{left_and, not_nil, right_and}
 use Rattle.bd_model.proofs.RoomLemmas.{up-zero}
 use Rattle.bd_model.proofs.RowLemmas.{rows_describe_the_volume}
 use Rattle.bd_model.specs.declared.layout.Phase.TheVariants.{Settled}
@@ -32,9 +32,6 @@ use Rattle.bd_catalog.proofs.Standing.{Shows, stands-shows}
 use Rattle.bd_catalog.proofs.StandingLists.{line_of}
 use Rattle.bd_catalog.proofs.StandingFound.{Obeys, obeys-each, opened-found}
 
-no_line : {x : VersionLine} {xs : List VersionLine} → x ∷ xs ≡ [] → ⊥
-no_line e = cc
-
 module _ (shape : Shape) (st : VersionState) (phase : Phase) where
   abbrev s : Sizes
   s = sizes_of shape
@@ -46,8 +43,8 @@ module _ (shape : Shape) (st : VersionState) (phase : Phase) where
   recipes_owned : (v a n : ℕ) (es : List VersionEntry) → list_all (version_holds s) es ≡ true → lines_from v es ≡ map (version_line st h) (range_with_len a n) →
       sum_by (λ e. length e.extents) es ≡ sum_by (λ i. up shape.extent (recipe_bytes (version h i))) (range_with_len a n)
   recipes_owned v a zero [] holds lines = refl
-  recipes_owned v a zero (e ∷ es) holds lines = absurd (no_line lines)
-  recipes_owned v a (suc n) [] holds lines = absurd (no_line (sym lines))
+  recipes_owned v a zero (e ∷ es) holds lines = absurd (not_nil lines)
+  recipes_owned v a (suc n) [] holds lines = absurd (not_nil (sym lines))
   recipes_owned v a (suc n) (e ∷ es) holds lines =
       let first : line_of v e ≡ version_line st h a = cc in
       let rest : lines_from (v + 1) es ≡ map (version_line st h) (range_with_len (a + 1) n) = cc in
@@ -57,15 +54,12 @@ module _ (shape : Shape) (st : VersionState) (phase : Phase) where
       ∙ (λ k. (here ∙ ap (λ n. up shape.extent (40 * n)) chunks) k + recipes_owned (v + 1) (a + 1) n es (right_and (version_holds s e) (list_all (version_holds s) es) holds) rest k)
       ∙ sym (sum_by-cons (λ i. up shape.extent (recipe_bytes (version h i))) a (range_with_len (a + 1) n))
 
-  no_rows : {x : List CategoryRow} {xs : List (List CategoryRow)} → x ∷ xs ≡ [] → ⊥
-  no_rows e = cc
-
   -- the volumes from this one on
   volumes_owned : (a n : ℕ) (es : List VolumeEntry) → oldest h ≤ a → list_all (volume_holds s) es ≡ true → map (λ e. e.rows) es ≡ map (rows h phase) (range_with_len a n) →
       sum_by (λ e. length e.extents) es ≡ sum_by (λ j. up shape.extent (record_bytes (closed_volume h phase j))) (range_with_len a n)
   volumes_owned a zero [] low holds same = refl
-  volumes_owned a zero (e ∷ es) low holds same = absurd (no_rows same)
-  volumes_owned a (suc n) [] low holds same = absurd (no_rows (sym same))
+  volumes_owned a zero (e ∷ es) low holds same = absurd (not_nil same)
+  volumes_owned a (suc n) [] low holds same = absurd (not_nil (sym same))
   volumes_owned a (suc n) (e ∷ es) low holds same =
       let first : e.rows ≡ rows h phase a = cc in
       let rest : map (λ (x : VolumeEntry). x.rows) es ≡ map (rows h phase) (range_with_len (a + 1) n) = cc in
@@ -75,9 +69,6 @@ module _ (shape : Shape) (st : VersionState) (phase : Phase) where
       ∙ (λ k. (here ∙ ap (up shape.extent) bytes) k + volumes_owned (a + 1) n es (omega arith) (right_and (volume_holds s e) (list_all (volume_holds s) es) holds) rest k)
       ∙ sym (sum_by-cons (λ j. up shape.extent (record_bytes (closed_volume h phase j))) a (range_with_len (a + 1) n))
 
-  no_row : {x : CategoryRow} {xs : List CategoryRow} → x ∷ xs ≡ [] → ⊥
-  no_row e = cc
-
   abbrev open_sum : List ℕ → ℕ
   open_sum is = sum_by (λ i. up shape.extent (record_bytes (open_category h phase i))) is
 
@@ -85,7 +76,7 @@ module _ (shape : Shape) (st : VersionState) (phase : Phase) where
   open_first : (i : ℕ) (is : List ℕ) (rest : List CategoryRow) (es : List OpenEntry) →
       ((ds : List OpenEntry) → list_all (active_holds s) ds ≡ true → map (λ e. e.row) ds ≡ rest → sum_by (λ e. length e.extents) ds ≡ open_sum is) →
       list_all (active_holds s) es ≡ true → map (λ e. e.row) es ≡ row_of i (open_category h phase i) ∷ rest → sum_by (λ e. length e.extents) es ≡ open_sum (i ∷ is)
-  open_first i is rest [] later holds same = absurd (no_row (sym same))
+  open_first i is rest [] later holds same = absurd (not_nil (sym same))
   open_first i is rest (e ∷ es) later holds same =
       let first : e.row ≡ row_of i (open_category h phase i) = cc in
       let tail : map (λ (x : OpenEntry). x.row) es ≡ rest = cc in
@@ -108,7 +99,7 @@ module _ (shape : Shape) (st : VersionState) (phase : Phase) where
   opens_owned : (is : List ℕ) (es : List OpenEntry) → list_all (active_holds s) es ≡ true →
       map (λ e. e.row) es ≡ filter (λ row. nat_lt 0 row.chunks) (map (λ i. row_of i (open_category h phase i)) is) → sum_by (λ e. length e.extents) es ≡ open_sum is
   opens_owned [] [] holds same = refl
-  opens_owned [] (e ∷ es) holds same = absurd (no_row same)
+  opens_owned [] (e ∷ es) holds same = absurd (not_nil same)
   opens_owned (i ∷ is) es holds same =
       let rest = filter (λ (row : CategoryRow). nat_lt 0 row.chunks) (map (λ j. row_of j (open_category h phase j)) is) in
       elim (nat_lt 0 (length (open_category h phase i)))

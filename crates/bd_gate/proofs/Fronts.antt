@@ -4,13 +4,11 @@ use Rattle.std.proofs.lemmas.List.{drop-take, drop-drop, take-take}
 use Rattle.std.specs.Int.{w64, from_be_bytes}
 use Rattle.bd_disk.specs.Images.{InRange, bytes_at}
 use Rattle.bd_model.specs.Sizes.{Sizes, half_bytes, half_place}
+use Rattle.bd_model.proofs.ListLemmas.{same_some}
 use Rattle.bd_gate.specs.Superblock.{byte_at, eight_at}
 use Rattle.bd_gate.specs.Halves.{Half, half_at, is_open, turn_at, newest_by, newest_half, InFronts, InHalves}
 use Rattle.bd_gate.specs.declared.half.Front.{Front}
 use Rattle.bd_gate.proofs.Newest.{place, places, none_or_half}
-
-same_number : (a b : ℕ) → Some a ≡ Some b → a ≡ b
-same_number a b e = cc
 
 -- the length, of ten bytes that were read
 pub front_length : (image : List ℕ) (at : ℕ) → from_be_bytes w64 (take 8 (drop 2 (bytes_at at 10 image))) ≡ eight_at image (at + 2)
@@ -58,7 +56,7 @@ second_half s image first second f opened is = λ i. record { number = 1; turn =
 pub second_number : (k : ℕ) (first second : Front) → Some k ≡ newest_front first second → (k ≡ 0 → ⊥) → newest_front first second ≡ Some 1
 second_number k first second is not_first =
     ⊎_elim (λ none. absurd (cc (is, none)))
-    (λ half. ⊎_elim (λ zeroth. absurd (not_first (same_number k 0 (is ∙ zeroth)))) (λ one. one) half) (none_or_half (eqb first.gate 79) first.turn (eqb second.gate 79) second.turn)
+    (λ half. ⊎_elim (λ zeroth. absurd (not_first (same_some (is ∙ zeroth)))) (λ one. one) half) (none_or_half (eqb first.gate 79) first.turn (eqb second.gate 79) second.turn)
 
 -- what lies within a half lies within both
 within : (size number from n at : ℕ) → number < 2 → from + n ≤ size → InRange (place size number + from) n at → InRange 64 (2 * size) at
@@ -81,5 +79,5 @@ fronts_in_halves s at (inr r) = in_halves s 1 0 10 at (omega arith) (omega arith
 pub half_number : (s : Sizes) (image : List ℕ) (k : ℕ) → newest_half s image ≡ Some k → k ≤ 1
 half_number s image k is =
     ⊎_elim (λ none. absurd (cc (is, none)))
-    (λ half. ⊎_elim (λ zeroth. omega (arith, same_number k 0 (sym is ∙ zeroth))) (λ one. omega (arith, same_number k 1 (sym is ∙ one))) half)
+    (λ half. ⊎_elim (λ zeroth. omega (arith, same_some (sym is ∙ zeroth))) (λ one. omega (arith, same_some (sym is ∙ one))) half)
     (none_or_half (is_open s image 0) (turn_at s image 0) (is_open s image 1) (turn_at s image 1))

@@ -5,6 +5,7 @@ use Rattle.std.specs.Str.{bytes_eq}
 use Rattle.bd_model.specs.Laws.{start_in}
 use Rattle.bd_model.specs.declared.layout.RecipeEntry.{RecipeEntry}
 use Rattle.bd_model.proofs.ChunkListLemmas.{bytes_eq-refl, bytes_eq-same}
+use Rattle.bd_model.proofs.ListLemmas.{same_some}
 use Rattle.bd_recipe.specs.Marked.{first_from}
 use Rattle.bd_recipe.proofs.Marking.{first_with-none, first_with-some, index_within, start_in-find}
 use Rattle.bd_recipe.proofs.Occurring.{first-marked}
@@ -60,14 +61,11 @@ module _ (old : List RecipeEntry) (came : List ℕ → Bool) (used : List Bool) 
         (λ differ.
         get_or-set_other used j k true false differ ∙ are.firsts x k at_x
         ∙ elim (bytes_eq x m) as (λ b. bytes_eq x m ≡ b → came x ≡ now x) [
-          | true ↦ λ is. absurd (differ (some_same (sym at_x ∙ ap (first_from 0 old) (bytes_eq-same x m is) ∙ at)))
+          | true ↦ λ is. absurd (differ (same_some (sym at_x ∙ ap (first_from 0 old) (bytes_eq-same x m is) ∙ at)))
           | false ↦ λ is. other x is
         ] refl)
         (cases_eq k j);
   }
-    where
-      some_same : {a b : ℕ} → Some a ≡ Some b → a ≡ b
-      some_same e = cc
 
 -- ---- the marks of those that the version before lacks
 

@@ -6,12 +6,7 @@ use Rattle.bd_model.specs.CommandLaws.{CommandsLeadOn}
 use Rattle.bd_model.specs.Folds.{HeldCommand, Point, point_of, outcomes, after, answers_of}
 use Rattle.bd_model.specs.State.{VersionState}
 use Rattle.bd_model.specs.Step.{Outcome, step}
-
-some_point : {p q : Point} → Some p ≡ Some q → p ≡ q
-some_point e = cc e
-
-some_command : {c d : HeldCommand} → Some c ≡ Some d → c ≡ d
-some_command e = cc e
+use Rattle.bd_model.proofs.ListLemmas.{same_some}
 
 no_point : (p : Point) → None ≡ Some p → ⊥
 no_point p e = cc
@@ -34,8 +29,8 @@ module _ (shape : Shape) where
       none zero f = cc
       none (suc k) f = cc
   leads_on (d ∷ commands) s files zero p c o e there is =
-      let same : d ≡ c = some_command there in
-      let here : record { state = s; files = files } ≡ p = some_point e in
+      let same : d ≡ c = same_some there in
+      let here : record { state = s; files = files } ≡ p = same_some e in
       let made : step shape d.held s files d.command ≡ Some o = (λ i. step shape (same i).held (here i).state (here i).files (same i).command) ∙ is in
       subst (λ r. Leads 0 (later r commands) o) (sym made) (refl, refl)
   leads_on (d ∷ commands) s files (suc k) p c o e there is =
