@@ -1,21 +1,13 @@
--- Places beside all that an opening finds: of extents that nobody has, behind the named bytes of an owner, and of the half that
--- isn't the newest.
+-- Places beside all that an opening finds: unnamed ones, and those of the half that isn't the newest.
 use Rattle.std.proofs.Common.{◌≡◌, ◌∙◌, ℕ, zero, suc, ◌+◌, ◌-◌, ◌<◌, ◌≤◌, sym, arith, Some}
-use Rattle.std.specs.Prelude.{Contains, IsTrue}
-use Rattle.std.proofs.lemmas.List.Elements.{All-contains}
-use Rattle.std.proofs.lemmas.Option.{slice_get_within}
 use Rattle.std.proofs.Math.Nat.{mul-le-mul_right}
-use Rattle.bd_disk.specs.Images.{InRange}
 use Rattle.bd_model.specs.Sizes.{Sizes, disk_bytes, extent_place}
-use Rattle.bd_space.specs.Allotment.{Allotment, extent_count, IsFree, IsTaken, TakenExactly}
+use Rattle.bd_space.specs.Allotment.{Allotment, IsFree, IsTaken}
 use Rattle.bd_space.specs.declared.space.Use.TheVariants.{Free, Taken}
 use Rattle.bd_gate.specs.Halves.{InHalf}
-use Rattle.bd_catalog.specs.Catalogue.{all_extents}
 use Rattle.bd_catalog.specs.Opening.{Found}
-use Rattle.bd_catalog.specs.Rules.{obeys}
 use Rattle.bd_catalog.specs.Steps.{InOtherHalf}
 use Rattle.bd_volume.specs.Named.{InNamed, IsBeside, IsUnnamed}
-use Rattle.bd_volume.proofs.Unnamed.{unowned_unnamed}
 
 -- an extent ends before the store does
 pub ends_within : (s : Sizes) (extent place : ℕ) → extent < s.extents → place < extent_place s extent + s.extent → place < disk_bytes s
@@ -58,16 +50,3 @@ module _ (found : Found) (small : found.half.number ≤ 1) where
         half = halves_apart found.sizes found.half.number place small inside;
         named = λ named. omega (arith, front, named_behind found place named);
       }
-
-  module _ (some : 1 ≤ found.sizes.extent) (rules : IsTrue (obeys found.sizes found.catalogue)) where
-    -- of an extent that nobody has
-    pub unowned_beside : (extent place : ℕ) → extent < found.sizes.extents → (Contains (all_extents found.catalogue) extent → ⊥) → InRange (extent_place found.sizes extent) found.sizes.extent place → IsBeside found place
-    unowned_beside extent place lt free inside =
-        unnamed_beside place (ends_within found.sizes extent place lt inside.1) (unowned_unnamed found.sizes some found.catalogue rules place extent inside free)
-
-    -- and of one that is free
-    pub free_beside : (space : Allotment) → extent_count space ≡ found.sizes.extents → TakenExactly space (all_extents found.catalogue) → (extent place : ℕ) → IsFree space extent →
-        InRange (extent_place found.sizes extent) found.sizes.extent place → IsBeside found place
-    free_beside space count owners extent place free inside =
-        unowned_beside extent place (omega (arith, slice_get_within space.uses extent Free free, count))
-        (λ owned. free_or_taken space extent free (All-contains (IsTaken space) (all_extents found.catalogue) extent owners.taken owned)) inside
