@@ -161,7 +161,15 @@ fit_list top numbers small own = record {
 fits_eight_of : (n : ℕ) → fits_eight n ≡ true → n < 2 ^ 64
 fits_eight_of n h = ltb-true n (2 ^ 64) h
 
--- the extents of a volume and of an open category are as many as their bytes need
+-- the extents of a recipe, of a volume and of an open category are as many as their bytes need
+pub count_in_version : (s : Sizes) (e : VersionEntry) → version_holds s e ≡ true → length e.extents ≡ up s.extent (40 * e.chunks)
+count_in_version s e h =
+    let p3 = nat_le e.fresh e.chunks && nat_le e.chunks e.length && nat_le e.length (s.max * e.chunks) in
+    let p4 = p3 && (length e.extents == up s.extent (40 * e.chunks)) in
+    let p5 = p4 && fits_eight (s.max * e.chunks) in
+    let p6 = p5 && fits_eight (40 * e.chunks) in
+    eqb-true (length e.extents) (up s.extent (40 * e.chunks)) (right_and p3 (length e.extents == up s.extent (40 * e.chunks)) (left_and p4 (fits_eight (s.max * e.chunks)) (left_and p5 (fits_eight (40 * e.chunks)) (left_and p6 (fits_eight e.length) h))))
+
 pub count_in_volume : (s : Sizes) (e : VolumeEntry) → volume_holds s e ≡ true → length e.extents ≡ up s.extent (bytes_of_rows e.rows)
 count_in_volume s e h =
     let p1 = list_all (row_holds s) e.rows in
@@ -196,7 +204,7 @@ module _ (s : Sizes) (bounded : IsBounded s) where
       record {
         fresh = leb-true e.fresh e.chunks (left_and p1 (nat_le e.chunks e.length) h2);
         chunks = leb-true e.chunks e.length (right_and p1 (nat_le e.chunks e.length) h2);
-        extents = eqb-true (length e.extents) (up s.extent (40 * e.chunks)) (right_and p3 (length e.extents == up s.extent (40 * e.chunks)) h4);
+        extents = count_in_version s e h;
         fits = fits_eight_of e.length (right_and p6 (fits_eight e.length) h);
       }
 

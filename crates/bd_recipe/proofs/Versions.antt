@@ -1,9 +1,9 @@
 -- What the rules of a catalogue say of a retained version's recipe.
-use Rattle.std.proofs.Common.{◌≡◌, ℕ, zero, suc, ◌+◌, ◌-◌, ◌*◌, ◌<◌, ◌≤◌, Bool, true, ◌&&◌, List, [], ◌∷◌, ◌++◌, length, map, get_or, sym, ◌∙◌, ap, subst, arith, Some, None, slice_get, nat_le, nat_lt}
-use Rattle.std.specs.Prelude.{IsTrue, ◌==◌}
+use Rattle.std.proofs.Common.{◌≡◌, ℕ, zero, suc, ◌+◌, ◌-◌, ◌*◌, ◌<◌, ◌≤◌, Bool, true, List, [], ◌∷◌, ◌++◌, length, map, get_or, sym, ◌∙◌, ap, subst, arith, Some, None, slice_get, nat_lt}
+use Rattle.std.specs.Prelude.{IsTrue}
 use Rattle.std.specs.List.{list_all, flat_map}
 use Rattle.std.specs.Option.{option_map}
-use Rattle.std.proofs.lemmas.Bool.{ltb-true, eqb-true}
+use Rattle.std.proofs.lemmas.Bool.{ltb-true}
 use Rattle.std.proofs.lemmas.Bool.Decides.{Decides-eqb}
 use Rattle.std.proofs.lemmas.List.{get_or_append_left, get_or-append-add, length-append}
 use Rattle.std.proofs.lemmas.List.Elements.{All-weaker}
@@ -11,13 +11,12 @@ use Rattle.std.proofs.lemmas.List.Sums.{AllPass-from_list_all}
 use Rattle.std.proofs.lemmas.Map.Made.{AllPairs-from_IsDistinct}
 use Rattle.std.proofs.lemmas.Option.{get_or_from_slice_get, slice_get-map}
 use Rattle.bd_model.specs.Sizes.{Sizes}
-use Rattle.bd_model.specs.Room.{up}
 use Rattle.bd_model.proofs.ListLemmas.{left_and, right_and}
 use Rattle.bd_model.proofs.RoomLemmas.{up-enough}
 use Rattle.bd_extio.specs.Ranges.{AreExtents, IsWithin}
 use Rattle.bd_catalog.specs.Catalogue.{Catalogue, VersionEntry, oldest_in, recipe_extents, all_extents}
-use Rattle.bd_catalog.specs.Rules.{all_differ, fits_eight, obeys, version_holds, extents_hold}
-use Rattle.bd_catalog.proofs.Obeying.{distinct_of}
+use Rattle.bd_catalog.specs.Rules.{all_differ, obeys, version_holds, extents_hold}
+use Rattle.bd_catalog.proofs.Obeying.{count_in_version, distinct_of}
 use Rattle.bd_catalog.proofs.StandingFound.{obeys-each}
 use Rattle.bd_recipe.specs.Reading.{chunks_in, length_in}
 
@@ -74,14 +73,6 @@ holds_at p (x ∷ es) zero e all is =
     subst (λ v. p v ≡ true) same (left_and (p x) (list_all p es) all)
 holds_at p (x ∷ es) (suc i) e all is = holds_at p es i e (right_and (p x) (list_all p es) all) is
 
-extents_of_version : (s : Sizes) (e : VersionEntry) → version_holds s e ≡ true → length e.extents ≡ up s.extent (40 * e.chunks)
-extents_of_version s e h =
-    let p3 = nat_le e.fresh e.chunks && nat_le e.chunks e.length && nat_le e.length (s.max * e.chunks) in
-    let p4 = p3 && (length e.extents == up s.extent (40 * e.chunks)) in
-    let p5 = p4 && fits_eight (s.max * e.chunks) in
-    let p6 = p5 && fits_eight (40 * e.chunks) in
-    eqb-true (length e.extents) (up s.extent (40 * e.chunks)) (right_and p3 (length e.extents == up s.extent (40 * e.chunks)) (left_and p4 (fits_eight (s.max * e.chunks)) (left_and p5 (fits_eight (40 * e.chunks)) (left_and p6 (fits_eight e.length) h))))
-
 at_map : {Y : Type 0} (f : VersionEntry → Y) (es : List VersionEntry) (i : ℕ) (e : VersionEntry) (d : Y) → slice_get es i ≡ Some e → f e ≡ get_or (map f es) i d
 at_map f es i e d is = sym (get_or_from_slice_get (map f es) i (f e) d (slice_get-map f es i ∙ ap (option_map f) is))
 
@@ -97,5 +88,5 @@ version_is s c v e some rules is =
       chunks = at_map (λ x. x.chunks) c.versions i e 0 is;
       bytes = at_map (λ x. x.length) c.versions i e 0 is;
       numbers = are_of s c.versions i e is (are_left s versions volumes (are_left s (versions ++ volumes) actives (are_all s c each.extents)));
-      range = omega (arith, up-enough s.extent (40 * e.chunks) (length e.extents) some (extents_of_version s e (holds_at (version_holds s) c.versions i e each.versions is)));
+      range = omega (arith, up-enough s.extent (40 * e.chunks) (length e.extents) some (count_in_version s e (holds_at (version_holds s) c.versions i e each.versions is)));
     }

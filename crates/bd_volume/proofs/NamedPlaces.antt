@@ -1,8 +1,8 @@
 -- An image shows what another one does that agrees with it on the bytes that the catalogue names.
-use Rattle.std.proofs.Common.{◌≡◌, ⊎_elim, ℕ, zero, suc, ◌+◌, ◌-◌, ◌*◌, ◌<◌, ◌≤◌, Bool, true, false, cond, ◌&&◌, List, [], ◌∷◌, ◌++◌, length, take, map, get_or, refl, sym, ◌∙◌, ap, subst, arith, nat_lt, nat_le, length-append}
-use Rattle.std.specs.Prelude.{All, Contains, IsTrue, Ok, ◌==◌}
+use Rattle.std.proofs.Common.{◌≡◌, ⊎_elim, ℕ, zero, suc, ◌+◌, ◌-◌, ◌*◌, ◌<◌, ◌≤◌, Bool, true, false, cond, ◌&&◌, List, [], ◌∷◌, ◌++◌, length, take, map, get_or, refl, sym, ◌∙◌, ap, subst, arith, nat_lt, length-append}
+use Rattle.std.specs.Prelude.{All, Contains, IsTrue, Ok}
 use Rattle.std.specs.List.{flat_map, list_all, range_with_len}
-use Rattle.std.proofs.lemmas.Bool.{cases_lt, eqb-true, false≢true, ltb-true}
+use Rattle.std.proofs.lemmas.Bool.{cases_lt, false≢true, ltb-true}
 use Rattle.std.proofs.lemmas.List.{get_or-map, get_or-take, length-map, length-take}
 use Rattle.std.proofs.lemmas.List.Elements.{All-append, All-cons, All-contains, All-nil, All-weaker, Contains-append_left, Contains-append_right}
 use Rattle.std.proofs.lemmas.List.FromFn.{length-range_with_len}
@@ -32,12 +32,12 @@ use Rattle.bd_extio.proofs.Places.{get_or-owner_bytes, length-owner_bytes}
 use Rattle.bd_catalog.specs.Catalogue.{Catalogue, OpenEntry, VersionEntry, VolumeEntry, active_extents, all_extents, bytes_of_rows, oldest_in, recipe_extents, volume_extents}
 use Rattle.bd_catalog.specs.Opening.{Found, opened}
 use Rattle.bd_catalog.specs.Rows.{open_row}
-use Rattle.bd_catalog.specs.Rules.{active_holds, all_differ, fits_eight, obeys, version_holds, volume_holds}
+use Rattle.bd_catalog.specs.Rules.{active_holds, all_differ, obeys, version_holds, volume_holds}
 use Rattle.bd_catalog.specs.Standing.{BeginWith, HasActives, HasNumbers, HasVersions, HasVolumes, StandsFor}
 use Rattle.bd_catalog.proofs.Standing.{Shows, shows_same, stands-shown, stands-shows}
 use Rattle.bd_catalog.proofs.StandingFound.{Obeys, obeys-each, opened-found}
 use Rattle.bd_catalog.proofs.StandingLines.{chunks_recorded}
-use Rattle.bd_catalog.proofs.Obeying.{count_in_category, count_in_volume}
+use Rattle.bd_catalog.proofs.Obeying.{count_in_category, count_in_version, count_in_volume}
 use Rattle.bd_volume.specs.Named.{InNamed, Named, named_by, open_named, recipe_named, volume_named}
 use Rattle.bd_volume.proofs.Held.{one_entry, rows_stand}
 use Rattle.bd_volume.proofs.Naming.{AreOwned, opens_owned}
@@ -94,14 +94,6 @@ module _ (s : Sizes) (some : 1 ≤ s.extent) where
       })
       (fit_each name test sized xs (right_and (test x) (list_all test xs) hold) (right_and (are_below own) (are_below rest) both))
 
-  sized_version : (e : VersionEntry) → version_holds s e ≡ true → length e.extents ≡ up s.extent (40 * e.chunks)
-  sized_version e h =
-      let p3 = nat_le e.fresh e.chunks && nat_le e.chunks e.length && nat_le e.length (s.max * e.chunks) in
-      let p4 = p3 && (length e.extents == up s.extent (40 * e.chunks)) in
-      let p5 = p4 && fits_eight (s.max * e.chunks) in
-      let p6 = p5 && fits_eight (40 * e.chunks) in
-      eqb-true (length e.extents) (up s.extent (40 * e.chunks)) (right_and p3 (length e.extents == up s.extent (40 * e.chunks)) (left_and p4 (fits_eight (s.max * e.chunks)) (left_and p5 (fits_eight (40 * e.chunks)) (left_and p6 (fits_eight e.length) h))))
-
   pub all_fit : (c : Catalogue) → IsTrue (obeys s c) → All (FitsNamed s) (named_by c)
   all_fit c rules =
       let each : Obeys s c = obeys-each s c rules in
@@ -114,7 +106,7 @@ module _ (s : Sizes) (some : 1 ≤ s.extent) where
       let parts : (are_below versions && are_below volumes) ≡ true = sym (list_all-append (λ n. nat_lt n s.extents) versions volumes) ∙ closed in
       All-append (FitsNamed s) (map recipe_named c.versions ++ map volume_named c.volumes) (map open_named c.actives)
       (All-append (FitsNamed s) (map recipe_named c.versions) (map volume_named c.volumes)
-      (fit_each recipe_named (version_holds s) sized_version c.versions each.versions (left_and (are_below versions) (are_below volumes) parts))
+      (fit_each recipe_named (version_holds s) (count_in_version s) c.versions each.versions (left_and (are_below versions) (are_below volumes) parts))
       (fit_each volume_named (volume_holds s) (count_in_volume s) c.volumes each.volumes (right_and (are_below versions) (are_below volumes) parts)))
       (fit_each open_named (active_holds s) (count_in_category s) c.actives each.categories opens)
 
