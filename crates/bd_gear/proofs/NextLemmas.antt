@@ -6,8 +6,8 @@ use Rattle.std.proofs.lemmas.List.Folds.{find-append}
 use Rattle.std.proofs.lemmas.Bool.{false≢true, or_cases, or_left, or_right, and_parts, and_from, leb-true, ltb-true, le-leb, lt-leb, lt-ltb, cases_lt, cond-true, cond-false}
 use Rattle.bd_model.specs.Chunks.{Cut, numbers, is_candidate, longest, length_to_candidate, chunk_len, is_decided}
 use Rattle.bd_model.specs.Laws.{IsCut}
-use Rattle.bd_model.proofs.ListLemmas.{find-range_with_len, range_with_len-add, numbers-split, numbers-cons}
-use Rattle.bd_model.proofs.ChunkLemmas.{is_candidate-append, chunk_len-append}
+use Rattle.bd_model.proofs.ListLemmas.{find-range_with_len, numbers-split, numbers-cons}
+use Rattle.bd_model.proofs.ChunkLemmas.{candidate-append, chunk_len-append}
 use Rattle.bd_gear.specs.Chunking.{next_len}
 
 find-never : (xs : List ℕ) → find (λ n. false) xs ≡ None
@@ -71,25 +71,11 @@ still_some (Some v) q is = refl
 -- what follows a stream leaves a chunk decided
 pub is_decided-append : (cut : Cut) (s t : List ℕ) (start : ℕ) → IsCut cut → is_decided cut s start ≡ true → is_decided cut (s ++ t) start ≡ true
 is_decided-append cut s t start is decided =
-    let long : length (s ++ t) ≡ length s + length t = length-append s t in
-    let test : ℕ → Bool = λ n. is_candidate cut.bits s (start + n - 1) in
-    let test' : ℕ → Bool = λ n. is_candidate cut.bits (s ++ t) (start + n - 1) in
-    let few = longest cut s start + 1 - cut.least in
-    let many = longest cut (s ++ t) start + 1 - cut.least in
-    let agree : find test' (range_with_len cut.least few) ≡ find test (range_with_len cut.least few) =
-    find-range_with_len test' test cut.least few (λ n low high. is_candidate-append cut.bits s t (start + n - 1) (omega arith)) in
-    let more : many ≡ few + (many - few) = omega arith in
-    let rest = find test' (range_with_len (cut.least + few) (many - few)) in
-    let split : find test' (range_with_len cut.least many) ≡ option_or (find test (range_with_len cut.least few)) rest =
-    ap (λ n. find test' (range_with_len cut.least n)) more
-    ∙ ap (find test') (range_with_len-add cut.least few (many - few))
-    ∙ find-append test' (range_with_len cut.least few) (range_with_len (cut.least + few) (many - few))
-    ∙ ap (λ o. option_or o rest) agree in
     ⊎_elim
     (λ full.
     let enough : cut.most ≤ length s - start = leb-true cut.most (length s - start) full in
-    or_left (leb cut.most (length (s ++ t) - start)) (is_some (length_to_candidate cut (s ++ t) start)) (le-leb cut.most (length (s ++ t) - start) (omega arith)))
-    (λ some. or_right (leb cut.most (length (s ++ t) - start)) (is_some (length_to_candidate cut (s ++ t) start)) (ap is_some split ∙ still_some (find test (range_with_len cut.least few)) rest some))
+    or_left (leb cut.most (length (s ++ t) - start)) (is_some (length_to_candidate cut (s ++ t) start)) (le-leb cut.most (length (s ++ t) - start) (omega (arith, enough, length-append s t))))
+    (λ some. or_right (leb cut.most (length (s ++ t) - start)) (is_some (length_to_candidate cut (s ++ t) start)) (ap is_some (candidate-append cut s t start is) ∙ still_some (length_to_candidate cut s start) _ some))
     (or_cases (leb cut.most (length s - start)) (is_some (length_to_candidate cut s start)) decided)
 
 pub next_len-append : (cut : Cut) (s t : List ℕ) (start n : ℕ) → IsCut cut → next_len cut s start false ≡ Some n → next_len cut (s ++ t) start false ≡ Some n
