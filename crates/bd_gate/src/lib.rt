@@ -6,4 +6,3 @@ mod half;
 
 pub use commit::{close_half, commit_frame, fill_half, open_half, store};
 pub use half::{CLOSED_GATE, GateFault, Half, OPEN_GATE, newest_half, read_payload};
-

@@ -23,4 +23,3 @@ pub use fault::IntakeFault;
 pub use laws::new_chunks_are_the_fresh_ones;
 pub use staged::Staged;
 pub use take_in::intake;
-

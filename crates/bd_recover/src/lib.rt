@@ -11,4 +11,3 @@ mod superblock;
 pub use fault::{FormatFault, OpenFault};
 pub use formatting::{format, format_disk};
 pub use opening::{Opened, open_image};
-
