@@ -10,9 +10,10 @@ use Rattle.bd_extio.proofs.Within.{in_wider}
 use Rattle.bd_space.specs.Allotment.{Allotment, IsFree}
 use Rattle.bd_space.proofs.Kept.{still_free}
 use Rattle.bd_catalog.specs.Catalogue.{bytes_of_rows}
+use Rattle.bd_catalog.specs.Agreement.{InFree}
 use Rattle.bd_volume.specs.Filled.{Filled}
 use Rattle.bd_volume.specs.Growing.{AddsExtents, CanGrow, Takes}
-use Rattle.bd_arrange.specs.Desks.{InFree, InRest}
+use Rattle.bd_arrange.specs.Desks.{InRest}
 use Rattle.bd_arrange.specs.Moving.{InMoved}
 
 -- what is free now was free before some numbers were taken

@@ -21,7 +21,7 @@ use Rattle.bd_extio.proofs.Places.{range_small}
 use Rattle.bd_space.specs.Allotment.{Allotment, IsFree, IsTaken}
 use Rattle.bd_space.specs.declared.space.Use.TheVariants.{Free}
 use Rattle.bd_space.proofs.Uses.{taken_still}
-use Rattle.bd_catalog.specs.Agreement.{InExtents}
+use Rattle.bd_catalog.specs.Agreement.{InExtents, InFree}
 use Rattle.bd_catalog.specs.Catalogue.{OpenEntry}
 use Rattle.bd_catalog.specs.Rules.{active_holds, row_holds}
 use Rattle.bd_catalog.proofs.Agreeing.{in_extents}
@@ -31,7 +31,7 @@ use Rattle.bd_volume.proofs.Copying.{wider_work}
 use Rattle.bd_volume.proofs.RowsMore.{rows_more-hold}
 use Rattle.bd_volume.proofs.Taking.{taken_apart}
 use Rattle.bd_arrange.specs.Cuts.{InCategory, IsCut, going}
-use Rattle.bd_arrange.specs.Desks.{InFree, InRoom, IsCategory, OnDesk}
+use Rattle.bd_arrange.specs.Desks.{InRoom, IsCategory, OnDesk}
 use Rattle.bd_arrange.specs.Moving.{CanMove, CanSplit, InMoved, IsKeptBy, Moves, SplitsBy, bytes_of, kept_entries, rows_then}
 use Rattle.bd_arrange.specs.declared.cut.Cut.{Cut}
 use Rattle.bd_arrange.specs.declared.cut.Stretch.{Stretch}

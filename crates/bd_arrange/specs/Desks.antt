@@ -2,17 +2,17 @@
 use Rattle.std.specs.Prelude.{◌≡◌, ◌⊎◌, ℕ, ◌+◌, ◌-◌, ◌*◌, ◌≤◌, List, [], ◌∷◌, ◌++◌, length, All, IsTrue}
 use Rattle.std.specs.List.{list_all}
 use Rattle.bd_disk.specs.History.{contents}
-use Rattle.bd_disk.specs.Images.{InRange}
 use Rattle.bd_disk.specs.declared.disk.Disk.{Ghosts}
 use Rattle.bd_model.specs.Room.{up}
-use Rattle.bd_model.specs.Sizes.{Sizes, extent_place}
+use Rattle.bd_model.specs.Sizes.{Sizes}
 use Rattle.bd_model.specs.declared.layout.RecipeEntry.{RecipeEntry}
 use Rattle.bd_category.specs.Laws.{written_records}
 use Rattle.bd_extio.specs.Ranges.{AreExtents, InOwner}
-use Rattle.bd_space.specs.Allotment.{Allotment, extent_count, IsFree, IsTaken, free_count, held_count, TakenExactly}
+use Rattle.bd_space.specs.Allotment.{Allotment, extent_count, IsTaken, free_count, held_count, TakenExactly}
 use Rattle.bd_catalog.specs.Catalogue.{OpenEntry, bytes_of_rows}
 use Rattle.bd_catalog.specs.Rules.{active_holds}
 use Rattle.bd_catalog.specs.Splitting.{KeptEntry, SplitEntry, kept_extents, kept_of}
+use Rattle.bd_catalog.specs.Agreement.{InFree}
 use Rattle.bd_volume.specs.Copies.{AreApart}
 use Rattle.bd_volume.specs.Filled.{Filled}
 use Rattle.bd_volume.specs.Growing.{Appends, AreCounted, NoneLater, rows_after}
@@ -34,12 +34,6 @@ pub record IsCategory (s : Sizes) (space : Allotment) (desk : OnDesk) (a : OpenE
   pub extents : AreExtents s a.extents
   pub taken : All (IsTaken space) a.extents
   pub apart : AreApart a.extents desk.filling.numbers
-
--- a place of an extent that is free
-pub record InFree (s : Sizes) (space : Allotment) (place : ℕ) : Type 0 where
-  pub extent : ℕ
-  pub free : IsFree space extent
-  pub within : InRange (extent_place s extent) s.extent place
 
 -- a place behind the records of the volume, in its extents
 abbrev pub InRest : Sizes → Filled → ℕ → Type 0

@@ -9,6 +9,7 @@ use Rattle.bd_extio.specs.Ranges.{AreExtents, InOwner, IsWithin}
 use Rattle.bd_space.specs.Allotment.{Allotment, IsTaken}
 use Rattle.bd_catalog.specs.Catalogue.{OpenEntry, bytes_of_rows}
 use Rattle.bd_catalog.specs.Splitting.{SplitEntry}
+use Rattle.bd_catalog.specs.Agreement.{InFree}
 use Rattle.bd_recipe.specs.declared.fault.ReadFault.{ReadFault}
 use Rattle.bd_recipe.specs.declared.fault.ReadFault.TheVariants.{DiskFault as ReadDiskFault, OutOfMemory as ReadOutOfMemory}
 use Rattle.bd_volume.specs.Copies.{AreApart, bytes_on}
@@ -19,7 +20,7 @@ use Rattle.bd_volume.specs.declared.copy.Section.{Section}
 use Rattle.bd_volume.specs.declared.fault.AppendFault.{AppendFault}
 use Rattle.bd_volume.specs.declared.fault.AppendFault.TheVariants.{DiskFault, OutOfMemory}
 use Rattle.bd_arrange.specs.Cuts.{going}
-use Rattle.bd_arrange.specs.Desks.{BecomesSplit, InFree, InRest, OnDesk}
+use Rattle.bd_arrange.specs.Desks.{BecomesSplit, InRest, OnDesk}
 use Rattle.bd_arrange.specs.declared.cut.Cut.{Cut}
 use Rattle.bd_arrange.specs.declared.cut.Stretch.{Stretch}
 use Rattle.bd_arrange.specs.declared.cut.Tally.{Tally}

@@ -9,7 +9,7 @@ use Rattle.bd_disk.proofs.Agreeing.{agree_fewer}
 use Rattle.bd_disk.proofs.Frames.{contents_now, leaves_now, made_none, same_contents, same_since, settled_sure}
 use Rattle.bd_model.specs.Sizes.{payload_room}
 use Rattle.bd_gate.specs.Halves.{Half, half_at, newest_half, is_open, turn_at, log_place, InHalf, InHalves}
-use Rattle.bd_gate.specs.Standing.{SameStanding, IsBeside, IsCommitted, next_turn}
+use Rattle.bd_gate.specs.Standing.{SameStanding, IsOlderHalf, IsCommitted, next_turn}
 use Rattle.bd_gate.specs.Standing.{IsOldOrCommitted as IsOldOrFrame}
 use Rattle.bd_gate.proofs.Newest.{other_below}
 use Rattle.bd_gate.proofs.Kept.{beside_newest, turn_after, standing_of_halves, within_halves, superblock_apart}
@@ -39,7 +39,7 @@ module _ (found : Found) (h : History) (agrees : Agrees found h) where
       let small : IfSome (newest_half found.sizes image) (λ k. k ≤ 1) = newest_by-small (is_open found.sizes image 0) (turn_at found.sizes image 0) (is_open found.sizes image 1) (turn_at found.sizes image 1) in
       subst (λ o. IfSome o (λ k. k ≤ 1)) is.newest small
 
-  pub other-beside : IsBeside found.sizes (1 - found.half.number) found.half.other_open h
+  pub other-beside : IsOlderHalf found.sizes (1 - found.half.number) found.half.other_open h
   other-beside = beside_newest found.sizes found.half (made_none _ h) agrees.sure is.newest is.half number-small
 
   pub other-next : (found.half.turn + 1) % 3 ≡ next_turn found.sizes (1 - found.half.number) (contents h)

@@ -7,7 +7,7 @@ ghost use Rattle.bd_disk.specs.Runs.{Writes};
 ghost use Rattle.bd_model.specs.Sizes.{sizes_of, disk_bytes, payload_room};
 ghost use Rattle.bd_gate.specs.Commits.{frame_of};
 ghost use Rattle.bd_gate.specs.Halves.{InHalf, log_place};
-ghost use Rattle.bd_gate.specs.Standing.{IsBeside, next_turn};
+ghost use Rattle.bd_gate.specs.Standing.{IsOlderHalf, next_turn};
 ghost use Rattle.bd_catalog.specs.Rules.{obeys};
 ghost use Rattle.bd_catalog.specs.Shown.{catalogue_of_contents};
 ghost use Rattle.bd_catalog.specs.Spelling.{spelled};
@@ -60,7 +60,7 @@ pub(crate) fn write_beside<D: Disk>(
     requires buffer { length buffer.old ≡ payload_room (sizes_of shape.now) + 10 }
     requires rules { IsTrue (obeys (sizes_of shape.now) (catalogue_of_contents catalogue.now)) }
     requires room { disk_bytes (sizes_of shape.now) ≤ D.bytes disk.old }
-    requires ready { D.tells → IsBeside (sizes_of shape.now) (1 - half.now.number) half.now.other_open (D.history disk.old) }
+    requires ready { D.tells → IsOlderHalf (sizes_of shape.now) (1 - half.now.number) half.now.other_open (D.history disk.old) }
     requires next { D.tells → (half.now.turn + 1) % 3 ≡ next_turn (sizes_of shape.now) (1 - half.now.number) (contents (D.history disk.old)) }
     ensures buffer { length buffer.new ≡ length buffer.old }
     ensures half { IfOk result (λ next. next ≡ next_half half.now (length (spelled (catalogue_of_contents catalogue.now)))) }

@@ -9,7 +9,7 @@ use Rattle.bd_disk.proofs.Frames.{still_now, unchanged}
 use Rattle.bd_model.specs.Sizes.{Sizes, half_bytes, half_place, payload_room}
 use Rattle.bd_gate.specs.Superblock.{eight_at}
 use Rattle.bd_gate.specs.Halves.{Half, half_at, newest_half, is_open, turn_at, payload_of, InHalf, InHalves}
-use Rattle.bd_gate.specs.Standing.{behind, SameStanding, HasFrame, IsBeside, next_turn}
+use Rattle.bd_gate.specs.Standing.{behind, SameStanding, HasFrame, IsOlderHalf, next_turn}
 use Rattle.bd_gate.proofs.Newest.{place, places, other_twice}
 use Rattle.bd_gate.proofs.Standings.{same_halves, newest_of_standing, bytes_of_standing}
 
@@ -111,7 +111,7 @@ half_of_frame s k frame image has =
 
 -- what was found of the newest half is what a commit to the other one asks
 pub beside_newest : (s : Sizes) (half : Half) {a b : History} → WritesNothing a b → IsSure (InHalves s) (contents a) a → newest_half s (contents a) ≡ Some half.number → half ≡ half_at s (contents a) half.number → half.number ≤ 1
-    → IsBeside s (1 - half.number) half.other_open b
+    → IsOlderHalf s (1 - half.number) half.other_open b
 beside_newest s half {a} {b} nothing sure is found few =
     let same : contents b ≡ contents a = unchanged nothing in
     record {

@@ -9,7 +9,7 @@ use Rattle.bd_disk.proofs.Frames.{contents_now, now_since, later, leaves_and, le
 use Rattle.bd_model.specs.Sizes.{Sizes, half_bytes, half_place}
 use Rattle.bd_gate.specs.Superblock.{byte_at, open_gate, closed_gate}
 use Rattle.bd_gate.specs.Halves.{is_open, turn_at, newest_half, InHalf}
-use Rattle.bd_gate.specs.Standing.{behind, SameStanding, HasFrame, IsEither, IsCommitted, IsOldOrCommitted, IsBeside, IsNextTurn, BeginsNextTurn}
+use Rattle.bd_gate.specs.Standing.{behind, SameStanding, HasFrame, IsEither, IsCommitted, IsOldOrCommitted, IsOlderHalf, IsNextTurn, BeginsNextTurn}
 use Rattle.bd_gate.proofs.Newest.{place, opened, turn, newest_is_open, places, other_twice}
 use Rattle.bd_gate.proofs.Standings.{bytes_behind, newest_of_standing, same_halves, filling_image, closing_image, opening_image, opened_image, IsOpenWith}
 
@@ -27,17 +27,17 @@ whole_frame s number a image is = record { newest = is.0; holds = ap (take (leng
 -- ---- by what is written
 
 module _ (s : Sizes) (number : ℕ) (a b : History) (lt : number < 2) where
-  pub close_stops : IsBeside s number true a → WritesOnly (InRange (half_place s number) 1) a b → LeavesSince (SameStanding s (contents a)) a b
+  pub close_stops : IsOlderHalf s number true a → WritesOnly (InRange (half_place s number) 1) a b → LeavesSince (SameStanding s (contents a)) a b
   close_stops beside writes =
       leaves_by_writes _ writes (λ before image now but.
       closing_image (half_bytes s) number (contents a) before image lt (half_is_long s) beside.newest beside.gate (beside.sure.each before now) but)
 
-  pub fill_stops : (n : ℕ) → n + 1 ≤ half_bytes s → IsBeside s number false a → WritesOnly (InRange (half_place s number + 1) n) a b → LeavesSince (SameStanding s (contents a)) a b
+  pub fill_stops : (n : ℕ) → n + 1 ≤ half_bytes s → IsOlderHalf s number false a → WritesOnly (InRange (half_place s number + 1) n) a b → LeavesSince (SameStanding s (contents a)) a b
   fill_stops n fits beside writes =
       leaves_by_writes _ writes (λ before image now but.
       filling_image (half_bytes s) number n (contents a) before image lt fits (half_is_long s) beside.newest beside.gate (beside.sure.each before now) but)
 
-  pub open_stops : IsBeside s number false a → IsNextTurn s number (contents a) → WritesOnly (InRange (half_place s number) 1) a b → LeavesSince (IsEither s number (behind s (contents a) number) (contents a)) a b
+  pub open_stops : IsOlderHalf s number false a → IsNextTurn s number (contents a) → WritesOnly (InRange (half_place s number) 1) a b → LeavesSince (IsEither s number (behind s (contents a) number) (contents a)) a b
   open_stops beside next writes =
       leaves_by_writes _ writes (λ before image now but.
       ⊎_elim (λ same. inl same) (λ is. inr (whole_frame s number (contents a) image is))
@@ -92,19 +92,19 @@ gate_is_no_turn size number lt long r = let p = places size number lt in ⊎_eli
 
 module _ (s : Sizes) (number : ℕ) (lt : number < 2) where
   -- the halves after a write and a sync that left the newest half
-  still_beside : (opened_now : Bool) {at : ℕ} {bytes : List ℕ} {a b : History} → newest_half s (contents a) ≡ Some (1 - number) → LeavesSince (SameStanding s (contents a)) a b → Stores at bytes a b → is_open s (contents b) number ≡ opened_now → IsBeside s number opened_now b
+  still_beside : (opened_now : Bool) {at : ℕ} {bytes : List ℕ} {a b : History} → newest_half s (contents a) ≡ Some (1 - number) → LeavesSince (SameStanding s (contents a)) a b → Stores at bytes a b → is_open s (contents b) number ≡ opened_now → IsOlderHalf s number opened_now b
   still_beside opened_now {at} {bytes} {a} {b} newest_was stops stores gate = record {
     newest = newest_of_standing (half_bytes s) (contents a) (contents b) (contents_left stops) ∙ newest_was;
     gate = gate;
     sure = settled_sure _ stores.settled;
   }
 
-  pub close_done : (a b : History) → 64 + 2 * half_bytes s ≤ length (contents a) → IsBeside s number true a → LeavesSince (SameStanding s (contents a)) a b → Stores (half_place s number) (closed_gate ∷ []) a b → IsBeside s number false b
+  pub close_done : (a b : History) → 64 + 2 * half_bytes s ≤ length (contents a) → IsOlderHalf s number true a → LeavesSince (SameStanding s (contents a)) a b → Stores (half_place s number) (closed_gate ∷ []) a b → IsOlderHalf s number false b
   close_done a b room beside stops stores =
       still_beside false beside.newest stops stores
       (ap (λ image. is_open s image number) stores.holds ∙ ap (λ g. eqb g 79) (gate_written (half_bytes s) number 0 (contents a) lt (half_is_long s) room))
 
-  pub fill_done : (frame : List ℕ) (a b : History) → IsBeside s number false a → LeavesSince (SameStanding s (contents a)) a b → Stores (half_place s number + 1) frame a b → IsBeside s number false b
+  pub fill_done : (frame : List ℕ) (a b : History) → IsOlderHalf s number false a → LeavesSince (SameStanding s (contents a)) a b → Stores (half_place s number + 1) frame a b → IsOlderHalf s number false b
   fill_done frame a b beside stops stores =
       still_beside false beside.newest stops stores (ap (λ image. is_open s image number) stores.holds ∙ gate_kept (half_bytes s) number frame (contents a) ∙ beside.gate)
 
@@ -118,7 +118,7 @@ module _ (s : Sizes) (number : ℕ) (lt : number < 2) where
       ∙ sym (ap (λ image. (turn_at s image (1 - number) + 1) % 3) stores.holds ∙ ap (λ t. (t + 1) % 3) other)
 
   -- the contents after the gate was opened, and so each image
-  open_frame : (a b : History) → 64 + 2 * half_bytes s ≤ length (contents a) → IsBeside s number false a → IsNextTurn s number (contents a) → Stores (half_place s number) (open_gate ∷ []) a b → HasFrame s number (behind s (contents a) number) (contents b)
+  open_frame : (a b : History) → 64 + 2 * half_bytes s ≤ length (contents a) → IsOlderHalf s number false a → IsNextTurn s number (contents a) → Stores (half_place s number) (open_gate ∷ []) a b → HasFrame s number (behind s (contents a) number) (contents b)
   open_frame a b room beside next stores =
       let size = half_bytes s in
       let but = overwrite_agrees (contents a) (half_place s number) (open_gate ∷ []) in
@@ -126,12 +126,12 @@ module _ (s : Sizes) (number : ℕ) (lt : number < 2) where
       subst (HasFrame s number (behind s (contents a) number)) (sym stores.holds)
       (whole_frame s number (contents a) _ (opened_image size number (contents a) _ lt (half_is_long s) beside.newest next (record { size = but.size; each = λ at r. but.each at r.1 }) (ap (λ g. eqb g 79) gate)))
 
-  pub open_done : (a b : History) → 64 + 2 * half_bytes s ≤ length (contents a) → IsBeside s number false a → IsNextTurn s number (contents a) → Stores (half_place s number) (open_gate ∷ []) a b → LeavesNow (HasFrame s number (behind s (contents a) number)) b
+  pub open_done : (a b : History) → 64 + 2 * half_bytes s ≤ length (contents a) → IsOlderHalf s number false a → IsNextTurn s number (contents a) → Stores (half_place s number) (open_gate ∷ []) a b → LeavesNow (HasFrame s number (behind s (contents a) number)) b
   open_done a b room beside next stores = record {
     each = λ image now. subst (HasFrame s number (behind s (contents a) number)) (sym (stores.settled.each image now)) (open_frame a b room beside next stores);
   }
 
-  pub open_next : (a b : History) → 64 + 2 * half_bytes s ≤ length (contents a) → IsBeside s number false a → IsNextTurn s number (contents a) → Stores (half_place s number) (open_gate ∷ []) a b → IsBeside s (1 - number) true b
+  pub open_next : (a b : History) → 64 + 2 * half_bytes s ≤ length (contents a) → IsOlderHalf s number false a → IsNextTurn s number (contents a) → Stores (half_place s number) (open_gate ∷ []) a b → IsOlderHalf s (1 - number) true b
   open_next a b room beside next stores = record {
     newest = (open_frame a b room beside next stores).newest ∙ ap Some (sym (other_twice number lt));
     gate = ap (λ image. is_open s image (1 - number)) stores.holds
@@ -141,7 +141,7 @@ module _ (s : Sizes) (number : ℕ) (lt : number < 2) where
   }
 
   -- where nothing is done
-  pub nothing_stops : (opened_now : Bool) (a : History) → IsBeside s number opened_now a → LeavesSince (SameStanding s (contents a)) a a
+  pub nothing_stops : (opened_now : Bool) (a : History) → IsOlderHalf s number opened_now a → LeavesSince (SameStanding s (contents a)) a a
   nothing_stops opened_now a beside = leaves_same refl (record { each = λ image now. same_halves (half_bytes s) (contents a) image (half_is_long s) (beside.sure.each image now) })
 
   -- the gate of this half is no part of the turn of the other

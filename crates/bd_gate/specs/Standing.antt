@@ -63,7 +63,7 @@ LeavesCommitted s number frame old new = LeavesNow (IsCommitted s number frame (
 
 -- The other half is the newest, and this one is open or closed as said. Both are the same in each image that a stop may
 -- leave.
-pub record IsBeside (s : Sizes) (number : ℕ) (opened : Bool) (h : History) : Type 0 where
+pub record IsOlderHalf (s : Sizes) (number : ℕ) (opened : Bool) (h : History) : Type 0 where
   pub newest : newest_half s (contents h) ≡ Some (1 - number)
   pub gate : is_open s (contents h) number ≡ opened
   pub sure : IsSure (InHalves s) (contents h) h

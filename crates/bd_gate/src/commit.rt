@@ -8,7 +8,7 @@ ghost use Rattle.bd_disk.specs.Runs.{Writes};
 ghost use Rattle.bd_model.specs.Sizes.{sizes_of, disk_bytes, half_bytes, half_place};
 ghost use Rattle.bd_gate.specs.Commits.{closing_calls, commit_calls, IsStored};
 ghost use Rattle.bd_gate.specs.Halves.{InFrame, InGate, InHalf};
-ghost use Rattle.bd_gate.specs.Standing.{IsBeside, IsNextTurn, BeginsNextTurn, BringsNextTurn, KeepsStanding, KeepsOrOpens, KeepsOrCommits, LeavesOpened, LeavesCommitted};
+ghost use Rattle.bd_gate.specs.Standing.{IsOlderHalf, IsNextTurn, BeginsNextTurn, BringsNextTurn, KeepsStanding, KeepsOrOpens, KeepsOrCommits, LeavesOpened, LeavesCommitted};
 ghost use Rattle.bd_gate.specs.Superblock.{open_gate, closed_gate};
 
 use crate::half::{CLOSED_GATE, OPEN_GATE, place_of_half};
@@ -34,7 +34,7 @@ pub fn store<D: Disk>(disk: &mut D, at: u64, from: &[u8]) -> Result<(), Failed>
 pub fn close_half<D: Disk>(disk: &mut D, shape: &Shape, number: u8) -> Result<(), Failed>
     requires number { number < 2 }
     requires room { disk_bytes (sizes_of shape.now) ≤ D.bytes disk.old }
-    requires ready { D.tells → IsBeside (sizes_of shape.now) number true (D.history disk.old) }
+    requires ready { D.tells → IsOlderHalf (sizes_of shape.now) number true (D.history disk.old) }
     ensures disk { Writes D.Disk (InGate (sizes_of shape.now) number) disk.old disk.new }
     ensures cause { HasCause (D.faults disk.old) (D.faults disk.new) result }
     ensures stops { D.tells → KeepsStanding (sizes_of shape.now) (D.history disk.old) (D.history disk.new) }
@@ -42,7 +42,7 @@ pub fn close_half<D: Disk>(disk: &mut D, shape: &Shape, number: u8) -> Result<()
         IsStored (half_place (sizes_of shape.now) number) (closed_gate ∷ []) (D.history disk.old) (D.history disk.new)) }
     // The half can be filled.
     ensures done { OnOk result (D.tells →
-        IsBeside (sizes_of shape.now) number false (D.history disk.new)) }
+        IsOlderHalf (sizes_of shape.now) number false (D.history disk.new)) }
 {
     let place = place_of_half(shape, number);
     store(disk, place, &[CLOSED_GATE])?;
@@ -63,7 +63,7 @@ pub fn fill_half<D: Disk>(
     requires room { disk_bytes (sizes_of shape.now) ≤ D.bytes disk.old }
     requires some { 1 ≤ length frame.now }
     requires fits { length frame.now + 1 ≤ half_bytes (sizes_of shape.now) }
-    requires ready { D.tells → IsBeside (sizes_of shape.now) number false (D.history disk.old) }
+    requires ready { D.tells → IsOlderHalf (sizes_of shape.now) number false (D.history disk.old) }
     ensures disk { Writes D.Disk (InFrame (sizes_of shape.now) number (length frame.now)) disk.old disk.new }
     ensures cause { HasCause (D.faults disk.old) (D.faults disk.new) result }
     ensures stops { D.tells → KeepsStanding (sizes_of shape.now) (D.history disk.old) (D.history disk.new) }
@@ -71,7 +71,7 @@ pub fn fill_half<D: Disk>(
         IsStored (half_place (sizes_of shape.now) number + 1) frame.now (D.history disk.old) (D.history disk.new)) }
     // The half can be opened, if the frame begins with the next turn.
     ensures done { OnOk result (D.tells →
-        IsBeside (sizes_of shape.now) number false (D.history disk.new)) }
+        IsOlderHalf (sizes_of shape.now) number false (D.history disk.new)) }
     ensures turn { OnOk result (D.tells →
         BringsNextTurn (sizes_of shape.now) number frame.now (D.history disk.old) (D.history disk.new)) }
 {
@@ -86,7 +86,7 @@ pub fn fill_half<D: Disk>(
 pub fn open_half<D: Disk>(disk: &mut D, shape: &Shape, number: u8) -> Result<(), Failed>
     requires number { number < 2 }
     requires room { disk_bytes (sizes_of shape.now) ≤ D.bytes disk.old }
-    requires ready { D.tells → IsBeside (sizes_of shape.now) number false (D.history disk.old) }
+    requires ready { D.tells → IsOlderHalf (sizes_of shape.now) number false (D.history disk.old) }
     requires turn { D.tells →
         IsNextTurn (sizes_of shape.now) number (contents (D.history disk.old)) }
     ensures disk { Writes D.Disk (InGate (sizes_of shape.now) number) disk.old disk.new }
@@ -97,7 +97,7 @@ pub fn open_half<D: Disk>(disk: &mut D, shape: &Shape, number: u8) -> Result<(),
     ensures done { OnOk result (D.tells → LeavesOpened (sizes_of shape.now) number (D.history disk.old) (D.history disk.new)) }
     // The other half is open, and is the next one to be closed.
     ensures next { OnOk result (D.tells →
-        IsBeside (sizes_of shape.now) (1 - number) true (D.history disk.new)) }
+        IsOlderHalf (sizes_of shape.now) (1 - number) true (D.history disk.new)) }
 {
     let place = place_of_half(shape, number);
     store(disk, place, &[OPEN_GATE])?;
@@ -114,7 +114,7 @@ fn close_where_open<D: Disk>(
 ) -> Result<(), Failed>
     requires number { number < 2 }
     requires room { disk_bytes (sizes_of shape.now) ≤ D.bytes disk.old }
-    requires ready { D.tells → IsBeside (sizes_of shape.now) number is_open (D.history disk.old) }
+    requires ready { D.tells → IsOlderHalf (sizes_of shape.now) number is_open (D.history disk.old) }
     ensures disk { Writes D.Disk (InGate (sizes_of shape.now) number) disk.old disk.new }
     ensures cause { HasCause (D.faults disk.old) (D.faults disk.new) result }
     ensures stops { D.tells → KeepsStanding (sizes_of shape.now) (D.history disk.old) (D.history disk.new) }
@@ -122,7 +122,7 @@ fn close_where_open<D: Disk>(
         Makes (closing_calls (sizes_of shape.now) number is_open)
         (D.history disk.old) (D.history disk.new)) }
     ensures done { OnOk result (D.tells →
-        IsBeside (sizes_of shape.now) number false (D.history disk.new)) }
+        IsOlderHalf (sizes_of shape.now) number false (D.history disk.new)) }
 {
     if !is_open {
         return Ok(());
@@ -147,7 +147,7 @@ pub fn commit_frame<D: Disk>(
     requires room { disk_bytes (sizes_of shape.now) ≤ D.bytes disk.old }
     requires some { 1 ≤ length frame.now }
     requires fits { length frame.now + 1 ≤ half_bytes (sizes_of shape.now) }
-    requires ready { D.tells → IsBeside (sizes_of shape.now) number is_open (D.history disk.old) }
+    requires ready { D.tells → IsOlderHalf (sizes_of shape.now) number is_open (D.history disk.old) }
     requires turn { D.tells →
         BeginsNextTurn (sizes_of shape.now) number frame.now (contents (D.history disk.old)) }
     ensures disk { Writes D.Disk (InHalf (sizes_of shape.now) number) disk.old disk.new }
@@ -164,7 +164,7 @@ pub fn commit_frame<D: Disk>(
         LeavesCommitted (sizes_of shape.now) number frame.now (D.history disk.old) (D.history disk.new)) }
     // The other half is open, and is the next one to be written.
     ensures next { OnOk result (D.tells →
-        IsBeside (sizes_of shape.now) (1 - number) true (D.history disk.new)) }
+        IsOlderHalf (sizes_of shape.now) (1 - number) true (D.history disk.new)) }
 {
     close_where_open(disk, shape, number, is_open)?;
     fill_half(disk, shape, number, frame)?;

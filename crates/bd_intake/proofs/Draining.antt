@@ -17,6 +17,7 @@ use Rattle.bd_space.specs.Allotment.{Allotment, held_count}
 use Rattle.bd_gear.specs.Chunking.{Chunking, next_len}
 use Rattle.bd_gear.specs.Feeding.{HasFed, place_after}
 use Rattle.bd_gear.proofs.NextLemmas.{next_len-within}
+use Rattle.bd_catalog.specs.Agreement.{InExtents}
 use Rattle.bd_intake.specs.declared.fault.IntakeFault.{IntakeFault}
 use Rattle.bd_intake.specs.declared.fault.IntakeFault.TheVariants.{Full, SourceFault, DiskFault, OutOfMemory}
 use Rattle.bd_intake.specs.declared.staging.Staging.{Staging}
@@ -24,7 +25,6 @@ use Rattle.bd_intake.specs.Answers.{RefusesRoom}
 use Rattle.bd_intake.specs.Firsts.{cut_in, extents_of, new_by_mark}
 use Rattle.bd_intake.specs.Given.{Given}
 use Rattle.bd_intake.specs.Needs.{RefusesChunks}
-use Rattle.bd_intake.specs.Places.{InOneOf}
 use Rattle.bd_intake.specs.Staging.{Goes, Grows, HasPut, HasTaken, IsFed, IsStaging, staged_extents}
 use Rattle.bd_intake.proofs.Firsts.{counted-first}
 use Rattle.bd_intake.proofs.Growing.{grows_none, grows_both}
@@ -40,7 +40,7 @@ next-short s c n fed given =
 -- ---- extents that were written stay among those that are staged
 
 module _ (s : Sizes) {space one : Allotment} {a b : Staging} (grows : Grows space one a b) {D : Type 0} {g : Ghosts D} where
-  wider : {x y : D} → Writes g (InOneOf s (staged_extents a)) x y → Writes g (InOneOf s (staged_extents b)) x y
+  wider : {x y : D} → Writes g (InExtents s (staged_extents a)) x y → Writes g (InExtents s (staged_extents b)) x y
   wider writes = wider_writes _ (λ place r. record {
     extent = r.extent;
     among = ⊎_elim
@@ -51,13 +51,13 @@ module _ (s : Sizes) {space one : Allotment} {a b : Staging} (grows : Grows spac
   }) writes
 
   -- and those that are written then
-  pub writes_on : {x y z : D} → Writes g (InOneOf s (staged_extents a)) x y → Writes g (InOneOf s (staged_extents b)) y z → Writes g (InOneOf s (staged_extents b)) x z
+  pub writes_on : {x y z : D} → Writes g (InExtents s (staged_extents a)) x y → Writes g (InExtents s (staged_extents b)) y z → Writes g (InExtents s (staged_extents b)) x z
   writes_on first next = both_writes (wider first) next
 
 -- what is put changes no extents
 pub writes_after : (s : Sizes) (a b : Staging) → b ≡ record a { records = b.records; entries = b.entries } → {D : Type 0} {g : Ghosts D} {x y z : D} →
-    Writes g (InOneOf s (staged_extents a)) x y → Writes g (InOneOf s (staged_extents a)) y z → Writes g (InOneOf s (staged_extents b)) x z
-writes_after s a b same {D} {g} {x} {y} {z} first next = subst (λ (d : Staging). Writes g (InOneOf s (staged_extents d)) x z) (sym same) (both_writes first next)
+    Writes g (InExtents s (staged_extents a)) x y → Writes g (InExtents s (staged_extents a)) y z → Writes g (InExtents s (staged_extents b)) x z
+writes_after s a b same {D} {g} {x} {y} {z} first next = subst (λ (d : Staging). Writes g (InExtents s (staged_extents d)) x z) (sym same) (both_writes first next)
 
 -- ---- the loop
 

@@ -25,6 +25,7 @@ use Rattle.bd_catalog.specs.Rules.{obeys}
 use Rattle.bd_catalog.specs.Shown.{version_entry}
 use Rattle.bd_catalog.specs.Standing.{BeginWith}
 use Rattle.bd_catalog.specs.Steps.{FitsBackup, fresh_entries}
+use Rattle.bd_catalog.specs.Agreement.{InExtents, InFree}
 use Rattle.bd_intake.specs.declared.staged.Staged.{Staged}
 use Rattle.std.proofs.lemmas.List.{append-nil, nil_from_length}
 use Rattle.bd_model.specs.Chunks.{chunks}
@@ -44,7 +45,6 @@ use Rattle.bd_intake.specs.Filling.{Filled, HasStream, LeavesFiles}
 use Rattle.bd_intake.specs.Firsts.{cut_in, first_by_mark, new_by_mark}
 use Rattle.bd_intake.specs.Given.{Given, given}
 use Rattle.bd_intake.specs.Needs.{Needs, RefusesChunks, need_in}
-use Rattle.bd_intake.specs.Places.{InOneOf, InFree}
 use Rattle.bd_intake.specs.Putting.{Held, IsPut, put_count}
 use Rattle.bd_intake.specs.Spaces.{Owns}
 use Rattle.bd_intake.specs.Staging.{Goes, HasPut, HasTaken, HasExtents, HasWritten, IsStaging}
@@ -131,7 +131,7 @@ begin_put t a image entries records = record {
 
 -- ---- where it was written
 
-pub in_free : (s : Sizes) (base : List ℕ) (first space : Allotment) (recipe fresh : List ℕ) {D : Type 0} {g : Ghosts D} {x y : D} → Owns base first space recipe fresh → Writes g (InOneOf s (recipe ++ fresh)) x y → Writes g (InFree s first) x y
+pub in_free : (s : Sizes) (base : List ℕ) (first space : Allotment) (recipe fresh : List ℕ) {D : Type 0} {g : Ghosts D} {x y : D} → Owns base first space recipe fresh → Writes g (InExtents s (recipe ++ fresh)) x y → Writes g (InFree s first) x y
 in_free s base first space recipe fresh owns writes =
     wider_writes _ (λ place r. record { extent = r.extent; free = All-contains (IsFree first) (recipe ++ fresh) r.extent owns.were_free r.among; within = r.within }) writes
 

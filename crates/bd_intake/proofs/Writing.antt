@@ -20,7 +20,6 @@ use Rattle.bd_extio.proofs.Places.{length-owner_bytes}
 use Rattle.bd_catalog.specs.Standing.{BeginWith}
 use Rattle.bd_catalog.specs.Agreement.{InExtents}
 use Rattle.bd_catalog.proofs.Agreeing.{in_extents, owners_apart, begin_with_agrees, begin_with_more}
-use Rattle.bd_intake.specs.Places.{InOneOf}
 use Rattle.bd_intake.specs.Putting.{Held, IsPut, IsPutOn, put_count}
 use Rattle.bd_intake.proofs.Firsts.{entry}
 
@@ -33,13 +32,13 @@ entries-more old v cs c = map-append (entry old v) cs (c ∷ [])
 -- ---- one owner
 
 module _ (s : Sizes) (extents : List ℕ) (some : 1 ≤ s.extent) where
-  in_one_of : (at n : ℕ) → at + n ≤ length extents * s.extent → (place : ℕ) → InOwner s extents at n place → InOneOf s extents place
+  in_one_of : (at n : ℕ) → at + n ≤ length extents * s.extent → (place : ℕ) → InOwner s extents at n place → InExtents s extents place
   in_one_of at n fits place r =
       let i = at + r.k in
       let inside : InExtents s extents (extent_place s (get_or extents (i / s.extent) 0) + i % s.extent) = in_extents s extents some i (omega (arith, r.within, fits)) in
-      subst (InOneOf s extents) (sym r.so) (record { extent = inside.extent; among = inside.among; within = inside.within })
+      subst (InExtents s extents) (sym r.so) (record { extent = inside.extent; among = inside.among; within = inside.within })
 
-  pub owner_writes : (at n : ℕ) → at + n ≤ length extents * s.extent → {D : Type 0} {g : Ghosts D} {a b : D} → Writes g (InOwner s extents at n) a b → Writes g (InOneOf s extents) a b
+  pub owner_writes : (at n : ℕ) → at + n ≤ length extents * s.extent → {D : Type 0} {g : Ghosts D} {a b : D} → Writes g (InOwner s extents at n) a b → Writes g (InExtents s extents) a b
   owner_writes at n fits writes = wider_writes _ (λ place r. in_one_of at n fits place r) writes
 
   module _ (are : AreExtents s extents) (old new : List ℕ) (room : disk_bytes s ≤ length old) where
@@ -65,24 +64,24 @@ all_written s extents p bytes image none before =
 
 -- ---- two owners
 
-pub one_writes : (s : Sizes) (extents more : List ℕ) {D : Type 0} {g : Ghosts D} {a b : D} → Writes g (InOneOf s extents) a b → Writes g (InOneOf s (extents ++ more)) a b
+pub one_writes : (s : Sizes) (extents more : List ℕ) {D : Type 0} {g : Ghosts D} {a b : D} → Writes g (InExtents s extents) a b → Writes g (InExtents s (extents ++ more)) a b
 one_writes s extents more writes = wider_writes _ (λ place r. record { extent = r.extent; among = Contains-append_left extents more r.extent r.among; within = r.within }) writes
 
-pub other_writes : (s : Sizes) (extents more : List ℕ) {D : Type 0} {g : Ghosts D} {a b : D} → Writes g (InOneOf s more) a b → Writes g (InOneOf s (extents ++ more)) a b
+pub other_writes : (s : Sizes) (extents more : List ℕ) {D : Type 0} {g : Ghosts D} {a b : D} → Writes g (InExtents s more) a b → Writes g (InExtents s (extents ++ more)) a b
 other_writes s extents more writes = wider_writes _ (λ place r. record { extent = r.extent; among = Contains-append_right extents more r.extent r.among; within = r.within }) writes
 
 -- what one owner's bytes begin with stays while another's are written
-still_begins : (s : Sizes) (extents others bytes : List ℕ) → ((e : ℕ) → Contains extents e → Contains others e → ⊥) → {D : Type 0} {g : Ghosts D} {a b : D} → Writes g (InOneOf s others) a b → g.tells →
+still_begins : (s : Sizes) (extents others bytes : List ℕ) → ((e : ℕ) → Contains extents e → Contains others e → ⊥) → {D : Type 0} {g : Ghosts D} {a b : D} → Writes g (InExtents s others) a b → g.tells →
     BeginWith s extents bytes (contents (g.history a)) → BeginWith s extents bytes (contents (g.history b))
 still_begins s extents others bytes apart {D} {g} {a} {b} writes told begins =
     begin_with_agrees s extents bytes (contents (g.history a)) (contents (g.history b))
-    (agree_fewer (λ place. InOneOf s others place → ⊥) (InExtents s extents) (contents (g.history a)) (contents (g.history b))
+    (agree_fewer (λ place. InExtents s others place → ⊥) (InExtents s extents) (contents (g.history a)) (contents (g.history b))
     (λ place inside other. owners_apart s extents others apart place inside (record { extent = other.extent; among = other.among; within = other.within }))
     (same_contents (written writes told)))
     begins
 
 -- and so does what was put
-pub still_put : (s : Sizes) (extents others : List ℕ) (p : Held) (bytes : List ℕ) → ((e : ℕ) → Contains extents e → Contains others e → ⊥) → {D : Type 0} {g : Ghosts D} {a b : D} → Writes g (InOneOf s others) a b → g.tells →
+pub still_put : (s : Sizes) (extents others : List ℕ) (p : Held) (bytes : List ℕ) → ((e : ℕ) → Contains extents e → Contains others e → ⊥) → {D : Type 0} {g : Ghosts D} {a b : D} → Writes g (InExtents s others) a b → g.tells →
     IsPutOn g s extents p bytes a → IsPutOn g s extents p bytes b
 still_put s extents others p bytes apart writes told before =
     record { first = before.first; so = before.so; count = before.count; begins = still_begins s extents others before.first apart writes told before.begins }

@@ -1,26 +1,12 @@
 -- Places on the disk, by the extents in which they lie.
 use Rattle.std.specs.Prelude.{ℕ, Bool, List, [], ◌∷◌, ◌++◌, Contains}
-use Rattle.bd_disk.specs.Images.{InRange}
 use Rattle.bd_disk.specs.declared.disk.Disk.{Ghosts}
 use Rattle.bd_model.specs.Records.{records_of, spelled_recipe}
-use Rattle.bd_model.specs.Sizes.{Sizes, extent_place}
+use Rattle.bd_model.specs.Sizes.{Sizes}
 use Rattle.bd_model.specs.declared.layout.RecipeEntry.{RecipeEntry}
-use Rattle.bd_space.specs.Allotment.{Allotment, IsFree}
 use Rattle.bd_extio.specs.Ranges.{AreExtents}
 use Rattle.bd_intake.specs.Firsts.{with_new}
 use Rattle.bd_intake.specs.Putting.{Held, IsPutOn}
-
--- a place in one of these extents
-pub record InOneOf (s : Sizes) (extents : List ℕ) (place : ℕ) : Type 0 where
-  pub extent : ℕ
-  pub among : Contains extents extent
-  pub within : InRange (extent_place s extent) s.extent place
-
--- a place in an extent that is free in the space
-pub record InFree (s : Sizes) (space : Allotment) (place : ℕ) : Type 0 where
-  pub extent : ℕ
-  pub free : IsFree space extent
-  pub within : InRange (extent_place s extent) s.extent place
 
 -- two owners' extents, none of which is the other's
 pub record AreApart (s : Sizes) (recipe fresh : List ℕ) : Type 0 where

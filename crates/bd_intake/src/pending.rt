@@ -4,7 +4,7 @@ ghost use Rattle.bd_disk.specs.Calls.{HasCause};
 ghost use Rattle.bd_disk.specs.Runs.{Writes};
 ghost use Rattle.bd_model.specs.Sizes.{sizes_of, disk_bytes};
 ghost use Rattle.bd_extio.specs.Ranges.{AreExtents, IsWithin};
-ghost use Rattle.bd_intake.specs.Places.{InOneOf};
+ghost use Rattle.bd_catalog.specs.Agreement.{InExtents};
 ghost use Rattle.bd_intake.specs.Putting.{KeepsPut, Puts, put_count};
 
 use bd_disk::{Disk, Failed};
@@ -59,7 +59,7 @@ impl Pending {
         requires numbers { AreExtents (sizes_of shape.now) extents.now }
         requires range { IsWithin (sizes_of shape.now) extents.now self.old.written (length self.old.held) }
         requires short { length bytes.now ≤ 262144 }
-        ensures disk { Writes D.Disk (InOneOf (sizes_of shape.now) extents.now) disk.old disk.new }
+        ensures disk { Writes D.Disk (InExtents (sizes_of shape.now) extents.now) disk.old disk.new }
         ensures cause { HasCause (D.faults disk.old) (D.faults disk.new) result }
         ensures count { OnOk result (put_count self.new ≡ put_count self.old + length bytes.now) }
         ensures put { OnOk result (Puts D.Disk (sizes_of shape.now) extents.now bytes.now self.old self.new disk.old disk.new) }
@@ -81,7 +81,7 @@ impl Pending {
         requires numbers { AreExtents (sizes_of shape.now) extents.now }
         requires range { IsWithin (sizes_of shape.now) extents.now self.old.written (length self.old.held) }
         requires short { more ≤ 262144 }
-        ensures disk { Writes D.Disk (InOneOf (sizes_of shape.now) extents.now) disk.old disk.new }
+        ensures disk { Writes D.Disk (InExtents (sizes_of shape.now) extents.now) disk.old disk.new }
         ensures cause { HasCause (D.faults disk.old) (D.faults disk.new) result }
         ensures fits { OnOk result (length self.new.held + more ≤ 262144) }
         ensures count { OnOk result (put_count self.new ≡ put_count self.old) }
@@ -103,7 +103,7 @@ impl Pending {
         requires room { disk_bytes (sizes_of shape.now) ≤ D.bytes disk.old }
         requires numbers { AreExtents (sizes_of shape.now) extents.now }
         requires range { IsWithin (sizes_of shape.now) extents.now self.old.written (length self.old.held) }
-        ensures disk { Writes D.Disk (InOneOf (sizes_of shape.now) extents.now) disk.old disk.new }
+        ensures disk { Writes D.Disk (InExtents (sizes_of shape.now) extents.now) disk.old disk.new }
         ensures cause { HasCause (D.faults disk.old) (D.faults disk.new) result }
         ensures none { OnOk result (self.new.held ≡ []) }
         ensures count { OnOk result (self.new.written ≡ put_count self.old) }

@@ -5,7 +5,8 @@ ghost use Rattle.bd_disk.specs.Runs.{Writes};
 ghost use Rattle.bd_model.specs.Marks.{mark};
 ghost use Rattle.bd_model.specs.Sizes.{sizes_of, disk_bytes};
 ghost use Rattle.bd_extio.specs.Ranges.{AreExtents, IsWithin};
-ghost use Rattle.bd_intake.specs.Places.{AddsEntry, AddsRecord, AreApart, InOneOf};
+ghost use Rattle.bd_catalog.specs.Agreement.{InExtents};
+ghost use Rattle.bd_intake.specs.Places.{AddsEntry, AddsRecord, AreApart};
 ghost use Rattle.bd_intake.specs.Putting.{put_count};
 ghost use Rattle.bd_intake.specs.Staging.{WritesOut, staged_extents};
 
@@ -31,7 +32,7 @@ fn put_record<D: Disk>(
     requires range { IsTrue is_new → IsWithin (sizes_of shape.now) extents.now pending.old.written (length pending.old.held + (36 + length body.now)) }
     requires short { length body.now ≤ 65536 }
     requires marked { own.now.0 ≡ mark body.now }
-    ensures disk { Writes D.Disk (InOneOf (sizes_of shape.now) extents.now) disk.old disk.new }
+    ensures disk { Writes D.Disk (InExtents (sizes_of shape.now) extents.now) disk.old disk.new }
     ensures cause { HasCause (D.faults disk.old) (D.faults disk.new) result }
     ensures count { OnOk result (put_count pending.new ≡ put_count pending.old + (if is_new then 36 + length body.now else 0)) }
     ensures put { OnOk result (AddsRecord D.Disk (sizes_of shape.now) extents.now is_new body.now pending.old pending.new disk.old disk.new) }
@@ -56,7 +57,7 @@ fn put_own_entry<D: Disk>(
     requires room { disk_bytes (sizes_of shape.now) ≤ D.bytes disk.old }
     requires numbers { AreExtents (sizes_of shape.now) extents.now }
     requires range { IsWithin (sizes_of shape.now) extents.now pending.old.written (length pending.old.held) }
-    ensures disk { Writes D.Disk (InOneOf (sizes_of shape.now) extents.now) disk.old disk.new }
+    ensures disk { Writes D.Disk (InExtents (sizes_of shape.now) extents.now) disk.old disk.new }
     ensures cause { HasCause (D.faults disk.old) (D.faults disk.new) result }
     ensures count { OnOk result (put_count pending.new ≡ put_count pending.old + 40) }
     ensures put { OnOk result (AddsEntry D.Disk (sizes_of shape.now) extents.now entry.now pending.old pending.new disk.old disk.new) }
@@ -81,7 +82,7 @@ pub(crate) fn put_parts<D: Disk>(
     requires entry_range { IsWithin (sizes_of shape.now) staging.old.recipe.numbers staging.old.entries.written (length staging.old.entries.held) }
     requires short { length body.now ≤ 65536 }
     requires marked { entry.now.mark.0 ≡ mark body.now }
-    ensures disk { Writes D.Disk (InOneOf (sizes_of shape.now) (staged_extents staging.old)) disk.old disk.new }
+    ensures disk { Writes D.Disk (InExtents (sizes_of shape.now) (staged_extents staging.old)) disk.old disk.new }
     ensures cause { HasCause (D.faults disk.old) (D.faults disk.new) result }
     ensures same { staging.new ≡ record staging.old { records = staging.new.records; entries = staging.new.entries } }
     ensures record_count { OnOk result (put_count staging.new.records ≡ put_count staging.old.records + (if is_new then 36 + length body.now else 0)) }
@@ -118,7 +119,7 @@ pub(crate) fn write_out<D: Disk>(
     requires numbers { AreApart (sizes_of shape.now) staging.old.recipe.numbers staging.old.fresh.numbers }
     requires record_range { IsWithin (sizes_of shape.now) staging.old.fresh.numbers staging.old.records.written (length staging.old.records.held) }
     requires entry_range { IsWithin (sizes_of shape.now) staging.old.recipe.numbers staging.old.entries.written (length staging.old.entries.held) }
-    ensures disk { Writes D.Disk (InOneOf (sizes_of shape.now) (staged_extents staging.old)) disk.old disk.new }
+    ensures disk { Writes D.Disk (InExtents (sizes_of shape.now) (staged_extents staging.old)) disk.old disk.new }
     ensures cause { HasCause (D.faults disk.old) (D.faults disk.new) result }
     ensures same { staging.new ≡ record staging.old { records = staging.new.records; entries = staging.new.entries } }
     ensures record_count { OnOk result (put_count staging.new.records ≡ put_count staging.old.records) }

@@ -5,10 +5,10 @@ ghost use Rattle.bd_disk.specs.Runs.{Writes};
 ghost use Rattle.bd_files.specs.Files.{Fetches};
 ghost use Rattle.bd_model.specs.Sizes.{sizes_of, disk_bytes};
 ghost use Rattle.bd_space.specs.Allotment.{held_count};
+ghost use Rattle.bd_catalog.specs.Agreement.{InExtents};
 ghost use Rattle.bd_intake.specs.Causes.{FailsByCount, FailsByDisk, FailsBySource};
 ghost use Rattle.bd_intake.specs.Filling.{Filled, Fills, LeavesFiles};
 ghost use Rattle.bd_intake.specs.Given.{given};
-ghost use Rattle.bd_intake.specs.Places.{InOneOf};
 ghost use Rattle.bd_intake.specs.Staging.{Grows, IsFed, IsStaging, staged_extents};
 ghost use Rattle.bd_intake.specs.Taking.{RefusesPiece, RefusesSource, TakesPiece};
 
@@ -58,7 +58,7 @@ fn take_piece<D: Disk>(
     requires few { length piece.now ≤ 65536 }
     requires open { IsFalse chunker.old.finished }
     requires short { length chunker.old.held < 65536 }
-    ensures disk { Writes D.Disk (InOneOf (sizes_of terms.now.shape) (staged_extents staging.new)) disk.old disk.new }
+    ensures disk { Writes D.Disk (InExtents (sizes_of terms.now.shape) (staged_extents staging.new)) disk.old disk.new }
     ensures cause { FailsByDisk (D.faults disk.old) (D.faults disk.new) result }
     ensures grows { Grows space.old space.new staging.old staging.new }
     ensures staging { OnOk result (IsStaging (given terms.now) space.new staging.new) }
@@ -86,7 +86,7 @@ pub(crate) fn fill<D: Disk, F: Files>(
     requires open { IsFalse chunker.old.finished }
     requires short { length chunker.old.held < 65536 }
     requires fills { Fills (given terms.now) 0 chunker.old staging.old D.tells (contents (D.history disk.old)) F.tells (F.files files.old) name.now }
-    ensures disk { Writes D.Disk (InOneOf (sizes_of terms.now.shape) (staged_extents staging.new)) disk.old disk.new }
+    ensures disk { Writes D.Disk (InExtents (sizes_of terms.now.shape) (staged_extents staging.new)) disk.old disk.new }
     ensures cause { FailsByCount (D.faults disk.old) (D.faults disk.new) (F.source_faults files.old) (F.source_faults files.new) result }
     ensures files { LeavesFiles F.Files name.now files.old files.new result }
     ensures grows { Grows space.old space.new staging.old staging.new }

@@ -3,9 +3,9 @@ ghost use Rattle.std.specs.Prelude.{◌≡◌, ℕ, ◌+◌, ◌≤◌, List, []
 ghost use Rattle.bd_disk.specs.Runs.{Writes};
 ghost use Rattle.bd_model.specs.Sizes.{sizes_of, disk_bytes};
 ghost use Rattle.bd_space.specs.Allotment.{held_count};
+ghost use Rattle.bd_catalog.specs.Agreement.{InExtents};
 ghost use Rattle.bd_intake.specs.Causes.{FailsByDisk};
 ghost use Rattle.bd_intake.specs.Given.{given};
-ghost use Rattle.bd_intake.specs.Places.{InOneOf};
 ghost use Rattle.bd_intake.specs.Staging.{Grows, IsStaging, PutsChunk, staged_extents};
 ghost use Rattle.bd_intake.specs.Taking.{RefusesChunk, TakesChunk};
 
@@ -57,7 +57,7 @@ pub(crate) fn take_chunk<D: Disk>(
     requires staging { IsStaging (given terms.now) space.old staging.old }
     requires some { 1 ≤ length body.now }
     requires short { length body.now ≤ terms.now.shape.max }
-    ensures disk { Writes D.Disk (InOneOf (sizes_of terms.now.shape) (staged_extents staging.new)) disk.old disk.new }
+    ensures disk { Writes D.Disk (InExtents (sizes_of terms.now.shape) (staged_extents staging.new)) disk.old disk.new }
     ensures cause { FailsByDisk (D.faults disk.old) (D.faults disk.new) result }
     ensures grows { Grows space.old space.new staging.old staging.new }
     ensures staging { OnOk result (IsStaging (given terms.now) space.new staging.new) }

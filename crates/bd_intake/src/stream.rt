@@ -3,9 +3,9 @@ ghost use Rattle.std.specs.Prelude.{◌≡◌, ℕ, ◌<◌, ◌≤◌, List, []
 ghost use Rattle.bd_disk.specs.Runs.{Writes};
 ghost use Rattle.bd_model.specs.Sizes.{sizes_of, disk_bytes};
 ghost use Rattle.bd_space.specs.Allotment.{held_count};
+ghost use Rattle.bd_catalog.specs.Agreement.{InExtents};
 ghost use Rattle.bd_intake.specs.Causes.{FailsByDisk};
 ghost use Rattle.bd_intake.specs.Given.{given};
-ghost use Rattle.bd_intake.specs.Places.{InOneOf};
 ghost use Rattle.bd_intake.specs.Staging.{Grows, IsFed, IsStaging, staged_extents};
 ghost use Rattle.bd_intake.specs.Taking.{RefusesDecided, TakesDecided};
 
@@ -27,7 +27,7 @@ pub(crate) fn take_chunks<D: Disk>(
     requires room { disk_bytes (sizes_of terms.now.shape) ≤ D.bytes disk.old }
     requires staging { IsStaging (given terms.now) space.old staging.old }
     requires fed { IsFed (sizes_of terms.now.shape) chunker.old }
-    ensures disk { Writes D.Disk (InOneOf (sizes_of terms.now.shape) (staged_extents staging.new)) disk.old disk.new }
+    ensures disk { Writes D.Disk (InExtents (sizes_of terms.now.shape) (staged_extents staging.new)) disk.old disk.new }
     ensures cause { FailsByDisk (D.faults disk.old) (D.faults disk.new) result }
     ensures grows { Grows space.old space.new staging.old staging.new }
     ensures staging { OnOk result (IsStaging (given terms.now) space.new staging.new) }

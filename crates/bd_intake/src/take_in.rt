@@ -5,11 +5,11 @@ ghost use Rattle.bd_model.specs.Sizes.{sizes_of, disk_bytes};
 ghost use Rattle.bd_model.specs.declared.layout.Phase.TheVariants.{Settled};
 ghost use Rattle.bd_space.specs.Allotment.{extent_count, held_count, TakenExactly};
 ghost use Rattle.bd_catalog.specs.Catalogue.{all_extents};
+ghost use Rattle.bd_catalog.specs.Agreement.{InExtents, InFree};
 ghost use Rattle.bd_intake.specs.Answers.{CountsSource, FitsStaged, LeavesSpace, StoresSource};
 ghost use Rattle.bd_intake.specs.Causes.{FailsByCount};
 ghost use Rattle.bd_intake.specs.Filling.{LeavesFiles};
 ghost use Rattle.bd_intake.specs.Given.{FitsSums, given, IsRecipeOrNone};
-ghost use Rattle.bd_intake.specs.Places.{InFree, InOneOf};
 ghost use Rattle.bd_intake.specs.Staging.{Grows, HasPut, HasTaken, IsStaging, staged_extents};
 ghost use Rattle.bd_intake.specs.Taking.{RefusesSource, StagesSource};
 
@@ -46,7 +46,7 @@ fn stage<D: Disk, F: Files>(
     requires taken { HasTaken (given terms.now) [] staging.old }
     requires nothing { (image : List ℕ) → HasPut (given terms.now) [] staging.old image }
     requires sums { FitsSums terms.now.neighbour.now.entries }
-    ensures disk { Writes D.Disk (InOneOf (sizes_of terms.now.shape) (staged_extents staging.new)) disk.old disk.new }
+    ensures disk { Writes D.Disk (InExtents (sizes_of terms.now.shape) (staged_extents staging.new)) disk.old disk.new }
     ensures cause { FailsByCount (D.faults disk.old) (D.faults disk.new) (F.source_faults files.old) (F.source_faults files.new) result }
     ensures files { LeavesFiles F.Files name.now files.old files.new result }
     ensures grows { Grows space.old space.new staging.old staging.new }

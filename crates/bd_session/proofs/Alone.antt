@@ -34,8 +34,3 @@ one_turn {disk} {files} {sink} {command} {first} {now} (next_turn {answers} {clo
   where
     first_of_one : {x y : Command} → Some x ≡ Some y → x ≡ y
     first_of_one e = cc e
-
--- a restore alone gave back what the contents at entry have, each chunk with its mark
-pub gives_back_alone : {disk files sink : Type 0} {v : ℕ} {name : List ℕ} {first now : Around} {clocks : List ℕ} (given bytes : ℕ) → Turns disk files sink (Restore v name ∷ []) first (Restored given bytes ∷ []) clocks now → disk → files →
-    GivesBack first.scene.store.found v name (contents first.scene.disk) first.scene.files now.scene.files
-gives_back_alone given bytes turns told files_told = ((one_turn turns (Restored given bytes) refl).turn.meets.on_both told files_told).gives

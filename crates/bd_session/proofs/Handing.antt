@@ -95,34 +95,3 @@ hands_answers {disk} {files} {sink} {c} {first} {now} goes tells = by_end goes.e
   by_end (inr (inl begun)) = unmoved begun.same
   by_end (inr (inr (inl not_begun))) = unmoved not_begun.same
   by_end (inr (inr (inr turn))) = by_result turn.result turn.ends
-
--- ---- what was written, and when
-
-written-told : (moments : List ℕ) (answers : List Answer) → length moments ≡ length answers → written_of (told moments answers) ≡ texts answers
-written-told [] [] e = refl
-written-told [] (a ∷ answers) e = absurd (omega (arith, e))
-written-told (m ∷ moments) [] e = absurd (omega (arith, e))
-written-told (m ∷ moments) (a ∷ answers) e = ap (λ l. answer_text a ++ l) (written-told moments answers (omega (arith, e)))
-
-moments-told : (moments : List ℕ) (answers : List Answer) → length moments ≡ length answers → moments_of (told moments answers) ≡ moments
-moments-told [] [] e = refl
-moments-told [] (a ∷ answers) e = absurd (omega (arith, e))
-moments-told (m ∷ moments) [] e = absurd (omega (arith, e))
-moments-told (m ∷ moments) (a ∷ answers) e = ap (λ l. m ∷ l) (moments-told moments answers (omega (arith, e)))
-
-no_moment : {text : List ℕ} {rest : List Handed} → HandsPart text [] rest → moments_of rest ≡ []
-no_moment hands = hands_part-moments hands
-
-module _ {disk : Type 0} {c : Course} {before now : List Handed} (hands : HandsAnswers disk c before now) where
-  -- where the sink didn't fail, the texts of the answers were written
-  pub texts_written : c.ending ≢ OutputFault → written_of now ≡ written_of before ++ texts c.answers
-  texts_written other =
-      ap written_of (hands.so ∙ ap (λ l. before ++ (told hands.moments c.answers ++ l)) (hands.nothing other) ∙ ap (λ l. before ++ l) (append-nil (told hands.moments c.answers)))
-      ∙ flat_map-append (λ h. h.bytes) before (told hands.moments c.answers) ∙ ap (λ l. written_of before ++ l) (written-told hands.moments c.answers hands.paired)
-
-  -- the clocks are the moments that the sink noted
-  pub clocks_noted : disk → moments_of now ≡ moments_of before ++ c.clocks
-  clocks_noted tells =
-      ap moments_of hands.so ∙ filter_map-append (λ h. h.moment) before (told hands.moments c.answers ++ hands.rest)
-      ∙ ap (λ l. moments_of before ++ l) (filter_map-append (λ h. h.moment) (told hands.moments c.answers) hands.rest
-      ∙ (λ i. moments-told hands.moments c.answers hands.paired i ++ no_moment hands.part.1 i) ∙ append-nil hands.moments ∙ hands.are tells)

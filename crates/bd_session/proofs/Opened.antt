@@ -11,13 +11,6 @@ use Rattle.bd_session.specs.Headline.{MeetsTheHeadline, StandsAfter, carried_out
 use Rattle.bd_session.specs.Promised.{IsPromised, Start}
 use Rattle.bd_session.specs.declared.report.SessionEnd.TheVariants.{DiskFault}
 
--- what was promised of the disk before is so of the disk behind them
-pub still_promised : (s : Start) (b : History) (commands : List Command) (n : ℕ) → WritesNothing s.disk b → IsPromised s commands n → IsPromised (record s { disk = b }) commands n
-still_promised s b commands n quiet promised = record {
-  disk = record { stands = subst (StandsFor s.shape s.state s.phase 0) (sym (unchanged quiet)) promised.disk.stands; sure = still_now quiet promised.disk.sure };
-  chunks = record { each = promised.chunks.each };
-}
-
 -- the commands met the headline from where those calls ended, and so they do from where they began
 pub after_opening : (s : Start) (b : History) (begun : ℕ) (c : Course) (now : History) (files : FileMap) → WritesNothing s.disk b → WritesOnly (λ place. 64 ≤ place) b now → LeavesNow (Stands s.shape 0 s.state) s.disk →
     MeetsTheHeadline (record s { disk = b }) begun c now files → MeetsTheHeadline s begun c now files

@@ -30,7 +30,7 @@ use Rattle.bd_model.proofs.GrownLemmas.{recipes_stay}
 use Rattle.bd_model.proofs.HistoryLemmas.{version-base, version-grown, version-newest}
 use Rattle.bd_space.specs.Allotment.{Allotment, extent_count, free_count, held_count, TakenExactly}
 use Rattle.bd_files.specs.Files.{Holds, Lacks}
-use Rattle.bd_catalog.specs.Agreement.{Agrees}
+use Rattle.bd_catalog.specs.Agreement.{Agrees, InFree}
 use Rattle.bd_catalog.specs.Catalogue.{all_extents, retained_in}
 use Rattle.bd_catalog.specs.Growing.{after_backup, entry_for, own_category}
 use Rattle.bd_catalog.specs.Opening.{Found, opened}
@@ -51,7 +51,6 @@ use Rattle.bd_intake.specs.declared.fault.IntakeFault.TheVariants.{Full, SourceF
 use Rattle.bd_intake.specs.Answers.{AnswersIntake, HoldsVersion, IsVersion, fresh_extents}
 use Rattle.bd_intake.specs.Causes.{MissesSource}
 use Rattle.bd_intake.specs.Firsts.{cut_in, new_by_mark}
-use Rattle.bd_intake.specs.Places.{InFree}
 use Rattle.bd_store.specs.Naming.{refusal_of}
 use Rattle.bd_store.specs.Newest.{IsNewestRecipe}
 use Rattle.bd_store.specs.Steps.{Task, task, is_full, IsNear, Answered, LeadsTo, MakesStep, KeptOrMade, StandsOnEitherSide}

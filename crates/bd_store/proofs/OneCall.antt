@@ -17,7 +17,7 @@ use Rattle.bd_model.specs.Room.{fresh}
 use Rattle.bd_model.specs.State.{last_number}
 use Rattle.bd_space.specs.Allotment.{Allotment, extent_count, free_count, held_count, TakenExactly}
 use Rattle.bd_files.specs.Files.{Holds, Lacks}
-use Rattle.bd_catalog.specs.Agreement.{Agrees}
+use Rattle.bd_catalog.specs.Agreement.{Agrees, InFree}
 use Rattle.bd_catalog.specs.Catalogue.{all_extents, retained_in}
 use Rattle.bd_catalog.specs.Growing.{after_backup}
 use Rattle.bd_catalog.specs.Opening.{Found}
@@ -29,7 +29,6 @@ use Rattle.bd_intake.specs.declared.fault.IntakeFault.{IntakeFault}
 use Rattle.bd_intake.specs.Answers.{AnswersIntake, HoldsVersion}
 use Rattle.bd_intake.specs.Causes.{MissesSource}
 use Rattle.bd_intake.specs.Firsts.{cut_in, new_by_mark}
-use Rattle.bd_intake.specs.Places.{InFree}
 use Rattle.bd_store.specs.Naming.{refusal_of}
 use Rattle.bd_store.specs.Newest.{IsNewestRecipe}
 use Rattle.bd_store.specs.Steps.{task, Answered, MakesStep, IsOneStep}

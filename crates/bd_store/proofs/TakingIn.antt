@@ -25,7 +25,7 @@ use Rattle.bd_model.specs.declared.layout.RecipeEntry.{RecipeEntry}
 use Rattle.bd_space.specs.Allotment.{Allotment, extent_count, free_count, held_count, TakenExactly}
 use Rattle.bd_space.proofs.Exact.{taken_count-exact}
 use Rattle.bd_space.proofs.Uses.{counts-all}
-use Rattle.bd_catalog.specs.Agreement.{Agrees}
+use Rattle.bd_catalog.specs.Agreement.{Agrees, InFree}
 use Rattle.bd_catalog.specs.Catalogue.{Catalogue, OpenEntry, VersionEntry, all_extents, retained_in}
 use Rattle.bd_catalog.specs.Growing.{after_backup, empty_volume, with_entries}
 use Rattle.bd_catalog.specs.Opening.{Found}
@@ -40,7 +40,6 @@ use Rattle.bd_intake.specs.Answers.{CountsSource, StoresSource}
 use Rattle.bd_intake.specs.Causes.{FailsByCount}
 use Rattle.bd_intake.specs.Filling.{CountsMissing, LeavesFiles}
 use Rattle.bd_intake.specs.Firsts.{new_by_mark}
-use Rattle.bd_intake.specs.Places.{InFree}
 use Rattle.bd_store.specs.Attempts.{Scene, attempt, scene, KeepsVersions, SettlesBy, TellsFigures}
 use Rattle.bd_store.specs.Causes.{counts, FailsOnlyByCount, StraysOnlyBy}
 use Rattle.bd_store.specs.Following.{EndsReady, Follows}

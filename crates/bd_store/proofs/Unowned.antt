@@ -9,9 +9,9 @@ use Rattle.bd_catalog.specs.Catalogue.{all_extents}
 use Rattle.bd_catalog.specs.Opening.{Found}
 use Rattle.bd_catalog.specs.Steps.{InOtherHalf}
 use Rattle.bd_catalog.proofs.Agreeing.{front_apart, one_extent}
+use Rattle.bd_catalog.specs.Agreement.{InFree}
 use Rattle.bd_volume.specs.Named.{IsBeside}
 use Rattle.bd_volume.proofs.Beside.{ends_within, free_or_taken, half_beside, half_front}
-use Rattle.bd_intake.specs.Places.{InFree}
 use Rattle.bd_store.specs.Writes.{IsUnowned}
 
 module _ (found : Found) (small : found.half.number ≤ 1) where

@@ -16,9 +16,6 @@ pub record IsFront (files : FileMap) (name : List ℕ) (at : ℕ) (into : List �
   pub within : (bytes : List ℕ) → Holds files name bytes → at ≤ length bytes
   pub so : (bytes : List ℕ) → Holds files name bytes → take at into ≡ take at bytes
 
-pub front_begun : (files : FileMap) (name : List ℕ) (into : List ℕ) → IsFront files name 0 into
-front_begun files name into = record { none = λ _. refl; within = λ bytes holds. omega arith; so = λ bytes holds. refl }
-
 -- bytes are under a name, or nothing is
 pub by_name : {A : Type 0} (files : FileMap) (name : List ℕ) → ((bytes : List ℕ) → Holds files name bytes → A) → (Lacks files name → A) → A
 by_name {A} files name held lacked = by (map.get files name) refl where
@@ -56,20 +53,6 @@ module _ (files other : FileMap) (name : List ℕ) (at n k room : ℕ) (into par
     so = λ bytes holds.
         more within few ∙ (λ i. front.so bytes holds i ++ (fetched.so ∙ ap (λ bs. take n (drop at bs)) (one bytes holds)) i) ∙ sym (take-add at n bytes);
   }
-
-  -- a fetch of nothing is at the end
-  pub front_ended : (most : ℕ) (filled : List ℕ) → n ≡ 0 → 1 ≤ room → IsFront files name (at + n) filled → FetchesFront files name at most filled
-  front_ended most filled none some front =
-      let so_far : at + n ≡ at = omega (arith, none) in
-      let low : at + n ≤ length fetched.bytes = front.within fetched.bytes there in
-      let end : length fetched.bytes ≤ at = ⊎_elim (λ e. e) (λ no_room. omega (arith, no_room, some)) (fetched.ends.0 none) in
-      record {
-        bytes = fetched.bytes;
-        file = there;
-        within = omega (arith, low);
-        so = subst (λ m. take m filled ≡ take m fetched.bytes) so_far (front.so fetched.bytes there);
-        all = inl (omega (arith, low, end, none));
-      }
 
 -- there is no room for more
 pub front_full : (files : FileMap) (name : List ℕ) (n room : ℕ) (into : List ℕ) → 1 ≤ n → n ≡ room → IsFront files name n into → FetchesFront files name n room into

@@ -136,9 +136,6 @@ untold answer Memory before now short (same, long) = absurd (cc (short, long))
 -- ---- the text of the end
 
 module _ (sink : Type 0) (before now : Outside) where
-  pub tells_none : (text : List ℕ) → text ≡ [] → TellsEnd sink text before before
-  tells_none text e = record { beside = refl; later = omega arith; put = subst (λ t. HandsText sink t before before) (sym e) refl }
-
   hands_whole : (disk : Type 0) (text : List ℕ) (moment : ℕ) → text ≢ [] → now.sink_faults ≡ before.sink_faults → (sink → HandsOn disk moment text before.handed now.handed) → HandsText sink text before now
   hands_whole disk [] moment some same put = absurd (some refl)
   hands_whole disk (b ∷ text) moment some same put = inl (same, λ told. let h = put told in (h.noted, h.so))

@@ -6,8 +6,8 @@ use Rattle.bd_model.specs.Laws.{entries_in}
 use Rattle.bd_model.specs.Records.{records_of, spelled_recipe}
 use Rattle.bd_model.specs.Sizes.{sizes_of}
 use Rattle.bd_catalog.specs.Standing.{BeginWith}
+use Rattle.bd_catalog.specs.Agreement.{InExtents}
 use Rattle.bd_intake.specs.Firsts.{new_by_mark}
-use Rattle.bd_intake.specs.Places.{InOneOf}
 use Rattle.bd_intake.specs.Putting.{IsPut, KeepsPut}
 use Rattle.bd_intake.proofs.Writing.{all_written, one_writes, other_writes, still_put}
 use Rattle.bd_intake.proofs.record.write_out.Goals as goal
@@ -16,7 +16,7 @@ pub returns-in_err-flush-clause-disk : goal.returns-in_err-flush-clause-disk
 returns-in_err-flush-clause-disk g c =
     let s = sizes_of c.args.shape.now in
     other_writes s c.args.staging.now.recipe.numbers c.args.staging.now.fresh.numbers
-    (subst (λ xs. Writes g.D.Disk (InOneOf s xs) c.args.disk.now c.flush.new.disk) c.numbers.ensures c.flush.ensures.disk)
+    (subst (λ xs. Writes g.D.Disk (InExtents s xs) c.args.disk.now c.flush.new.disk) c.numbers.ensures c.flush.ensures.disk)
 
 pub returns-in_err-flush-2-clause-disk : goal.returns-in_err-flush-2-clause-disk
 returns-in_err-flush-2-clause-disk g c =
@@ -24,8 +24,8 @@ returns-in_err-flush-2-clause-disk g c =
     let recipe = c.args.staging.now.recipe.numbers in
     let fresh = c.args.staging.now.fresh.numbers in
     both_writes
-    (other_writes s recipe fresh (subst (λ xs. Writes g.D.Disk (InOneOf s xs) c.args.disk.now c.flush.new.disk) c.numbers.ensures c.flush.ensures.disk))
-    (one_writes s recipe fresh (subst (λ xs. Writes g.D.Disk (InOneOf s xs) c.flush.new.disk c.flush-2.new.disk) c.numbers-2.ensures c.flush-2.ensures.disk))
+    (other_writes s recipe fresh (subst (λ xs. Writes g.D.Disk (InExtents s xs) c.args.disk.now c.flush.new.disk) c.numbers.ensures c.flush.ensures.disk))
+    (one_writes s recipe fresh (subst (λ xs. Writes g.D.Disk (InExtents s xs) c.flush.new.disk c.flush-2.new.disk) c.numbers-2.ensures c.flush-2.ensures.disk))
 
 pub returns-clause-disk : goal.returns-clause-disk
 returns-clause-disk g c =
@@ -33,8 +33,8 @@ returns-clause-disk g c =
     let recipe = c.args.staging.now.recipe.numbers in
     let fresh = c.args.staging.now.fresh.numbers in
     both_writes
-    (other_writes s recipe fresh (subst (λ xs. Writes g.D.Disk (InOneOf s xs) c.args.disk.now c.flush.new.disk) c.numbers.ensures c.flush.ensures.disk))
-    (one_writes s recipe fresh (subst (λ xs. Writes g.D.Disk (InOneOf s xs) c.flush.new.disk c.flush-2.new.disk) c.numbers-2.ensures c.flush-2.ensures.disk))
+    (other_writes s recipe fresh (subst (λ xs. Writes g.D.Disk (InExtents s xs) c.args.disk.now c.flush.new.disk) c.numbers.ensures c.flush.ensures.disk))
+    (one_writes s recipe fresh (subst (λ xs. Writes g.D.Disk (InExtents s xs) c.flush.new.disk c.flush-2.new.disk) c.numbers-2.ensures c.flush-2.ensures.disk))
 
 pub returns-clause-written : goal.returns-clause-written
 returns-clause-written g c = λ told t taken same was.
@@ -46,8 +46,8 @@ returns-clause-written g c = λ told t taken same was.
     let records = records_of (new_by_mark t.old taken) in
     let image = contents (g.D.Disk.history c.args.disk.now) in
     let image_now = contents (g.D.Disk.history c.flush-2.new.disk) in
-    let first = subst (λ xs. Writes g.D.Disk (InOneOf s xs) c.args.disk.now c.flush.new.disk) c.numbers.ensures c.flush.ensures.disk in
-    let second = subst (λ xs. Writes g.D.Disk (InOneOf s xs) c.flush.new.disk c.flush-2.new.disk) c.numbers-2.ensures c.flush-2.ensures.disk in
+    let first = subst (λ xs. Writes g.D.Disk (InExtents s xs) c.args.disk.now c.flush.new.disk) c.numbers.ensures c.flush.ensures.disk in
+    let second = subst (λ xs. Writes g.D.Disk (InExtents s xs) c.flush.new.disk c.flush-2.new.disk) c.numbers-2.ensures c.flush-2.ensures.disk in
     record {
       recipe = subst (λ z. BeginWith z recipe entries image_now) (sym same)
           (all_written s recipe c.flush-2.new.self entries image_now c.in_ok-flush-2.ensures.none

@@ -2,15 +2,15 @@ use Rattle.std.proofs.Common.{◌≡◌, ◌-◌, ◌^◌, ◌<◌, false, lengt
 use Rattle.bd_disk.specs.History.{contents}
 use Rattle.bd_disk.specs.Runs.{Writes}
 use Rattle.bd_model.specs.Sizes.{sizes_of}
+use Rattle.bd_catalog.specs.Agreement.{InExtents}
 use Rattle.bd_intake.specs.Filling.{CountsMissing, Fills}
 use Rattle.bd_intake.specs.Given.{given}
-use Rattle.bd_intake.specs.Places.{InOneOf}
 use Rattle.bd_intake.specs.Staging.{Grows, IsStaging, staged_extents}
 use Rattle.bd_intake.proofs.source.fill.Given as goal
 
 abbrev pub invariant-loop-count : goal.invariant-loop-count
 invariant-loop-count g l = record {
-  disk : Writes g.D.Disk (InOneOf (sizes_of l.terms.shape) (staged_extents l.staging)) l.initial.disk l.disk;
+  disk : Writes g.D.Disk (InExtents (sizes_of l.terms.shape) (staged_extents l.staging)) l.initial.disk l.disk;
   faults : g.D.Disk.faults l.disk ≡ g.D.Disk.faults l.initial.disk;
   sources : g.F.Files.source_faults l.files ≡ g.F.Files.source_faults l.initial.files;
   targets : g.F.Files.target_faults l.files ≡ g.F.Files.target_faults l.initial.files;

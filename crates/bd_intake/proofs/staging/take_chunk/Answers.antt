@@ -12,11 +12,11 @@ use Rattle.bd_model.specs.Room.{up}
 use Rattle.bd_model.specs.Sizes.{sizes_of}
 use Rattle.bd_model.specs.declared.layout.RecipeEntry.{RecipeEntry}
 use Rattle.bd_space.specs.Allotment.{held_count}
+use Rattle.bd_catalog.specs.Agreement.{InExtents}
 use Rattle.bd_intake.specs.declared.staging.Staging.{Staging}
 use Rattle.bd_intake.specs.Answers.{RefusesRoom}
 use Rattle.bd_intake.specs.Firsts.{new_by_mark, is_marked, knows, extents_of}
 use Rattle.bd_intake.specs.Given.{Given, given}
-use Rattle.bd_intake.specs.Places.{InOneOf}
 use Rattle.bd_intake.specs.Putting.{IsPut, put_count}
 use Rattle.bd_intake.specs.Seen.{AreUsed, SeenMarks}
 use Rattle.bd_intake.specs.Spaces.{Owns}
@@ -77,7 +77,7 @@ put_parts-requires-clause-entry_range g c =
 
 pub returns-in_err-put_parts-clause-disk : goal.returns-in_err-put_parts-clause-disk
 returns-in_err-put_parts-clause-disk g c =
-    subst (λ (a : Staging). Writes g.D.Disk (InOneOf (sizes_of c.args.terms.now.shape) (staged_extents a)) c.args.disk.now c.put_parts.new.disk) (sym c.put_parts.ensures.same) c.put_parts.ensures.disk
+    subst (λ (a : Staging). Writes g.D.Disk (InExtents (sizes_of c.args.terms.now.shape) (staged_extents a)) c.args.disk.now c.put_parts.new.disk) (sym c.put_parts.ensures.same) c.put_parts.ensures.disk
 
 pub returns-in_err-put_parts-clause-grows : goal.returns-in_err-put_parts-clause-grows
 returns-in_err-put_parts-clause-grows g c =
@@ -85,7 +85,7 @@ returns-in_err-put_parts-clause-grows g c =
 
 pub returns-clause-disk : goal.returns-clause-disk
 returns-clause-disk g c =
-    subst (λ (a : Staging). Writes g.D.Disk (InOneOf (sizes_of c.args.terms.now.shape) (staged_extents a)) c.args.disk.now c.put_parts.new.disk) (sym c.put_parts.ensures.same) c.put_parts.ensures.disk
+    subst (λ (a : Staging). Writes g.D.Disk (InExtents (sizes_of c.args.terms.now.shape) (staged_extents a)) c.args.disk.now c.put_parts.new.disk) (sym c.put_parts.ensures.same) c.put_parts.ensures.disk
 
 pub returns-clause-grows : goal.returns-clause-grows
 returns-clause-grows g c =

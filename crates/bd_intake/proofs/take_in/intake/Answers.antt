@@ -9,11 +9,11 @@ use Rattle.bd_catalog.specs.Catalogue.{VersionEntry, all_extents, retained_in}
 use Rattle.bd_catalog.specs.Rules.{obeys}
 use Rattle.bd_catalog.specs.Shown.{version_entry}
 use Rattle.bd_catalog.specs.Steps.{FitsBackup, fresh_entries}
+use Rattle.bd_catalog.specs.Agreement.{InFree}
 use Rattle.bd_intake.specs.declared.terms.Terms.{Terms}
 use Rattle.bd_intake.specs.Answers.{HoldsVersion, IsVersion, RefusesVersion}
 use Rattle.bd_intake.specs.Firsts.{cut_in}
 use Rattle.bd_intake.specs.Given.{given, IsRecipeOrNone}
-use Rattle.bd_intake.specs.Places.{InFree}
 use Rattle.bd_intake.proofs.Ending.{begin_put, begin_staging, entries_extents, first_owns, in_free, no_fresh, version_counted, version_fits, version_stored}
 use Rattle.bd_intake.proofs.Knowing.{recipe_fits}
 use Rattle.bd_intake.proofs.Owning.{owns_last}

@@ -8,7 +8,7 @@ use Rattle.bd_disk.proofs.RunLemmas.{written}
 use Rattle.bd_model.specs.Sizes.{sizes_of}
 use Rattle.bd_space.specs.Allotment.{TakenExactly}
 use Rattle.bd_gate.specs.Halves.{Half}
-use Rattle.bd_gate.specs.Standing.{IsBeside, next_turn}
+use Rattle.bd_gate.specs.Standing.{IsOlderHalf, next_turn}
 use Rattle.bd_catalog.specs.Catalogue.{Catalogue, all_extents}
 use Rattle.bd_catalog.specs.Ledger.{Ledger}
 use Rattle.bd_catalog.specs.Opening.{Found}
@@ -26,7 +26,7 @@ pub write_beside-requires-clause-ready : goal.write_beside-requires-clause-ready
 write_beside-requires-clause-ready g c = λ told.
     let found = c.args.self.now.found in
     let same = sym (ap (λ (l : Ledger). l.found) c.self.view_is ∙ c.make.ensures.found) in
-    subst (λ (f : Found). IsBeside f.sizes (1 - f.half.number) f.half.other_open (g.D.Disk.history c.args.disk.now)) same (other-beside found (g.D.Disk.history c.args.disk.now) (c.requires.agrees told))
+    subst (λ (f : Found). IsOlderHalf f.sizes (1 - f.half.number) f.half.other_open (g.D.Disk.history c.args.disk.now)) same (other-beside found (g.D.Disk.history c.args.disk.now) (c.requires.agrees told))
 
 pub write_beside-requires-clause-next : goal.write_beside-requires-clause-next
 write_beside-requires-clause-next g c = λ told.
