@@ -48,26 +48,26 @@ ready_beyond found Reorganise writes = nothing_within _ writes
 ready_beyond found Scrub writes = nothing_within _ writes
 ready_beyond found Listing writes = nothing_within _ writes
 
-first_beyond : (held : ℕ) (found : Found) (command : Command) {old new : History} → IsArrangedFirst held found command old new → WritesOnly (λ place. 64 ≤ place) old new
-first_beyond held found command is = made_both (writes_wider _ (λ place beside. beside.begins) is.first) (ready_beyond is.arranged command is.second)
+first_beyond : (held : ℕ) (found after : Found) (command : Command) (result : Result Answer StoreFault) {old new : History} → IsArrangedFirst held found after command old new result → WritesOnly (λ place. 64 ≤ place) old new
+first_beyond held found after command result is = made_both (writes_wider _ (λ place beside. beside.begins) is.first) (ready_beyond is.arranged command is.second)
 
-arranging_beyond : (held : ℕ) (found : Found) (command : Command) (result : Result Answer StoreFault) {old new : History} → WritesArranging held found command old new result → WritesOnly (λ place. 64 ≤ place) old new
-arranging_beyond held found command (Ok (BackedUp version bytes chunks fresh need)) is = first_beyond held found command is
-arranging_beyond held found command (Ok (FullExtents counted free room)) is = first_beyond held found command is
-arranging_beyond held found command (Ok (Arranged owned free)) is = first_beyond held found command is
-arranging_beyond held found command (Ok (Expired version extents)) is = first_beyond held found command is
-arranging_beyond held found command (Err StoreSource) is = first_beyond held found command is
-arranging_beyond held found command _ is = ⊎_elim (λ first. first_beyond held found command first) (λ writes. writes_wider _ (λ place beside. beside.begins) writes) is
+arranging_beyond : (held : ℕ) (found after : Found) (command : Command) (result : Result Answer StoreFault) {old new : History} → WritesArranging held found after command old new result → WritesOnly (λ place. 64 ≤ place) old new
+arranging_beyond held found after command (Ok (BackedUp version bytes chunks fresh need)) is = first_beyond held found after command (Ok (BackedUp version bytes chunks fresh need)) is
+arranging_beyond held found after command (Ok (FullExtents counted free room)) is = first_beyond held found after command (Ok (FullExtents counted free room)) is
+arranging_beyond held found after command (Ok (Arranged owned free)) is = first_beyond held found after command (Ok (Arranged owned free)) is
+arranging_beyond held found after command (Ok (Expired version extents)) is = first_beyond held found after command (Ok (Expired version extents)) is
+arranging_beyond held found after command (Err StoreSource) is = first_beyond held found after command (Err StoreSource) is
+arranging_beyond held found after command result is = ⊎_elim (λ first. first_beyond held found after command result first) (λ unarranged. writes_wider _ (λ place beside. beside.begins) unarranged.writes) is
 
-pub writes_beyond : {held : ℕ} (found : Found) (command : Command) {result : Result Answer StoreFault} {old new : History} → WritesByCommand held found command old new result → WritesOnly (λ place. 64 ≤ place) old new
-writes_beyond {held} found command {result} {old} {new} writes =
+pub writes_beyond : {held : ℕ} (found : Found) {after : Found} (command : Command) {result : Result Answer StoreFault} {old new : History} → WritesByCommand held found after command old new result → WritesOnly (λ place. 64 ≤ place) old new
+writes_beyond {held} found {after} command {result} {old} {new} writes =
     elim (arranges found command) as (λ b. arranges found command ≡ b → WritesOnly (λ place. 64 ≤ place) old new) [
-      | true ↦ λ is. arranging_beyond held found command result (writes.arranging is)
+      | true ↦ λ is. arranging_beyond held found after command result (writes.arranging is)
       | false ↦ λ no. ready_beyond found command (writes.ready no)
     ] refl
 
 -- restores and lists write nothing
-pub quiet_writes : {held : ℕ} (found : Found) (command : Command) {result : Result Answer StoreFault} {old new : History} → IsQuiet command → WritesByCommand held found command old new result → WritesNothing old new
+pub quiet_writes : {held : ℕ} (found : Found) {after : Found} (command : Command) {result : Result Answer StoreFault} {old new : History} → IsQuiet command → WritesByCommand held found after command old new result → WritesNothing old new
 quiet_writes found (Backup name) quiet writes = absurd quiet
 quiet_writes found (Restore v name) quiet writes = writes.ready refl
 quiet_writes found Expire quiet writes = absurd quiet

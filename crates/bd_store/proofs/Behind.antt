@@ -33,7 +33,7 @@ use Rattle.bd_store.specs.Shown.{SameVersions, Shown}
 use Rattle.bd_store.specs.Steps.{task, IsOneStep, LeadsTo, MakesStep, StandsOnEitherSide, Task}
 use Rattle.bd_store.specs.Stops.{IsSafeAtStops, IsSureBy}
 use Rattle.bd_store.specs.Touches.{AnswersArranging, AnswersByNumbers, AnswersExpiry, BackupReads, arranges_first, is_waiting, waits}
-use Rattle.bd_store.specs.Writes.{IsArrangedFirst, IsUnowned, WritesArranging, WritesByCommand, WritesReady, arranges}
+use Rattle.bd_store.specs.Writes.{IsArrangedFirst, IsUnowned, StepsTo, WritesArranging, WritesByCommand, WritesReady, arranges}
 use Rattle.bd_store.specs.declared.fault.StoreFault.{StoreFault}
 use Rattle.bd_store.proofs.Ending.{by_end, first_two, first_waits, not_both, rests_not}
 use Rattle.bd_store.proofs.Nearing.{near_state}
@@ -151,7 +151,7 @@ ready_settled found (Restore v name) makes rests = absurd makes
 ready_settled found Scrub makes rests = absurd makes
 ready_settled found Listing makes rests = absurd makes
 
-module _ (held : ℕ) (found mid : Found) (h0 h1 h2 : History) (command : Command) (makes : MakesReady found command) (second : WritesReady mid command h1 h2) where
+module _ (held : ℕ) (found mid after : Found) (h0 h1 h2 : History) (command : Command) (makes : MakesReady found command) (second : WritesReady mid command h1 h2) where
   -- a settled store was only read before
   written_settled : (found.catalogue.phase ≡ Settled → mid ≡ found) → (found.catalogue.phase ≡ Settled → WritesNothing h0 h1) → arranges found command ≡ false → WritesReady found command h0 h2
   written_settled as_it_was quiet rests =
@@ -159,22 +159,23 @@ module _ (held : ℕ) (found mid : Found) (h0 h1 h2 : History) (command : Comman
       subst (λ c. WritesReady found c h0 h2) (sym is.1.1)
       (made_both (nothing_within _ (quiet is.0)) (subst (λ (f : Found). WritesOnly (IsUnowned f) h1 h2) (as_it_was is.0) (subst (λ c. WritesReady mid c h1 h2) is.1.1 second)))
 
-  pub writes_before : (result : Result Answer StoreFault) → EndsReady result → (found.catalogue.phase ≡ Settled → mid ≡ found) → (found.catalogue.phase ≡ Settled → WritesNothing h0 h1) →
-      (found.catalogue.phase ≢ Settled → IsArrangedFrom held found mid (contents h0) (contents h1)) → Agrees mid h1 → WritesOnly (IsBeside found) h0 h1 → WritesByCommand held found command h0 h2 result
-  writes_before result ends as_it_was quiet arranged agrees first = record {
+  pub writes_before : (result : Result Answer StoreFault) → EndsReady result → StepsTo mid.catalogue after.catalogue result → (found.catalogue.phase ≡ Settled → mid ≡ found) → (found.catalogue.phase ≡ Settled → WritesNothing h0 h1) →
+      (found.catalogue.phase ≢ Settled → IsArrangedFrom held found mid (contents h0) (contents h1)) → Agrees mid h1 → WritesOnly (IsBeside found) h0 h1 → WritesByCommand held found after command h0 h2 result
+  writes_before result ends step as_it_was quiet arranged agrees first = record {
     ready = written_settled as_it_was quiet;
+    step = λ rests. subst (λ (f : Found). StepsTo f.catalogue after.catalogue result) (as_it_was (ready_settled found command makes rests).0) step;
     arranging = λ is.
         let waits_so : found.catalogue.phase ≢ Settled = λ settled. rests_not found (arranges_waiting found command is) settled in
-        let whole : IsArrangedFirst held found command h0 h2 = record { arranged = mid; middle = h1; first = first; made = arranged waits_so; agrees = agrees; second = second } in
-        by_end (WritesArranging held found command h0 h2) (record {
-          named = λ version bytes chunks fresh need. whole;
-          full = λ counted free room. whole;
-          expired = λ version extents. whole;
-          arranged = λ owned free. whole;
-          source = whole;
-          disk = inl whole;
-          memory = inl whole;
-        }) result ends;
+        let whole : IsArrangedFirst held found after command h0 h2 result = record { arranged = mid; middle = h1; first = first; made = arranged waits_so; agrees = agrees; second = second; step = step } in
+        by_end (λ e. IsArrangedFirst held found after command h0 h2 e → WritesArranging held found after command h0 h2 e) (record {
+          named = λ version bytes chunks fresh need it. it;
+          full = λ counted free room it. it;
+          expired = λ version extents it. it;
+          arranged = λ owned free it. it;
+          source = λ it. it;
+          disk = λ it. inl it;
+          memory = λ it. inl it;
+        }) result ends whole;
   }
 
 -- nothing more was read

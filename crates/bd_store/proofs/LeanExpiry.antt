@@ -46,7 +46,7 @@ use Rattle.bd_store.specs.Kept.{IsKept}
 use Rattle.bd_store.specs.Steps.{Answered, IsOneStep, LeadsTo, StandsOnEitherSide, Task, task}
 use Rattle.bd_store.specs.Stops.{IsSafeAtStops}
 use Rattle.bd_store.specs.Touches.{AnswersExpiry, ExpiryReads, arranges_first, is_waiting, waits}
-use Rattle.bd_store.specs.Writes.{WritesByCommand}
+use Rattle.bd_store.specs.Writes.{StepsTo, WritesByCommand}
 use Rattle.bd_store.specs.declared.fault.StoreFault.{StoreFault}
 use Rattle.bd_store.specs.declared.fault.StoreFault.TheVariants.{Damaged, DiskFault, OutOfMemory, SourceFault, TargetFault}
 use Rattle.bd_store.proofs.Ending.{by_end, not_both}
@@ -170,9 +170,10 @@ module _ {D : Type 0} (d : DiskGhosts D) (beside : Beside) (found : Found) (held
   after_it now worn = scene_beside d beside (record { found = now; held = held; worn = worn }) disk1
 
   -- it doesn't arrange, and writes the half that isn't the newest
-  writes_half : d.tells → (result : Result Answer StoreFault) → WritesByCommand held found Expire h0 h1 result
-  writes_half told result = record {
+  writes_half : d.tells → (now : Found) (result : Result Answer StoreFault) → StepsTo found.catalogue now.catalogue result → WritesByCommand held found now Expire h0 h1 result
+  writes_half told now result step = record {
     ready = λ _. writes_wider _ (half_unowned found (number-small found h0 (agrees told))) (written writes told);
+    step = λ _. step;
     arranging = λ first. not_both first (lean found fits);
   }
 
@@ -193,7 +194,7 @@ module _ {D : Type 0} (d : DiskGhosts D) (beside : Beside) (found : Found) (held
     untouched = λ no. absurd no;
     on_disk = λ told. record {
       agrees = λ _. (made told).agrees;
-      writes = writes_half told (Ok (Expired version extents));
+      writes = writes_half told (after_step found Dropping) (Ok (Expired version extents)) refl;
       reads = λ _. (record { catalogue = refl; made = made told }, nothing_read writes told);
       looks = looks_from _ {places = []} tt (nothing_read writes told);
       damage = tt;
@@ -223,7 +224,7 @@ module _ {D : Type 0} (d : DiskGhosts D) (beside : Beside) (found : Found) (held
     untouched = λ no. absurd no;
     on_disk = λ told. record {
       agrees = λ no. absurd (cc no);
-      writes = writes_half told (Err DiskFault);
+      writes = writes_half told now (Err DiskFault) tt;
       reads = λ _. nothing_read writes told;
       looks = looks_from _ {places = []} tt (nothing_read writes told);
       damage = tt;
@@ -289,6 +290,7 @@ lean_follows {disk} {files} {result} {before} {after} settled some meets =
           record {
             agrees = is.agrees;
             writes = is.writes.ready no;
+            step = is.writes.step no;
             reads = by_end (λ e. ExpiryReads found after.store.found before.disk after.disk e → ReadsOnly [] before.disk after.disk) (record {
               named = λ version bytes chunks fresh need read. (read no).1;
               full = λ counted free held read. (read no).1;

@@ -13,7 +13,7 @@ use Rattle.bd_store.specs.Causes.{ByCount}
 use Rattle.bd_store.specs.Shown.{Shown, SameVersions}
 use Rattle.bd_store.specs.Steps.{IsOneStep, KeepsFiles}
 use Rattle.bd_store.specs.Stops.{IsSafeAtStops}
-use Rattle.bd_store.specs.Writes.{WritesArranging, WritesReady, arranges}
+use Rattle.bd_store.specs.Writes.{StepsTo, WritesArranging, WritesReady, arranges}
 use Rattle.bd_store.specs.declared.fault.StoreFault.{StoreFault}
 use Rattle.bd_store.specs.declared.fault.StoreFault.TheVariants.{DiskFault, OutOfMemory}
 
@@ -75,7 +75,8 @@ module _ (command : Command) (result : Result Answer StoreFault) (s : Scene) whe
     pub reads : ReadsByCommand still command
     pub damage : DamageByCommand still command
     pub recipe : RecipeByCommand still command
-    pub arranging : arranges s.store.found command ≡ true → WritesArranging s.store.held s.store.found command s.disk s.disk result
+    pub step : StepsTo s.store.found.catalogue s.store.found.catalogue result
+    pub arranging : arranges s.store.found command ≡ true → WritesArranging s.store.held s.store.found s.store.found command s.disk s.disk result
     pub finished : FinishesByCommand command result s.unfinished
     pub gives : GivesByCommand still command result
 
@@ -97,7 +98,7 @@ module _ (command : Command) (result : Result Answer StoreFault) (s : Scene) whe
     untouched = λ _. refl;
     on_disk = λ told. record {
       agrees = λ _. agrees told;
-      writes = record { ready = λ _. writes_none s.store.found command s.disk; arranging = is.arranging };
+      writes = record { ready = λ _. writes_none s.store.found command s.disk; step = λ _. is.step; arranging = is.arranging };
       reads = is.reads;
       looks = looks_none command command result s;
       damage = is.damage;

@@ -71,7 +71,7 @@ module _ {disk files : Type 0} (s : Scene) (figures : Figures) (sound : s.store.
       settles = settled;
       figures = (has.owned, has.free);
     };
-    on_disk = λ told. record { agrees = λ _. agrees told; writes = made_none _ s.disk; reads = reads_none s.disk };
+    on_disk = λ told. record { agrees = λ _. agrees told; writes = made_none _ s.disk; step = refl; reads = reads_none s.disk };
     on_files = λ told. record { beside = refl; strays = record { later = omega arith; missing = inl refl }; finished = tt };
     on_both = λ told files_tell. record {
       step = arranged_step s.store s.disk s.files figures (agrees told) settled has are;
@@ -93,6 +93,7 @@ module _ {disk files : Type 0} (s : Scene) (figures : Figures) (sound : s.store.
         reads = λ _. refl;
         damage = tt;
         recipe = λ waiting. rests_not s.store.found waiting settled;
+        step = refl;
         arranging = λ waiting. rests_not s.store.found waiting settled;
         finished = tt;
         gives = tt;

@@ -37,7 +37,7 @@ use Rattle.bd_store.specs.Causes.{counts, FailsOnlyByCount}
 use Rattle.bd_store.specs.Naming.{fault_of_reading, fault_of_restore}
 use Rattle.bd_store.specs.Shown.{SameVersions, Shown}
 use Rattle.bd_store.specs.Touches.{is_retained, AnswersByVersion, InRestore}
-use Rattle.bd_store.specs.Writes.{WritesByCommand}
+use Rattle.bd_store.specs.Writes.{StepsTo, WritesByCommand}
 use Rattle.bd_store.specs.declared.fault.StoreFault.{StoreFault}
 use Rattle.bd_store.specs.declared.fault.StoreFault.TheVariants.{DiskFault}
 use Rattle.bd_store.proofs.Asking.{retained_is}
@@ -64,28 +64,29 @@ module _ {D F : Type 0} (d : DiskGhosts D) (f : FilesGhosts F) (found : Found) (
   retained = retained_is found v from to
 
   -- it arranges nothing
-  only_read : {h0 h1 : History} (result : Result Answer StoreFault) → WritesNothing h0 h1 → WritesByCommand stays found (Restore v name) h0 h1 result
-  only_read result quiet = record { ready = λ _. quiet; arranging = λ no. absurd (cc no) }
+  only_read : {h0 h1 : History} (result : Result Answer StoreFault) → WritesNothing h0 h1 → StepsTo found.catalogue found.catalogue result → WritesByCommand stays found found (Restore v name) h0 h1 result
+  only_read result quiet step = record { ready = λ _. quiet; step = λ _. step; arranging = λ no. absurd (cc no) }
 
   -- what is said of an answer besides
   record Beside (result : Result Answer StoreFault) (worn : Bool) (disk : D) (files : F) : Type 0 where
     versions : KeepsVersions (store false) (store worn) result
     settles : SettlesBy (store worn) result
     figures : TellsFigures (store worn) result
+    step : StepsTo found.catalogue found.catalogue result
 
   same : (worn : Bool) → SameVersions (store false) (store worn)
   same worn = record { sizes = refl; base = refl; newest = refl; versions = refl; held = refl }
 
   beside_unread : (fault : ReadFault) (worn : Bool) (disk : D) (files : F) → Beside (Err (fault_of_reading fault)) worn disk files
-  beside_unread ReadDisk worn disk files = record { versions = tt; settles = tt; figures = tt }
-  beside_unread (ReadDamaged damage) worn disk files = record { versions = same worn; settles = tt; figures = tt }
-  beside_unread ReadMemory worn disk files = record { versions = same worn; settles = tt; figures = tt }
+  beside_unread ReadDisk worn disk files = record { versions = tt; settles = tt; figures = tt; step = tt }
+  beside_unread (ReadDamaged damage) worn disk files = record { versions = same worn; settles = tt; figures = tt; step = refl }
+  beside_unread ReadMemory worn disk files = record { versions = same worn; settles = tt; figures = tt; step = refl }
 
   beside_stopped : (fault : RestoreFault) (worn : Bool) (disk : D) (files : F) → Beside (Err (fault_of_restore fault)) worn disk files
-  beside_stopped RestoreTarget worn disk files = record { versions = same worn; settles = tt; figures = tt }
-  beside_stopped RestoreDisk worn disk files = record { versions = tt; settles = tt; figures = tt }
-  beside_stopped (RestoreDamaged damage) worn disk files = record { versions = same worn; settles = tt; figures = tt }
-  beside_stopped RestoreMemory worn disk files = record { versions = same worn; settles = tt; figures = tt }
+  beside_stopped RestoreTarget worn disk files = record { versions = same worn; settles = tt; figures = tt; step = refl }
+  beside_stopped RestoreDisk worn disk files = record { versions = tt; settles = tt; figures = tt; step = tt }
+  beside_stopped (RestoreDamaged damage) worn disk files = record { versions = same worn; settles = tt; figures = tt; step = refl }
+  beside_stopped RestoreMemory worn disk files = record { versions = same worn; settles = tt; figures = tt; step = refl }
 
   -- the store in memory goes on as it was
   store_kept : (result : Result Answer StoreFault) (worn : Bool) (disk : D) (files : F) → Beside result worn disk files → ((worn ≡ true) ↔ (result ≡ Err DiskFault)) → KeepsStore (ended result worn disk files)
@@ -140,7 +141,7 @@ module _ {D F : Type 0} (d : DiskGhosts D) (f : FilesGhosts F) (found : Found) (
       untouched = λ refused. absurd refused;
       on_disk = λ told. record {
         agrees = λ _. agrees_quiet found (nothing_written is.disk told) (agrees told);
-        writes = only_read (Err (fault_of_reading fault)) (nothing_written is.disk told);
+        writes = only_read (Err (fault_of_reading fault)) (nothing_written is.disk told) (beside_unread fault worn disk1 files0).step;
         reads = unread_reads fault (ended (Err (fault_of_reading fault)) worn disk1 files0);
         looks = looked (wider_reads (InRestore found v) in_recipe is.disk) told;
         damage = reading_names found v (d.history disk0) (d.history disk1) told fault (is.entries told) is.seen;
@@ -196,11 +197,11 @@ module _ {D F : Type 0} (d : DiskGhosts D) (f : FilesGhosts F) (found : Found) (
         cause = λ k. counts ((ran.cause.disk.cause ∙ read.faults) k) (ran.files.sources k) (ran.cause.target.cause k);
       };
       answer = (omega (arith, from, to), retained, refl, gave.length ∙ read.recipe.sum);
-      store = store_kept (Ok (Restored v given)) false disk2 files2 (record { versions = same false; settles = tt; figures = tt }) (λ e. let no : false ≡ true = e in absurd (cc), λ e. let no : ◌≡◌ {A = Result Answer StoreFault} (Ok (Restored v given)) (Err DiskFault) = e in absurd (cc));
+      store = store_kept (Ok (Restored v given)) false disk2 files2 (record { versions = same false; settles = tt; figures = tt; step = refl }) (λ e. let no : false ≡ true = e in absurd (cc), λ e. let no : ◌≡◌ {A = Result Answer StoreFault} (Ok (Restored v given)) (Err DiskFault) = e in absurd (cc));
       untouched = λ refused. absurd refused;
       on_disk = λ told. record {
         agrees = λ _. agrees_quiet found (nothing_written (reads (Ok given) ran) told) (agrees told);
-        writes = only_read (Ok (Restored v given)) (nothing_written (reads (Ok given) ran) told);
+        writes = only_read (Ok (Restored v given)) (nothing_written (reads (Ok given) ran) told) refl;
         reads = restored_walks found v (d.history disk0) (agrees told) from to plan (read.entries told) read.made.version (d.history disk1) (nothing_written read.disk told) (d.history disk2) (nothing_written ran.disk told) (read.places told) (gave.walked told).places stays;
         looks = looked (reads (Ok given) ran) told;
         damage = tt;
@@ -261,7 +262,7 @@ module _ {D F : Type 0} (d : DiskGhosts D) (f : FilesGhosts F) (found : Found) (
       untouched = λ refused. absurd refused;
       on_disk = λ told. record {
         agrees = λ _. agrees_quiet found (nothing_written (reads (Err fault) ran) told) (agrees told);
-        writes = only_read (Err (fault_of_restore fault)) (nothing_written (reads (Err fault) ran) told);
+        writes = only_read (Err (fault_of_restore fault)) (nothing_written (reads (Err fault) ran) told) (beside_stopped fault worn disk2 files2).step;
         reads = stopped_reads fault (ended (Err (fault_of_restore fault)) worn disk2 files2);
         looks = looked (reads (Err fault) ran) told;
         damage = walk_names found v (d.history disk0) (d.history disk1) told plan (read.entries told) read.made.version (nothing_written read.disk told) (read.places told) (d.history disk2) fault met;

@@ -48,7 +48,7 @@ use Rattle.bd_store.specs.Naming.{refusal_of, with_room, AnswersNaming}
 use Rattle.bd_store.specs.Newest.{IsNewestRecipe}
 use Rattle.bd_store.specs.Shown.{HasFree, SameVersions, Shown}
 use Rattle.bd_store.specs.Touches.{is_full, AnswersByNumbers}
-use Rattle.bd_store.specs.Writes.{IsUnowned}
+use Rattle.bd_store.specs.Writes.{IsUnowned, StepsTo}
 use Rattle.bd_store.specs.declared.fault.StoreFault.{StoreFault}
 use Rattle.bd_store.specs.declared.fault.StoreFault.TheVariants.{DiskFault, OutOfMemory}
 use Rattle.bd_store.proofs.Ending.{not_both}
@@ -108,6 +108,12 @@ refused_ends (Full counted free kept) = tt
 refused_ends SourceFailed = tt
 refused_ends DiskFailed = tt
 refused_ends MemoryFailed = tt
+
+refused_step_to : (c : Catalogue) (fault : IntakeFault) → StepsTo c c (refusal_of fault)
+refused_step_to c (Full counted free kept) = refl
+refused_step_to c SourceFailed = refl
+refused_step_to c DiskFailed = tt
+refused_step_to c MemoryFailed = refl
 
 refused_answer : (found : Found) (fault : IntakeFault) → is_full found ≡ false → AnswersByNumbers found (refusal_of fault)
 refused_answer found (Full counted free kept) goes = goes
@@ -223,6 +229,7 @@ module _ {D F : Type 0} (d : DiskGhosts D) (f : FilesGhosts F) (found : Found) (
     on_disk = λ told. record {
       agrees = λ _. agrees_staged found (InFree found.sizes space) (λ place inside. omega (arith, inside.within.0)) (begun.agrees told) (written took.disk told);
       writes = unowned told (Err fault) took;
+      step = refused_step_to found.catalogue fault;
       reads = nothing_read took.disk told;
     };
     on_files = λ told. record { beside = took.files.same told; strays = strays_of _ _ _ _ (took.files.strays told); finished = tt };
@@ -293,6 +300,7 @@ module _ {D F : Type 0} (d : DiskGhosts D) (f : FilesGhosts F) (found : Found) (
           on_disk = λ told. record {
             agrees = λ _. subst (λ (s : Found). Agrees s (d.history disk3)) (sym is.made) (is.done told).agrees;
             writes = within disk3 found3 space3 (Ok answer) told is;
+            step = subst (λ a. StepsTo found.catalogue found3.catalogue (Ok a)) says (staged.version.recipe.numbers, fresh_entries staged.fresh, ap (λ (s : Found). s.catalogue) is.made);
             reads = all_read disk3 found3 space3 (Ok answer) told is;
           };
           on_files = λ told. record { beside = took.files.same told; strays = strays_of _ _ _ _ (took.files.strays told); finished = tt };
@@ -321,6 +329,7 @@ module _ {D F : Type 0} (d : DiskGhosts D) (f : FilesGhosts F) (found : Found) (
           on_disk = λ told. record {
             agrees = λ sound. not_both gone sound;
             writes = within disk3 found3 space3 (Err DiskFault) told is;
+            step = tt;
             reads = all_read disk3 found3 space3 (Err DiskFault) told is;
           };
           on_files = λ told. record { beside = took.files.same told; strays = strays_of _ _ _ _ (took.files.strays told); finished = tt };
@@ -349,7 +358,7 @@ follows_without_memory name s sound agrees goes = record {
   ends = tt;
   answer = goes;
   store = record { worn = (λ worn. not_both worn sound, λ failed. absurd (cc failed)); sizes = λ _. refl; held = refl; versions = same_versions s.store; settles = tt; figures = tt };
-  on_disk = λ told. record { agrees = λ _. agrees told; writes = made_none _ s.disk; reads = reads_none s.disk };
+  on_disk = λ told. record { agrees = λ _. agrees told; writes = made_none _ s.disk; step = refl; reads = reads_none s.disk };
   on_files = λ told. record { beside = refl; strays = record { later = omega arith; missing = inl refl }; finished = tt };
   on_both = λ told files_tell. record { step = memory_step (Backup name) s.store.held s.disk s.files; stops = safe_untouched (Backup name) s.store.held s.disk s.files OutOfMemory };
 }

@@ -29,7 +29,7 @@ use Rattle.bd_store.specs.Shown.{SameVersions, Shown}
 use Rattle.bd_store.specs.Steps.{task, IsOneStep, KeepsFiles, MakesStep, StandsOnEitherSide, Task}
 use Rattle.bd_store.specs.Stops.{IsSafeAtStops, IsSureBy}
 use Rattle.bd_store.specs.Touches.{BackupReads}
-use Rattle.bd_store.specs.Writes.{WritesArranging, WritesByCommand, WritesReady}
+use Rattle.bd_store.specs.Writes.{StepsTo, WritesArranging, WritesByCommand, WritesReady}
 use Rattle.bd_store.specs.declared.fault.StoreFault.{StoreFault}
 use Rattle.bd_store.specs.declared.fault.StoreFault.TheVariants.{DiskFault}
 use Rattle.bd_store.proofs.Behind.{ready_settled}
@@ -93,18 +93,24 @@ unready_figures new ReadMemory = tt
 
 -- ---- where the disk tells
 
-pub unready_writes : (held : ℕ) (command : Command) (found : Found) (h0 h1 : History) (fault : ReadFault) → MakesReady found command → (found.catalogue.phase ≡ Settled → WritesNothing h0 h1) → WritesOnly (IsBeside found) h0 h1 →
-    WritesByCommand held found command h0 h1 (Err (fault_of_reading fault))
-unready_writes held command found h0 h1 fault makes quiet writes = record {
-  ready = λ no.
-      let is = ready_settled found command makes no in
-      subst (λ c. WritesReady found c h0 h1) (sym is.1.1) (nothing_within _ (quiet is.0));
-  arranging = λ _. at_fault fault;
+unready_step_to : (old new : Shown) (fault : ReadFault) → Readies old new (Err fault) → StepsTo old.found.catalogue new.found.catalogue (Err (fault_of_reading fault))
+unready_step_to old new ReadDisk is = tt
+unready_step_to old new (ReadDamaged damage) is = ap (λ (s : Shown). s.found.catalogue) is.0
+unready_step_to old new ReadMemory is = ap (λ (s : Shown). s.found.catalogue) is
+
+pub unready_writes : (held : ℕ) (command : Command) (old new : Shown) (h0 h1 : History) (fault : ReadFault) → MakesReady old.found command → Readies old new (Err fault) → (old.found.catalogue.phase ≡ Settled → WritesNothing h0 h1) →
+    WritesOnly (IsBeside old.found) h0 h1 → WritesByCommand held old.found new.found command h0 h1 (Err (fault_of_reading fault))
+unready_writes held command old new h0 h1 fault makes readies quiet writes = record {
+  ready = λ rests.
+      let is = ready_settled old.found command makes rests in
+      subst (λ c. WritesReady old.found c h0 h1) (sym is.1.1) (nothing_within _ (quiet is.0));
+  step = λ _. unready_step_to old new fault readies;
+  arranging = λ _. at_fault fault (unready_step_to old new fault readies);
 } where
-  at_fault : (f : ReadFault) → WritesArranging held found command h0 h1 (Err (fault_of_reading f))
-  at_fault ReadDisk = inr writes
-  at_fault (ReadDamaged damage) = inr writes
-  at_fault ReadMemory = inr writes
+  at_fault : (f : ReadFault) → StepsTo old.found.catalogue new.found.catalogue (Err (fault_of_reading f)) → WritesArranging held old.found new.found command h0 h1 (Err (fault_of_reading f))
+  at_fault ReadDisk step = inr (record { writes = writes; step = step })
+  at_fault (ReadDamaged damage) step = inr (record { writes = writes; step = step })
+  at_fault ReadMemory step = inr (record { writes = writes; step = step })
 
 pub unready_reads : (found : Found) (h0 h1 : History) (fault : ReadFault) → BackupReads found h0 h1 (Err (fault_of_reading fault))
 unready_reads found h0 h1 ReadDisk = tt
@@ -245,7 +251,7 @@ module _ (disk files : Type 0) (command : Command) (before : Scene) (mid : Found
       untouched = λ refused. absurd (refused);
       on_disk = λ told. record {
         agrees = unready_agrees fault worn (Agrees mid h1) is.worn (is.told told).readies.agrees;
-        writes = unready_writes before.store.held command before.store.found before.disk h1 fault makes (is.told told).readies.quiet (is.told told).writes;
+        writes = unready_writes before.store.held command before.store failed.store before.disk h1 fault makes is.store (is.told told).readies.quiet (is.told told).writes;
         reads = refusal_reads command makes;
         looks = refusal_looks told command makes;
         damage = refusal_damage told command makes;

@@ -22,7 +22,7 @@ use Rattle.bd_store.specs.Readying.{Readies, ReadiesOn}
 use Rattle.bd_store.specs.Steps.{IsOneStep}
 use Rattle.bd_store.specs.Stops.{IsSafeAtStops}
 use Rattle.bd_store.specs.Touches.{InArranging, arranges_first, is_full, is_waiting}
-use Rattle.bd_store.specs.Writes.{WritesReady}
+use Rattle.bd_store.specs.Writes.{StepsTo, WritesReady}
 use Rattle.bd_store.specs.declared.fault.StoreFault.{StoreFault}
 use Rattle.bd_store.specs.declared.fault.StoreFault.TheVariants.{DiskFault, OutOfMemory, SourceFault}
 
@@ -72,6 +72,7 @@ EndsReady (Err fault) = ⊥
 pub record FollowsOnDisk (a : Attempt) : Type 0 where
   pub agrees : a.after.store.worn ≡ false → Agrees a.after.store.found a.after.disk
   pub writes : WritesReady a.before.store.found a.command a.before.disk a.after.disk
+  pub step : StepsTo a.before.store.found.catalogue a.after.store.found.catalogue a.result
   pub reads : ReadsOnly [] a.before.disk a.after.disk
 
 pub record FollowsOnBoth (a : Attempt) : Type 0 where

@@ -4,6 +4,7 @@ use Rattle.bd_model.specs.declared.command.Command.{Command}
 use Rattle.bd_model.specs.declared.command.Command.TheVariants.{List as Listing}
 use Rattle.bd_store.specs.Attempts.{attempt, beside_of, scene, KeepsVersions, Meets, SettlesBy, TellsFigures}
 use Rattle.bd_store.specs.Shown.{Shown}
+use Rattle.bd_store.specs.Writes.{StepsTo}
 use Rattle.bd_store.specs.declared.fault.StoreFault.TheVariants.{OutOfMemory}
 use Rattle.bd_store.proofs.Listed.{as_list, listed_step, listed_stops}
 use Rattle.bd_store.proofs.Meeting.{meets_told, meets_untouched, memory_step, same_versions}
@@ -28,6 +29,7 @@ returns-in-Ok g c =
             reads = refl;
             damage = tt;
             recipe = tt;
+            step = as_list (λ a. StepsTo store.found.catalogue store.found.catalogue (Ok a)) answer c.in-Ok.ensures.lines (λ l. refl);
             arranging = λ no. absurd (cc no);
             finished = tt;
             gives = tt;
@@ -42,7 +44,7 @@ returns-in-Err g c =
     record {
       meets = subst (λ (command : Command). Meets g.D.Disk.tells g.F.Files.tells (attempt command (Err OutOfMemory) here here)) (sym c.in-List.is)
           (meets_untouched _ _ _ c.requires.sound c.requires.agrees
-          (record { cause = refl; has_disk = tt; answer = refl; versions = same_versions c.args.self.now; settles = tt; figures = tt; reads = refl; damage = tt; recipe = tt; arranging = λ no. absurd (cc no); finished = tt; gives = tt })
+          (record { cause = refl; has_disk = tt; answer = refl; versions = same_versions c.args.self.now; settles = tt; figures = tt; reads = refl; damage = tt; recipe = tt; step = refl; arranging = λ no. absurd (cc no); finished = tt; gives = tt })
           (λ told files_tell. memory_step _ _ _ _)
           (λ told files_tell. safe_untouched _ _ _ _ _));
     }
