@@ -1,12 +1,8 @@
 -- A list of one command.
 use Rattle.std.proofs.Common.{◌≡◌, ◌∙◌, ℕ, List, [], ◌∷◌, ◌++◌, arith, length, refl, sym, ap, subst, Some, slice_get}
 use Rattle.std.proofs.lemmas.List.{length_push}
-use Rattle.bd_disk.specs.History.{contents}
 use Rattle.bd_model.specs.declared.answer.Answer.{Answer}
-use Rattle.bd_model.specs.declared.answer.Answer.TheVariants.{Restored}
 use Rattle.bd_model.specs.declared.command.Command.{Command}
-use Rattle.bd_model.specs.declared.command.Command.TheVariants.{Restore}
-use Rattle.bd_store.specs.Attempts.{GivesBack}
 use Rattle.bd_session.specs.Course.{Around}
 use Rattle.bd_session.specs.Turns.{Turn, Turns, no_turn, next_turn}
 use Rattle.bd_session.proofs.Turning.{none_answered}

@@ -1,11 +1,8 @@
 -- What the sink was given.
-use Rattle.std.proofs.Common.{◌≡◌, ◌≢◌, ◌⊎◌, ◌∙◌, ℕ, List, [], ◌∷◌, ◌++◌, length, take, inl, inr, refl, sym, ap, arith, append-nil, append_assoc, ⊎_elim, Ok, Err, Result}
-use Rattle.std.proofs.lemmas.Grind.{flat_map-append}
+use Rattle.std.proofs.Common.{◌≡◌, ◌⊎◌, ◌∙◌, ℕ, List, [], ◌∷◌, ◌++◌, length, take, inl, inr, refl, sym, ap, arith, append-nil, append_assoc, ⊎_elim, Ok, Err, Result}
 use Rattle.std.proofs.lemmas.List.{length_push}
-use Rattle.std.proofs.lemmas.List.Elements.{filter_map-append}
-use Rattle.bd_files.specs.Sinks.{Handed, HandsPart, moments_of, part, whole, written_of}
-use Rattle.bd_files.proofs.SinkLemmas.{hands_part-moments}
-use Rattle.bd_model.specs.Texts.{answer_text, texts}
+use Rattle.bd_files.specs.Sinks.{Handed, HandsPart, part, whole}
+use Rattle.bd_model.specs.Texts.{answer_text}
 use Rattle.bd_model.specs.declared.answer.Answer.{Answer}
 use Rattle.bd_model.specs.declared.answer.Answer.TheVariants.{FullNumbers}
 use Rattle.bd_model.specs.declared.command.Command.{Command}
@@ -14,7 +11,6 @@ use Rattle.bd_session.specs.Course.{Around, Course}
 use Rattle.bd_session.specs.Ends.{EndsBy}
 use Rattle.bd_session.specs.Telling.{HandsAnswers, told}
 use Rattle.bd_session.specs.Turns.{AllAnswered, Goes, LastTurn, NoneBegun, NotBegun, Turns, no_turn, next_turn}
-use Rattle.bd_session.specs.declared.report.SessionEnd.TheVariants.{OutputFault}
 use Rattle.bd_session.proofs.Turning.{unsaid}
 
 -- one text more

@@ -1,14 +1,13 @@
 -- A list that began behind calls that only read, as those of an opening.
-use Rattle.std.proofs.Common.{◌≡◌, ◌⊎◌, ℕ, zero, suc, ◌+◌, ◌<◌, ◌≤◌, List, ◌∷◌, inl, inr, refl, sym, subst, arith, get_or, length}
+use Rattle.std.proofs.Common.{◌≡◌, ◌⊎◌, ℕ, zero, suc, ◌+◌, ◌<◌, ◌≤◌, List, ◌∷◌, inl, inr, refl, arith, get_or, length}
 use Rattle.bd_disk.specs.History.{History, clock, contents, Since}
 use Rattle.bd_disk.specs.Made.{LeavesNow, WritesNothing, WritesOnly}
-use Rattle.bd_disk.proofs.Frames.{later, leaves_quiet, made_both, nothing_within, since_either, still_now, unchanged}
+use Rattle.bd_disk.proofs.Frames.{later, leaves_quiet, made_both, nothing_within, since_either}
 use Rattle.bd_model.specs.FileMap.{FileMap}
-use Rattle.bd_model.specs.declared.command.Command.{Command}
-use Rattle.bd_catalog.specs.Standing.{Stands, StandsFor}
+use Rattle.bd_catalog.specs.Standing.{Stands}
 use Rattle.bd_session.specs.Course.{Course, answered}
 use Rattle.bd_session.specs.Headline.{MeetsTheHeadline, StandsAfter, carried_out, last_state}
-use Rattle.bd_session.specs.Promised.{IsPromised, Start}
+use Rattle.bd_session.specs.Promised.{Start}
 use Rattle.bd_session.specs.declared.report.SessionEnd.TheVariants.{DiskFault}
 
 -- the commands met the headline from where those calls ended, and so they do from where they began

@@ -9,3 +9,6 @@ mod turns;
 pub use report::{SessionEnd, SessionReport};
 pub use telling::{Untold, put_text, tell_answer};
 pub use turns::session;
+
+#[cfg(test)]
+mod tests;

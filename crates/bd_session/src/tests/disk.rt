@@ -1,10 +1,10 @@
 //! The disk in memory, and one over a real file.
-use super::*;
+use bd_disk::{Disk, Failed, FileDisk, MemDisk, crash_image};
 use std::fs;
 use std::fs::OpenOptions;
 use std::test::Fail;
 
-const PATH: &str = "bd_disk_test";
+const PATH: &str = "bd_session.disk";
 
 #[test]
 fn a_disk_in_memory_takes_calls(rt: HostRuntime) -> Result<(), Fail> {

@@ -1,6 +1,6 @@
 //! Files of the folder.
-use super::*;
 use bd_disk::{Failed, MemDisk};
+use bd_files::{Files, MemFiles, MemSink, RealFiles, Sink};
 use bd_model::Name;
 use std::fs;
 use std::os::unix::fs::symlink;
@@ -35,10 +35,10 @@ fn a_text_in_memory_is_kept(rt: HostRuntime) -> Result<(), Fail> {
 
 #[test]
 fn a_file_of_the_folder_is_filled(rt: HostRuntime) -> Result<(), Fail> {
-    let name = Name::new(rt.alloc(), "bd_files.filled")?;
+    let name = Name::new(rt.alloc(), "bd_session.filled")?;
     let mut into = [9u8; 6];
     let given = round_trip(&mut RealFiles::new(rt), &name, &mut into);
-    fs::remove_file(&rt, "bd_files.filled")?;
+    fs::remove_file(&rt, "bd_session.filled")?;
     assert_eq!(rt; given, Ok(4));
     assert_eq!(rt; into, [0, 7, 8, 0, 9, 9]);
     Ok(())
@@ -55,12 +55,12 @@ fn put_about(files: &mut RealFiles<HostRuntime>, name: &Name) -> Result<(), Fail
 
 #[test]
 fn bytes_stand_where_they_were_put(rt: HostRuntime) -> Result<(), Fail> {
-    let name = Name::new(rt.alloc(), "bd_files.about")?;
+    let name = Name::new(rt.alloc(), "bd_session.about")?;
     let mut files = RealFiles::new(rt);
     put_about(&mut files, &name)?;
     files.finish(&name)?;
-    let bytes = fs::read(&rt, "bd_files.about")?;
-    fs::remove_file(&rt, "bd_files.about")?;
+    let bytes = fs::read(&rt, "bd_session.about")?;
+    fs::remove_file(&rt, "bd_session.about")?;
     assert_eq!(rt; bytes.len(), 200_000);
     assert_eq!(rt; bytes.get(..6), Some(b"abcd\0\x07".as_slice()));
     Ok(())
@@ -68,40 +68,40 @@ fn bytes_stand_where_they_were_put(rt: HostRuntime) -> Result<(), Fail> {
 
 #[test]
 fn a_file_that_is_being_filled_is_read(rt: HostRuntime) -> Result<(), Fail> {
-    let name = Name::new(rt.alloc(), "bd_files.read")?;
+    let name = Name::new(rt.alloc(), "bd_session.read")?;
     let mut files = RealFiles::new(rt);
     let mut into = [9u8; 2];
     files.begin(&name, 2)?;
     files.put(&name, 1, &[7])?;
     files.fetch(&name, 0, &mut into)?;
-    fs::remove_file(&rt, "bd_files.read")?;
+    fs::remove_file(&rt, "bd_session.read")?;
     assert_eq!(rt; into, [0, 7]);
     Ok(())
 }
 
 #[test]
 fn a_file_is_written_before_another_begins(rt: HostRuntime) -> Result<(), Fail> {
-    let first = Name::new(rt.alloc(), "bd_files.first")?;
-    let second = Name::new(rt.alloc(), "bd_files.second")?;
+    let first = Name::new(rt.alloc(), "bd_session.first")?;
+    let second = Name::new(rt.alloc(), "bd_session.second")?;
     let mut files = RealFiles::new(rt);
     files.begin(&first, 2)?;
     files.put(&first, 1, &[7])?;
     files.begin(&second, 0)?;
-    let bytes = fs::read(&rt, "bd_files.first")?;
-    fs::remove_file(&rt, "bd_files.first")?;
-    fs::remove_file(&rt, "bd_files.second")?;
+    let bytes = fs::read(&rt, "bd_session.first")?;
+    fs::remove_file(&rt, "bd_session.first")?;
+    fs::remove_file(&rt, "bd_session.second")?;
     assert_eq!(rt; bytes.as_slice(), [0, 7].as_slice());
     Ok(())
 }
 
 #[test]
 fn a_write_that_fails_is_told_by_finish(rt: HostRuntime) -> Result<(), Fail> {
-    let name = Name::new(rt.alloc(), "bd_files.full")?;
-    symlink(&rt, "/dev/full", "bd_files.full")?;
+    let name = Name::new(rt.alloc(), "bd_session.full")?;
+    symlink(&rt, "/dev/full", "bd_session.full")?;
     let mut files = RealFiles::new(rt);
     files.put(&name, 0, &[7])?;
     let finished = files.finish(&name);
-    fs::remove_file(&rt, "bd_files.full")?;
+    fs::remove_file(&rt, "bd_session.full")?;
     assert_eq!(rt; finished, Err(Failed));
     Ok(())
 }

@@ -1,7 +1,7 @@
 use Rattle.std.proofs.Common.{subst, sym, replicate, lit≤}
 use Rattle.bd_files.specs.Files.{Holds}
 use Rattle.bd_files.proofs.FileLemmas.{holds_what_was_put}
-use Rattle.bd_files.proofs.tests.round_trip.Goals as goal
+use Rattle.bd_session.proofs.tests.files.round_trip.Goals as goal
 
 -- what was begun is there, with its four bytes
 pub put-requires : goal.put-requires

@@ -1,0 +1,3 @@
+//! What lies outside: real disks and files, and those in memory.
+mod disk;
+mod files;
