@@ -1,8 +1,9 @@
 -- A list of one command.
-use Rattle.std.proofs.Common.{◌≡◌, ◌∙◌, ℕ, List, [], ◌∷◌, ◌++◌, arith, length, refl, sym, ap, subst, Some, slice_get}
+use Rattle.std.proofs.Common.{◌≡◌, ◌∙◌, ℕ, List, [], ◌∷◌, ◌++◌, arith, length, refl, sym, ap, subst, slice_get}
 use Rattle.std.proofs.lemmas.List.{length_push}
 use Rattle.bd_model.specs.declared.answer.Answer.{Answer}
 use Rattle.bd_model.specs.declared.command.Command.{Command}
+use Rattle.bd_model.proofs.ListLemmas.{same_some}
 use Rattle.bd_session.specs.Course.{Around}
 use Rattle.bd_session.specs.Turns.{Turn, Turns, no_turn, next_turn}
 use Rattle.bd_session.proofs.Turning.{none_answered}
@@ -20,13 +21,10 @@ pub one_turn : {disk files sink : Type 0} {command : Command} {first now : Aroun
 one_turn no_turn answer is = absurd (cc is)
 one_turn {disk} {files} {sink} {command} {first} {now} (next_turn {answers} {clocks} {before} asked other moment turns there turn) answer is =
     let one = only_one answers answer other is in
-    let same : command ≡ asked = first_of_one (ap (slice_get (command ∷ [])) (sym (ap length one.0)) ∙ there) in
+    let same : command ≡ asked = same_some (ap (slice_get (command ∷ [])) (sym (ap length one.0)) ∙ there) in
     record {
       moment = moment;
       turn = subst (λ (x : Command). Turn disk files sink x answer moment first now) (sym same)
           (subst (λ (x : Answer). Turn disk files sink asked x moment first now) one.1
           (subst (λ (x : Around). Turn disk files sink asked other moment x now) (none_answered turns one.0) turn));
     }
-  where
-    first_of_one : {x y : Command} → Some x ≡ Some y → x ≡ y
-    first_of_one e = cc e

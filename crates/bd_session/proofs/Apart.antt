@@ -17,6 +17,7 @@ use Rattle.bd_model.specs.declared.command.Command.TheVariants.{Backup, Restore,
 use Rattle.bd_model.proofs.ChunkListLemmas.{contains-append}
 use Rattle.bd_model.proofs.GivenLemmas.{given_chunks_stay_apart, joined}
 use Rattle.bd_model.proofs.LeadingLemmas.{commands_lead_on}
+use Rattle.bd_model.proofs.ListLemmas.{same_some}
 use Rattle.bd_model.proofs.NeedLemmas.{Near-from_Distinct}
 use Rattle.bd_store.specs.Steps.{task, versions_with, is_full, IsNear}
 use Rattle.bd_session.specs.Promised.{DistinctMarksTellApart}
@@ -64,9 +65,7 @@ from_there : (commands : List Command) (n k : ℕ) (command : Command) → k < n
 from_there [] n zero command low there = absurd (cc there)
 from_there [] n (suc k) command low there = absurd (cc there)
 from_there (d ∷ commands) zero k command low there = absurd (omega (arith, low))
-from_there (d ∷ commands) (suc n) zero command low there = (unheld (take n commands), (λ i. record { held = 0; command = first there i } ∷ unheld (take n commands))) where
-  first : Some d ≡ Some command → d ≡ command
-  first e = cc e
+from_there (d ∷ commands) (suc n) zero command low there = (unheld (take n commands), (λ i. record { held = 0; command = same_some there i } ∷ unheld (take n commands)))
 from_there (d ∷ commands) (suc n) (suc k) command low there = from_there commands n k command (omega (arith, low)) there
 
 pub distinct_marks_tell_apart : DistinctMarksTellApart

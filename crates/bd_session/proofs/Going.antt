@@ -18,6 +18,7 @@ use Rattle.bd_model.specs.Folds.{HeldCommand, Point, point_of, outcomes, phases,
 use Rattle.bd_model.specs.State.{VersionState}
 use Rattle.bd_model.specs.Step.{Outcome, step, phase_after, without_room}
 use Rattle.bd_model.proofs.LeadingLemmas.{commands_lead_on}
+use Rattle.bd_model.proofs.ListLemmas.{same_some}
 use Rattle.bd_catalog.specs.Opening.{Found, opened}
 use Rattle.bd_catalog.specs.Standing.{Stands, StandsFor}
 use Rattle.bd_store.specs.Steps.{task, StandsOnEitherSide}
@@ -79,15 +80,6 @@ none_gone s commands honest = record {
 
 -- ---- the phase
 
-some_phase : {p q : Phase} → Some p ≡ Some q → p ≡ q
-some_phase e = cc e
-
-some_command : {c d : HeldCommand} → Some c ≡ Some d → c ≡ d
-some_command e = cc e
-
-some_point : {p q : Point} → Some p ≡ Some q → p ≡ q
-some_point e = cc e
-
 no_point : (p : Point) → None ≡ Some p → ⊥
 no_point p e = cc
 
@@ -105,10 +97,10 @@ module _ (shape : Shape) where
       none zero f = cc f
       none (suc k) f = cc f
   phases_on (d ∷ commands) s files phase zero p c o at e here there is =
-      let same : d ≡ c = some_command there in
-      let begun : record { state = s; files = files } ≡ p = some_point e in
+      let same : d ≡ c = same_some there in
+      let begun : record { state = s; files = files } ≡ p = same_some e in
       let made : step shape d.held s files d.command ≡ Some o = (λ i. step shape (same i).held (begun i).state (begun i).files (same i).command) ∙ is in
-      subst (λ r. slice_get (phases phase (later_outcomes r commands)) 0 ≡ Some (phase_after o.state at o.answer)) (sym made) (ap (λ x. Some (phase_after o.state x o.answer)) (some_phase here))
+      subst (λ r. slice_get (phases phase (later_outcomes r commands)) 0 ≡ Some (phase_after o.state at o.answer)) (sym made) (ap (λ x. Some (phase_after o.state x o.answer)) (same_some here))
   phases_on (d ∷ commands) s files phase (suc k) p c o at e here there is =
       elim (step shape d.held s files d.command)
       as (λ t. slice_get (map point_of (later_outcomes t commands)) k ≡ Some p → slice_get (phases phase (later_outcomes t commands)) k ≡ Some at → slice_get (phases phase (later_outcomes t commands)) (suc k) ≡ Some (phase_after o.state at o.answer)) [

@@ -16,6 +16,7 @@ use Rattle.bd_model.specs.declared.damage.Damage.{Damage}
 use Rattle.bd_model.specs.declared.layout.Phase.{Phase}
 use Rattle.bd_model.specs.declared.layout.Phase.TheVariants.{Settled}
 use Rattle.bd_model.specs.declared.shape.Shape.{Shape}
+use Rattle.bd_model.proofs.ListLemmas.{same_some}
 use Rattle.bd_catalog.specs.Standing.{Stands, StandsFor}
 use Rattle.bd_store.specs.Attempts.{Meets, MeetsOnBoth, Scene, attempt}
 use Rattle.bd_store.specs.Causes.{Counts}
@@ -59,9 +60,7 @@ stands_on t phase answer image files done =
 
 -- each image stands for that outcome
 sure_on : (t : Task) (phase : Phase) (answer : Answer) (files : FileMap) (old new : History) (done : Answered t phase answer (contents new) files) → StopsOnEitherSide t old new (Ok answer) → LeavesNow (Stands t.shape t.held done.outcome.state) new
-sure_on t phase answer files old new done stops = subst (λ (o : Outcome). LeavesNow (Stands t.shape t.held o.state) new) (one (sym stops.done.leads ∙ done.leads)) stops.done.sure where
-  one : {o p : Outcome} → Some o ≡ Some p → o ≡ p
-  one e = cc e
+sure_on t phase answer files old new done stops = subst (λ (o : Outcome). LeavesNow (Stands t.shape t.held o.state) new) (same_some (sym stops.done.leads ∙ done.leads)) stops.done.sure
 
 -- ---- the turns
 

@@ -4,7 +4,7 @@ use Rattle.bd_disk.specs.History.{History, contents}
 use Rattle.bd_disk.specs.Looks.{LooksOnlyAt}
 use Rattle.bd_disk.specs.Made.{LeavesSince, WritesNothing, WritesOnly}
 use Rattle.bd_disk.specs.Trace.{ReadsOnly}
-use Rattle.bd_disk.proofs.Frames.{leaves_both, leaves_now, leaves_wider, made_both, made_none, nothing_within}
+use Rattle.bd_disk.proofs.Frames.{leaves_both, leaves_now, leaves_wider, made_both, nothing_within}
 use Rattle.bd_disk.proofs.Looking.{looks_from}
 use Rattle.bd_disk.proofs.Traces.{reads_both}
 use Rattle.bd_model.specs.FileMap.{FileMap}

@@ -1,5 +1,5 @@
 -- An expiry by one commit: one step from any state for which the contents stand, and safe at every stop.
-use Rattle.std.proofs.Common.{◌≡◌, ◌∙◌, ◌⊎◌, inl, inr, ⊎_elim, ◌≤◌, ℕ, Bool, true, false, List, [], length, refl, sym, ap, subst, arith, cond, None, Some, Result, Ok, Err}
+use Rattle.std.proofs.Common.{◌≡◌, ◌∙◌, inl, inr, ⊎_elim, ◌≤◌, ℕ, Bool, true, false, List, [], length, refl, sym, ap, subst, arith, cond, None, Some, Result, Ok, Err}
 use Rattle.std.proofs.lemmas.Bool.{and_left, and_right, cases_lt, eq-eqb, ne_eqb}
 use Rattle.std.specs.Prelude.{◌==◌, IsTrue, OnOk}
 use Rattle.std.specs.Result.{is_err}

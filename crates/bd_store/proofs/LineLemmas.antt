@@ -1,16 +1,14 @@
 -- The lines of versions, one after the other.
-use Rattle.std.proofs.Common.{◌≡◌, ℕ, zero, suc, ◌+◌, List, [], ◌∷◌, ◌++◌, take, sym, ◌∙◌, ap, arith, add-one, Option, Some, None, slice_get}
+use Rattle.std.proofs.Common.{◌≡◌, ℕ, zero, suc, ◌+◌, List, [], ◌∷◌, ◌++◌, take, sym, ◌∙◌, ap, arith, add-one, Some, slice_get}
+use Rattle.bd_model.proofs.ListLemmas.{same_some}
 use Rattle.bd_catalog.specs.Catalogue.{VersionEntry}
 use Rattle.bd_catalog.specs.Standing.{lines_from}
 use Rattle.bd_catalog.proofs.StandingLists.{line_of}
 
-some-same : {X : Type 0} (x y : X) → Some x ≡ Some y → x ≡ y
-some-same {X = X} x y e = let from : Option X → X = λ o. elim o [ None ↦ x | Some z ↦ z ] in ap from e
-
 lines-suc : (v : ℕ) (es : List VersionEntry) (i : ℕ) (e : VersionEntry) → slice_get es i ≡ Some e → lines_from v (take (suc i) es) ≡ lines_from v (take i es) ++ line_of (v + i) e ∷ []
 lines-suc v [] i e there = absurd (cc there)
 lines-suc v (x ∷ es) zero e there =
-    let same : x ≡ e = some-same x e there in
+    let same : x ≡ e = same_some there in
     let at : v ≡ v + 0 = omega arith in
     λ k. line_of (at k) (same k) ∷ []
 lines-suc v (x ∷ es) (suc i) e there =

@@ -1,5 +1,5 @@
 -- An arranging that is answered with the figures of a settled store is its step, and safe at every stop.
-use Rattle.std.proofs.Common.{◌≡◌, ◌∙◌, ℕ, false, inl, refl, sym, ap, subst, arith, Some, Ok}
+use Rattle.std.proofs.Common.{◌≡◌, ◌∙◌, false, inl, refl, sym, ap, subst, arith, Some, Ok}
 use Rattle.bd_disk.specs.History.{History, contents}
 use Rattle.bd_disk.proofs.Frames.{made_none}
 use Rattle.bd_disk.proofs.Traces.{reads_none}
@@ -14,7 +14,6 @@ use Rattle.bd_model.specs.declared.layout.Phase.{Phase}
 use Rattle.bd_model.specs.declared.layout.Phase.TheVariants.{Settled}
 use Rattle.bd_model.specs.declared.shape.Shape.{Shape}
 use Rattle.bd_catalog.specs.Agreement.{Agrees}
-use Rattle.bd_catalog.specs.Opening.{Found}
 use Rattle.bd_catalog.specs.Standing.{StandsFor}
 use Rattle.bd_catalog.proofs.Standing.{stands-shows}
 use Rattle.bd_store.specs.Attempts.{Meets, Scene, attempt}

@@ -1,7 +1,6 @@
 -- A command that makes the store ready first, and what it does then.
 use Rattle.std.specs.Prelude.{◌≡◌, ◌↔◌, true, false, [], Result, Ok, Err}
 use Rattle.bd_disk.specs.Calls.{FailsByCount}
-use Rattle.bd_disk.specs.History.{History}
 use Rattle.bd_disk.specs.Looks.{LooksOnlyAt}
 use Rattle.bd_disk.specs.Made.{WritesOnly}
 use Rattle.bd_disk.specs.Trace.{ReadsOnly}

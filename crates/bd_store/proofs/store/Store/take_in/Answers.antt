@@ -1,7 +1,6 @@
-use Rattle.std.proofs.Common.{◌≡◌, ◌∙◌, ◌↔◌, ◌+◌, ◌≤◌, ℕ, Bool, true, false, length, refl, sym, ap, subst, arith, Result, Err}
+use Rattle.std.proofs.Common.{◌≡◌, ◌∙◌, ◌↔◌, ◌+◌, ℕ, Bool, true, false, length, refl, sym, ap, subst, arith, Result, Err}
 use Rattle.bd_disk.specs.History.{contents}
 use Rattle.bd_disk.proofs.RunLemmas.{written}
-use Rattle.bd_model.specs.Sizes.{Sizes}
 use Rattle.bd_model.specs.declared.answer.Answer.{Answer}
 use Rattle.bd_model.specs.declared.command.Command.TheVariants.{Backup}
 use Rattle.bd_space.specs.Allotment.{held_count, TakenExactly}
