@@ -1,5 +1,5 @@
 -- Arranging, one category after the other: what holds between two turns, and that it holds after one more.
-use Rattle.std.proofs.Common.{◌≡◌, ◌≢◌, ⊎_elim, ℕ, zero, suc, ◌+◌, ◌-◌, ◌<◌, ◌≤◌, Bool, true, false, cond, ◌&&◌, List, [], ◌∷◌, ◌++◌, length, take, map, filter, flat_map, get_or, max, nat_eq, nat_lt, nat_le, refl, sym, ◌∙◌, ap, subst, arith, sum_by, append_assoc, length-append}
+use Rattle.std.proofs.Common.{◌≡◌, ◌≢◌, ⊎_elim, ℕ, zero, suc, ◌+◌, ◌-◌, ◌<◌, ◌≤◌, true, false, cond, ◌&&◌, List, [], ◌∷◌, ◌++◌, length, take, map, filter, flat_map, get_or, max, nat_eq, nat_lt, nat_le, refl, sym, ◌∙◌, ap, subst, arith, sum_by, append_assoc, length-append}
 use Rattle.std.specs.Prelude.{All, Contains, IsTrue, ◌==◌, Result, Ok, Err}
 use Rattle.std.specs.List.{IsDistinct, list_all}
 use Rattle.std.specs.List.Sorted.{IsStrictlyIncreasing}
@@ -7,7 +7,7 @@ use Rattle.std.proofs.lemmas.Bool.{false≢true, ltb-true}
 use Rattle.std.proofs.lemmas.List.{append-nil, map-append}
 use Rattle.std.proofs.lemmas.List.Concat.{flat_map-append}
 use Rattle.std.proofs.lemmas.List.Elements.{All-append, All-cons, All-nil, All-contains, All-contains_itself, All-weaker, Contains-append_cases, Contains-append_left, Contains-append_right}
-use Rattle.std.proofs.lemmas.List.Folds.{flat_map-map, list_all-append}
+use Rattle.std.proofs.lemmas.List.Folds.{flat_map-map}
 use Rattle.std.proofs.lemmas.List.Sums.{AllPass-from_list_all}
 use Rattle.std.proofs.lemmas.Option.{slice_get_within}
 use Rattle.bd_disk.specs.History.{contents}
@@ -54,7 +54,6 @@ use Rattle.bd_recipe.specs.declared.fault.ReadFault.{ReadFault}
 use Rattle.bd_recipe.specs.declared.fault.ReadFault.TheVariants.{DiskFault, Damaged, OutOfMemory}
 use Rattle.bd_recipe.proofs.Versions.{are_all, are_left, are_right}
 use Rattle.bd_volume.specs.Growing.{CanGrow}
-use Rattle.bd_volume.specs.Headers.{HasGoodHeaders}
 use Rattle.bd_volume.specs.Named.{InNamed}
 use Rattle.bd_volume.proofs.Copying.{no_work, work_told}
 use Rattle.bd_volume.proofs.RowsMore.{bytes-rows_more}
