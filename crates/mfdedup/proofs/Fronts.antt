@@ -1,5 +1,5 @@
 -- The first bytes of a file, fetch after fetch.
-use Rattle.std.proofs.Common.{◌≡◌, ◌∙◌, ℕ, ◌+◌, ◌≤◌, List, ◌++◌, length, take, drop, refl, sym, subst, ap, arith, inl, inr, ⊎_elim, Option, None, Some, Result, Ok, take-take, length-take-le}
+use Rattle.std.proofs.Common.{◌≡◌, ◌∙◌, ℕ, ◌+◌, ◌≤◌, List, ◌++◌, length, take, drop, refl, sym, subst, ap, arith, inr, ⊎_elim, Option, None, Some, Result, Ok, take-take, length-take-le}
 use Rattle.std.proofs.Math.Seq.{take-add, take-append-add}
 use Rattle.std.proofs.lemmas.Slice.{take-put_mid}
 use Rattle.std.specs.Prelude.{IsErr}
