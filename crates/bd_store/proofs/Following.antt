@@ -1,12 +1,12 @@
 -- A command that made the store ready meets its promise by what it does then.
-use Rattle.std.proofs.Common.{◌↔◌, true, false, ◌≡◌, ◌∙◌, Bool, refl, sym, ap, subst, Result, Ok, Err}
+use Rattle.std.proofs.Common.{◌↔◌, true, false, ◌≡◌, ◌∙◌, ℕ, Bool, List, refl, sym, ap, subst, Result, Ok, Err}
 use Rattle.std.proofs.lemmas.Bool.{false_from_ne_true}
 use Rattle.bd_recipe.specs.Reading.{is_disk_fault}
 use Rattle.bd_volume.specs.Named.{IsBeside}
 use Rattle.bd_recipe.specs.declared.fault.ReadFault.{ReadFault}
 use Rattle.bd_recipe.specs.declared.fault.ReadFault.TheVariants.{DiskFault as ReadDisk}
 use Rattle.bd_disk.specs.Calls.{FailsByCount}
-use Rattle.bd_disk.specs.History.{History}
+use Rattle.bd_disk.specs.History.{History, contents}
 use Rattle.bd_disk.specs.Looks.{LooksOnlyAt}
 use Rattle.bd_disk.specs.Runs.{Works}
 use Rattle.bd_disk.specs.declared.disk.Disk.{Ghosts as DiskGhosts}
@@ -14,19 +14,23 @@ use Rattle.bd_disk.proofs.RunLemmas.{work_looked, work_written}
 use Rattle.bd_model.specs.declared.answer.Answer.{Answer}
 use Rattle.bd_model.specs.declared.command.Command.{Command}
 use Rattle.bd_model.specs.declared.command.Command.TheVariants.{Backup, Restore, Expire, Reorganise, Scrub, List as Listing}
+use Rattle.bd_model.specs.declared.layout.RecipeEntry.{RecipeEntry}
 use Rattle.bd_catalog.specs.Agreement.{Agrees}
 use Rattle.bd_catalog.specs.Opening.{Found}
 use Rattle.bd_recipe.specs.Marked.{Marked}
-use Rattle.bd_store.specs.Attempts.{Beside, scene_beside, Attempt, Meets, Scene, attempt, DamageByCommand, GivesByCommand, LooksByCommand, NewestEnds, ReadsByCommand, RecipeByCommand}
+use Rattle.bd_store.specs.Attempts.{Beside, scene_beside, Attempt, Meets, Scene, attempt, DamageByCommand, TransfersByCommand, LooksByCommand, NewestEnds, ReadsByCommand, RecipeByCommand}
 use Rattle.bd_store.specs.Following.{Follows, IsMadeReady, IsMadeReadyOn, MakesReady}
 use Rattle.bd_store.specs.Naming.{NamesArranging}
+use Rattle.bd_store.specs.Newest.{IsNewestRecipe}
 use Rattle.bd_store.specs.Readying.{IsReady, Readies, ReadiesOn}
 use Rattle.bd_store.specs.Shown.{Shown}
 use Rattle.bd_store.specs.Steps.{KeepsFiles}
+use Rattle.bd_store.specs.Taken.{Source, TakesStream}
 use Rattle.bd_store.specs.Touches.{InArranging, ExpiryReads, IsByNumbers}
 use Rattle.bd_store.specs.declared.fault.StoreFault.{StoreFault}
 use Rattle.bd_store.proofs.Behind.{answers_before, backup_reads, step_before, stops_before, then_no_looks, then_none, versions_before, writes_before}
 use Rattle.bd_store.proofs.Ending.{gone_on, went_on, rests_not, by_end, not_both}
+use Rattle.bd_store.proofs.Taken.{counted_before, newest_same, taken_before}
 
 module _ (disk files : Type 0) (command : Command) (before : Scene) (mid : Found) (worn : Bool) (h1 : History) (after : Scene) (neighbour : Marked) (result : Result Answer StoreFault)
     (makes : MakesReady before.store.found command) (agrees : disk → Agrees before.store.found before.disk) where
@@ -106,13 +110,33 @@ module _ (disk files : Type 0) (command : Command) (before : Scene) (mid : Found
       memory = λ is. is;
     }) result follows.ends
 
-    gives : (c : Command) → MakesReady before.store.found c → GivesByCommand whole c result
-    gives (Backup name) may = tt
-    gives Expire may = tt
-    gives Reorganise may = tt
-    gives (Restore v name) may = absurd may
-    gives Scrub may = absurd may
-    gives Listing may = absurd may
+    taken : disk → (old : List RecipeEntry) (stream : List ℕ) → IsNewestRecipe before.store.found (contents before.disk) old →
+        TakesStream (record { found = mid; held = before.store.held; old = old; stream = stream }) after.store.found (contents after.disk) result →
+        TakesStream (record { found = before.store.found; held = before.store.held; old = old; stream = stream }) after.store.found (contents after.disk) result
+    taken told old stream newest_before =
+        let of : Found → Source = λ f. record { found = f; held = before.store.held; old = old; stream = stream } in
+        by_end (λ e. TakesStream (of mid) after.store.found (contents after.disk) e → TakesStream (of before.store.found) after.store.found (contents after.disk) e) (record {
+          named = λ version bytes chunks fresh need is. taken_before before.store.found mid ready.settled before.store.held old stream is;
+          full = λ counted free held is. counted_before before.store.found mid ready.settled before.store.held old stream is;
+          expired = λ version extents is. tt;
+          arranged = λ owned free is. tt;
+          source = λ is. tt;
+          disk = λ is. tt;
+          memory = λ is. tt;
+        }) result follows.ends
+
+    transfers : disk → (c : Command) → MakesReady before.store.found c → TransfersByCommand (attempt command result now after) c result → TransfersByCommand whole c result
+    transfers told (Backup name) may is = record {
+      taken = λ old stream newest_before there.
+          let same : neighbour.entries ≡ old = newest_same (readied told).readies.answer.found_before newest_before in
+          taken told old stream newest_before (is.taken old stream (subst (IsNewestRecipe mid (contents h1)) same (readied told).readies.answer.recipe) there);
+      missing = is.missing;
+    }
+    transfers told Expire may is = tt
+    transfers told Reorganise may is = tt
+    transfers told (Restore v name) may is = absurd may
+    transfers told Scrub may is = absurd may
+    transfers told Listing may is = absurd may
 
     same_files : (c : Command) → MakesReady before.store.found c → KeepsFiles c before.files after.files → after.files ≡ before.files
     same_files (Backup name) may keeps = keeps
@@ -147,7 +171,7 @@ module _ (disk files : Type 0) (command : Command) (before : Scene) (mid : Found
       };
       on_files = λ told. record { beside = (follows.on_files told).beside; strays = (follows.on_files told).strays; finished = (follows.on_files told).finished };
       on_both = λ told files_tell. record {
-        gives = gives command makes;
+        transfers = transfers told command makes (follows.on_both told files_tell).transfers;
         step = step_before command before.store.held before.store.found mid before.disk h1 after.disk before.files after.files result neighbour makes follows.ends follows.answer (agrees told) (readied told).readies.states (follows.on_both told files_tell).step (same_files command makes (follows.on_files files_tell).beside);
         stops = stops_before command before.store.held before.store.found mid before.disk h1 after.disk before.files after.files result neighbour makes follows.ends follows.answer (agrees told) (readied told).readies.states (follows.on_both told files_tell).stops;
       };

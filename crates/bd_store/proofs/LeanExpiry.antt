@@ -202,7 +202,7 @@ module _ {D : Type 0} (d : DiskGhosts D) (beside : Beside) (found : Found) (held
     };
     on_files = λ told. record { beside = refl; strays = record { later = omega arith; missing = inl refl }; finished = tt };
     on_both = λ told files_tell. record {
-      gives = tt;
+      transfers = tt;
       step = expired_step found held beside.files h0 h1 (agrees told) fits version extents is_version is_extents (made told) (either told).stops;
       stops = expired_stops found held beside.files h0 h1 (agrees told) fits version extents is_version is_extents (made told) (either told).stops;
     };
@@ -232,7 +232,7 @@ module _ {D : Type 0} (d : DiskGhosts D) (beside : Beside) (found : Found) (held
     };
     on_files = λ told. record { beside = refl; strays = record { later = omega arith; missing = inl refl }; finished = tt };
     on_both = λ told files_tell. record {
-      gives = tt;
+      transfers = tt;
       step = failed_step found held beside.files h0 h1 (agrees told) fits (either told);
       stops = failed_stops found held beside.files h0 h1 (agrees told) fits (either told);
     };
@@ -302,5 +302,5 @@ lean_follows {disk} {files} {result} {before} {after} settled some meets =
             }) result ends is.reads;
           };
       on_files = meets.on_files;
-      on_both = λ told files_tell. record { step = (meets.on_both told files_tell).step; stops = (meets.on_both told files_tell).stops };
+      on_both = λ told files_tell. record { transfers = tt; step = (meets.on_both told files_tell).step; stops = (meets.on_both told files_tell).stops };
     }

@@ -21,3 +21,4 @@ pub mod Readying
 pub mod TakingIn
 pub mod LeanExpiry
 pub mod Unowned
+pub mod Taken

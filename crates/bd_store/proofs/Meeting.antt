@@ -8,7 +8,7 @@ use Rattle.bd_model.specs.declared.command.Command.{Command}
 use Rattle.bd_model.specs.declared.command.Command.TheVariants.{Backup, Restore, Expire, Reorganise, Scrub, List as Listing}
 use Rattle.bd_catalog.specs.Agreement.{Agrees}
 use Rattle.bd_catalog.specs.Opening.{Found}
-use Rattle.bd_store.specs.Attempts.{Scene, Attempt, attempt, DamageByCommand, FinishesByCommand, GivesByCommand, IsAnswerOf, KeepsVersions, LooksByCommand, Meets, ReadsByCommand, RecipeByCommand, SettlesBy, TellsFigures}
+use Rattle.bd_store.specs.Attempts.{Scene, Attempt, attempt, DamageByCommand, FinishesByCommand, TransfersByCommand, IsAnswerOf, KeepsVersions, LooksByCommand, Meets, ReadsByCommand, RecipeByCommand, SettlesBy, TellsFigures}
 use Rattle.bd_store.specs.Causes.{ByCount}
 use Rattle.bd_store.specs.Shown.{Shown, SameVersions}
 use Rattle.bd_store.specs.Steps.{IsOneStep, KeepsFiles}
@@ -78,7 +78,7 @@ module _ (command : Command) (result : Result Answer StoreFault) (s : Scene) whe
     pub step : StepsTo s.store.found.catalogue s.store.found.catalogue result
     pub arranging : arranges s.store.found command ≡ true → WritesArranging s.store.held s.store.found s.store.found command s.disk s.disk result
     pub finished : FinishesByCommand command result s.unfinished
-    pub gives : GivesByCommand still command result
+    pub transfers : TransfersByCommand still command result
 
   pub meets_untouched : {disk files : Type 0} → s.store.worn ≡ false → (disk → Agrees s.store.found s.disk) → IsAnswered →
       (disk → files → IsOneStep command s.store.held s.disk s.disk s.files s.files result) →
@@ -109,7 +109,7 @@ module _ (command : Command) (result : Result Answer StoreFault) (s : Scene) whe
       strays = record { later = omega arith; missing = inl refl };
       finished = is.finished;
     };
-    on_both = λ told files_tell. record { gives = is.gives; step = step told files_tell; stops = stops told files_tell };
+    on_both = λ told files_tell. record { transfers = is.transfers; step = step told files_tell; stops = stops told files_tell };
   }
 
 -- what is met whether or not the files tell

@@ -73,6 +73,7 @@ module _ {disk files : Type 0} (s : Scene) (figures : Figures) (sound : s.store.
     on_disk = λ told. record { agrees = λ _. agrees told; writes = made_none _ s.disk; step = refl; reads = reads_none s.disk };
     on_files = λ told. record { beside = refl; strays = record { later = omega arith; missing = inl refl }; finished = tt };
     on_both = λ told files_tell. record {
+      transfers = tt;
       step = arranged_step s.store s.disk s.files figures (agrees told) settled has are;
       stops = arranged_stops s.store s.disk s.files figures (agrees told) settled has are;
     };
@@ -95,7 +96,7 @@ module _ {disk files : Type 0} (s : Scene) (figures : Figures) (sound : s.store.
         step = refl;
         arranging = λ waiting. rests_not s.store.found waiting settled;
         finished = tt;
-        gives = tt;
+        transfers = tt;
       })
       (λ told files_tell. arranged_step s.store s.disk s.files figures (agrees told) settled has are)
       (λ told files_tell. arranged_stops s.store s.disk s.files figures (agrees told) settled has are)

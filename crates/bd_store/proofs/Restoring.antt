@@ -149,7 +149,7 @@ module _ {D F : Type 0} (d : DiskGhosts D) (f : FilesGhosts F) (found : Found) (
       };
       on_files = λ told. record { beside = record { others = λ other differ. refl }; strays = record { later = omega arith; missing = inl refl }; finished = tt };
       on_both = λ told files_tell. record {
-        gives = tt;
+        transfers = tt;
         step = reading_one_step found v (d.history disk0) (agrees told) from to name stays _ fault (nothing_written is.disk told) (is.entries told);
         stops = safe_quiet (Restore v name) stays _ (fault_of_reading fault) (nothing_written is.disk told);
       };
@@ -209,7 +209,7 @@ module _ {D F : Type 0} (d : DiskGhosts D) (f : FilesGhosts F) (found : Found) (
       };
       on_files = λ told. record { beside = (changed_target ran.files told).1; strays = record { later = omega (arith, (changed_target ran.files told).0); missing = inl (changed_target ran.files told).0 }; finished = gave.finished told };
       on_both = λ told files_tell. record {
-        gives = record {
+        transfers = record {
           file = restored_content found v (d.history disk0) (agrees told) from to plan (read.entries told) read.made.version (d.history disk1) (nothing_written read.disk told) (d.history disk2) (nothing_written ran.disk told) name _ _ (gave.file told files_tell).file;
           checked = subst (λ entries. HasChunks entries (held (f.files files2) name)) (holds-found found.sizes found.catalogue v (contents (d.history disk0)) plan.entries (read.entries told)).same (gave.file told files_tell).checked;
           headers = still (λ image n. HasGoodHeaders found.sizes image (walk found.catalogue n)) told (gave.walked told).headers;
@@ -270,7 +270,7 @@ module _ {D F : Type 0} (d : DiskGhosts D) (f : FilesGhosts F) (found : Found) (
       };
       on_files = λ told. record { beside = (changed_target ran.files told).1; strays = record { later = omega (arith, (changed_target ran.files told).0); missing = inl (changed_target ran.files told).0 }; finished = tt };
       on_both = λ told files_tell. record {
-        gives = tt;
+        transfers = tt;
         step = walk_one_step found v (d.history disk0) (agrees told) from to plan (read.entries told) read.made.version (d.history disk1) (nothing_written read.disk told) (d.history disk2) (nothing_written ran.disk told) name stays _ _ fault (changed_target ran.files files_tell).1 told met;
         stops = safe_quiet (Restore v name) stays _ (fault_of_restore fault) (nothing_written (reads (Err fault) ran) told);
       };

@@ -13,12 +13,15 @@ use Rattle.bd_disk.proofs.RunLemmas.{nothing_read, written}
 use Rattle.bd_disk.proofs.Traces.{reads_both, reads_none}
 use Rattle.bd_files.specs.declared.files.Files.{Ghosts as FilesGhosts}
 use Rattle.bd_model.specs.FileMap.{FileMap}
+use Rattle.bd_model.specs.Chunks.{chunks}
+use Rattle.bd_model.specs.Laws.{entries_in}
 use Rattle.bd_model.specs.History.{History as Versions, newest, version}
 use Rattle.bd_model.specs.Marks.{Distinct}
 use Rattle.bd_model.specs.Recipe.{recipe}
-use Rattle.bd_model.specs.Room.{fresh}
+use Rattle.bd_model.specs.Room.{counted_of, fresh}
 use Rattle.bd_model.specs.State.{last_number}
 use Rattle.bd_model.specs.declared.answer.Answer.{Answer}
+use Rattle.bd_model.specs.declared.answer.Answer.TheVariants.{BackedUp}
 use Rattle.bd_model.specs.declared.command.Command.TheVariants.{Backup}
 use Rattle.bd_model.specs.declared.layout.Phase.TheVariants.{Settled, Waiting}
 use Rattle.bd_model.specs.declared.layout.RecipeEntry.{RecipeEntry}
@@ -36,11 +39,11 @@ use Rattle.bd_catalog.proofs.Staged.{agrees_staged}
 use Rattle.bd_intake.specs.declared.staged.Staged.{Staged}
 use Rattle.bd_intake.specs.declared.fault.IntakeFault.{IntakeFault}
 use Rattle.bd_intake.specs.declared.fault.IntakeFault.TheVariants.{Full, SourceFault as SourceFailed, DiskFault as DiskFailed, OutOfMemory as MemoryFailed}
-use Rattle.bd_intake.specs.Answers.{CountsSource, StoresSource}
+use Rattle.bd_intake.specs.Answers.{CountsSource, HoldsVersion, IsVersion, StoresSource}
 use Rattle.bd_intake.specs.Causes.{FailsByCount}
 use Rattle.bd_intake.specs.Filling.{CountsMissing, LeavesFiles}
-use Rattle.bd_intake.specs.Firsts.{new_by_mark}
-use Rattle.bd_store.specs.Attempts.{Scene, attempt, scene, KeepsVersions, SettlesBy, TellsFigures}
+use Rattle.bd_intake.specs.Firsts.{cut_in, new_by_mark}
+use Rattle.bd_store.specs.Attempts.{Scene, attempt, scene, KeepsVersions, SettlesBy, TakesSource, TellsFigures}
 use Rattle.bd_store.specs.Causes.{counts, FailsOnlyByCount, StraysOnlyBy}
 use Rattle.bd_store.specs.Following.{EndsReady, Follows}
 use Rattle.bd_store.specs.Kept.{IsKept}
@@ -56,6 +59,7 @@ use Rattle.bd_store.proofs.Meeting.{memory_step, same_versions}
 use Rattle.bd_store.proofs.OneCall.{failed_one_step, failed_safe, made_one_step, made_safe, refused_one_step, refused_safe}
 use Rattle.bd_store.proofs.Quiet.{safe_untouched}
 use Rattle.bd_store.proofs.Refusing.{backup_goes_on}
+use Rattle.bd_store.proofs.Taken.{holds_committed, newest_same, takes_nothing}
 use Rattle.bd_store.proofs.Unowned.{free_unowned, half_unowned}
 
 -- a settled store in which a number and a version are left, and the disk that it is of, where that tells
@@ -211,6 +215,23 @@ module _ {D F : Type 0} (d : DiskGhosts D) (f : FilesGhosts F) (found : Found) (
   with_room_is DiskFailed free has took = took
   with_room_is MemoryFailed free has took = took
 
+  -- what is counted of the source is beside the recipe of the version before
+  refused_transfers : (fault : IntakeFault) (worn : Bool) → TookIn (Err fault) → d.tells → f.tells →
+      TakesSource (attempt (Backup name) (refusal_of fault) before (scene d f (record { found = found; held = held; worn = worn }) disk2 files2)) name (refusal_of fault)
+  refused_transfers (Full counted free kept) worn took told files_tell = record {
+    taken = λ older stream newest there.
+        let so = took.counted files_tell stream there in
+        let same : old ≡ older = newest_same (is_old told) newest in
+        record {
+          fewer = omega (arith, so.0, so.1, so.2);
+          counts = so.1 ∙ (λ k. counted_of found.sizes.extent (same k) (entries_in (same k) (found.catalogue.newest + 1) (chunks (cut_in found.sizes) stream)) (sym so.2 k));
+        };
+    missing = took.files.missing files_tell;
+  }
+  refused_transfers SourceFailed worn took told files_tell = takes_nothing (λ s. tt) tt
+  refused_transfers DiskFailed worn took told files_tell = takes_nothing (λ s. tt) tt
+  refused_transfers MemoryFailed worn took told files_tell = takes_nothing (λ s. tt) tt
+
   follows_refused : (fault : IntakeFault) (worn : Bool) → TookIn (Err fault) → TellsFigures (record { found = found; held = held; worn = worn }) (refusal_of fault) → ((worn ≡ true) ↔ (refusal_of fault ≡ Err DiskFault)) →
       Follows d.tells f.tells (attempt (Backup name) (refusal_of fault) before (scene d f (record { found = found; held = held; worn = worn }) disk2 files2))
   follows_refused fault worn took figures fails = record {
@@ -234,6 +255,7 @@ module _ {D F : Type 0} (d : DiskGhosts D) (f : FilesGhosts F) (found : Found) (
     };
     on_files = λ told. record { beside = took.files.same told; strays = strays_of _ _ _ _ (took.files.strays told); finished = tt };
     on_both = λ told files_tell. record {
+      transfers = refused_transfers fault worn took told files_tell;
       step = refused_one_step found name (f.files files0) (f.files files2) (took.files.same files_tell) h1 h2 space (begun.agrees told) begun.settled begun.below begun.fewer (written took.disk told) begun.count begun.owners old (is_old told)
           law fault (took.counted files_tell) (took.files.missing files_tell);
       stops = refused_safe found name (f.files files0) (f.files files2) (took.files.same files_tell) h1 h2 space (begun.agrees told) begun.settled begun.below begun.fewer (written took.disk told) begun.count begun.owners old (is_old told)
@@ -268,6 +290,30 @@ module _ {D F : Type 0} (d : DiskGhosts D) (f : FilesGhosts F) (found : Found) (
 
       all_read : d.tells → Named → ReadsOnly [] h1 (d.history disk3)
       all_read told is = reads_both (nothing_read took.disk told) (nothing_read is.disk told)
+
+    -- what it has the figures of
+    abbrev figures : Answer
+    figures = BackedUp (found.catalogue.newest + 1) staged.version.length staged.version.chunks staged.version.fresh staged.need
+
+    taken_in : (disk3 : D) (found3 : Found) (space3 : Allotment) (worn : Bool) → d.tells → f.tells → found3 ≡ after → IsMade found after h2 (d.history disk3) →
+        TakesSource (attempt (Backup name) (Ok figures) before (scene d f (record { found = found3; held = held_count space3; worn = worn }) disk3 files2)) name (Ok figures)
+    taken_in disk3 found3 space3 worn told files_tell made done = record {
+      taken = λ older stream newest there.
+          let same : old ≡ older = newest_same (is_old told) newest in
+          record {
+            ready = found;
+            settled = record { sizes = refl; phase = begun.settled; base = refl; newest = refl; versions = refl };
+            free = free_count space;
+            room = omega (arith, counts-all space, taken_count-exact space (all_extents found.catalogue) begun.owners, begun.count);
+            staged = staged;
+            version = subst (λ es. IsVersion found.sizes es (found.catalogue.newest + 1) stream (chunks (cut_in found.sizes) stream) (free_count space) staged) same (took.counted files_tell stream there);
+            figures = refl;
+            named = ap (λ (s : Found). s.catalogue) made;
+            holds = subst (λ es. HoldsVersion found.sizes es (found.catalogue.newest + 1) (chunks (cut_in found.sizes) stream) staged (contents (d.history disk3))) same
+                (holds_committed found (small told) done.kept.elsewhere (stored told files_tell stream there));
+          };
+      missing = took.files.missing files_tell;
+    }
 
     -- it is named
     named_follows : (disk3 : D) (found3 : Found) (space3 : Allotment) (worn : Bool) → (answer : Answer) → Named disk3 found3 space3 (Ok answer) → ((worn ≡ true) ↔ (◌≡◌ {A = Result Answer StoreFault} (Ok answer) (Err DiskFault))) →
@@ -305,6 +351,7 @@ module _ {D F : Type 0} (d : DiskGhosts D) (f : FilesGhosts F) (found : Found) (
           };
           on_files = λ told. record { beside = took.files.same told; strays = strays_of _ _ _ _ (took.files.strays told); finished = tt };
           on_both = λ told files_tell. record {
+            transfers = subst (λ a. TakesSource (attempt (Backup name) (Ok a) before (scene d f end disk3 files2)) name (Ok a)) says (taken_in disk3 found3 space3 worn told files_tell is.made (is.done told));
             step = made_one_step found name (f.files files0) (f.files files2) (took.files.same files_tell) h1 h2 space (begun.agrees told) begun.settled begun.below begun.fewer (written took.disk told) begun.count begun.owners old (is_old told)
                 law staged (took.counted files_tell) (took.files.missing files_tell) (stored told files_tell) (d.history disk3) answer is.answer (is.done told).kept;
             stops = made_safe found name (f.files files0) (f.files files2) (took.files.same files_tell) h1 h2 space (begun.agrees told) begun.settled begun.below begun.fewer (written took.disk told) begun.count begun.owners old (is_old told)
@@ -334,6 +381,7 @@ module _ {D F : Type 0} (d : DiskGhosts D) (f : FilesGhosts F) (found : Found) (
           };
           on_files = λ told. record { beside = took.files.same told; strays = strays_of _ _ _ _ (took.files.strays told); finished = tt };
           on_both = λ told files_tell. record {
+            transfers = takes_nothing (λ s. tt) tt;
             step = failed_one_step found name (f.files files0) (f.files files2) (took.files.same files_tell) h1 h2 space (begun.agrees told) begun.settled begun.below begun.fewer (written took.disk told) begun.count begun.owners old (is_old told)
                 law staged (took.counted files_tell) (took.files.missing files_tell) (stored told files_tell) (d.history disk3) (is.either told).contents;
             stops = failed_safe found name (f.files files0) (f.files files2) (took.files.same files_tell) h1 h2 space (begun.agrees told) begun.settled begun.below begun.fewer (written took.disk told) begun.count begun.owners old (is_old told)
@@ -360,5 +408,5 @@ follows_without_memory name s sound agrees goes = record {
   store = record { worn = (λ worn. not_both worn sound, λ failed. absurd (cc failed)); sizes = λ _. refl; held = refl; versions = same_versions s.store; settles = tt; figures = tt };
   on_disk = λ told. record { agrees = λ _. agrees told; writes = made_none _ s.disk; step = refl; reads = reads_none s.disk };
   on_files = λ told. record { beside = refl; strays = record { later = omega arith; missing = inl refl }; finished = tt };
-  on_both = λ told files_tell. record { step = memory_step (Backup name) s.store.held s.disk s.files; stops = safe_untouched (Backup name) s.store.held s.disk s.files OutOfMemory };
+  on_both = λ told files_tell. record { transfers = takes_nothing (λ s. tt) tt; step = memory_step (Backup name) s.store.held s.disk s.files; stops = safe_untouched (Backup name) s.store.held s.disk s.files OutOfMemory };
 }

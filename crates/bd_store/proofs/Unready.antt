@@ -20,7 +20,7 @@ use Rattle.bd_recipe.specs.declared.fault.ReadFault.{ReadFault}
 use Rattle.bd_recipe.specs.declared.fault.ReadFault.TheVariants.{DiskFault as ReadDisk, Damaged as ReadDamaged, OutOfMemory as ReadMemory}
 use Rattle.bd_volume.specs.Named.{IsBeside}
 use Rattle.bd_arrange.specs.Arranged.{Arranges, ButDiskFault, KeepsStates}
-use Rattle.bd_store.specs.Attempts.{Attempt, EndsInDamage, IsAnswerOf, KeepsVersions, SettlesBy, TellsFigures, Meets, Scene, attempt, DamageByCommand, FinishesByCommand, GivesByCommand, LooksByCommand, NewestEnds, ReadsByCommand, RecipeByCommand}
+use Rattle.bd_store.specs.Attempts.{Attempt, EndsInDamage, IsAnswerOf, KeepsVersions, SettlesBy, TellsFigures, Meets, Scene, attempt, DamageByCommand, FinishesByCommand, TransfersByCommand, LooksByCommand, NewestEnds, ReadsByCommand, RecipeByCommand}
 use Rattle.bd_store.specs.Causes.{counts, FailsOnlyByCount}
 use Rattle.bd_store.specs.Following.{MakesReady, IsMadeReady}
 use Rattle.bd_store.specs.Naming.{fault_of_reading, NamesArranging}
@@ -35,6 +35,7 @@ use Rattle.bd_store.specs.declared.fault.StoreFault.TheVariants.{DiskFault}
 use Rattle.bd_store.proofs.Behind.{ready_settled}
 use Rattle.bd_store.proofs.Ending.{gone_on, went_on, rests_not, first_two, not_both}
 use Rattle.bd_store.proofs.Nearing.{near_state}
+use Rattle.bd_store.proofs.Taken.{takes_nothing}
 
 -- ---- over whatever disk
 
@@ -227,13 +228,13 @@ module _ (disk files : Type 0) (command : Command) (before : Scene) (mid : Found
     refusal_finishes Scrub may = absurd may
     refusal_finishes Listing may = absurd may
 
-    refusal_gives : (c : Command) → MakesReady before.store.found c → GivesByCommand refusal c (Err (fault_of_reading fault))
-    refusal_gives (Backup name) may = tt
-    refusal_gives Expire may = tt
-    refusal_gives Reorganise may = tt
-    refusal_gives (Restore v name) may = absurd may
-    refusal_gives Scrub may = absurd may
-    refusal_gives Listing may = absurd may
+    refusal_transfers : (c : Command) → MakesReady before.store.found c → TransfersByCommand refusal c (Err (fault_of_reading fault))
+    refusal_transfers (Backup name) may = takes_nothing (λ s. tt) tt
+    refusal_transfers Expire may = tt
+    refusal_transfers Reorganise may = tt
+    refusal_transfers (Restore v name) may = absurd may
+    refusal_transfers Scrub may = absurd may
+    refusal_transfers Listing may = absurd may
 
     refusal_meets : Meets disk files refusal
     refusal_meets = record {
@@ -263,7 +264,7 @@ module _ (disk files : Type 0) (command : Command) (before : Scene) (mid : Found
         finished = refusal_finishes command makes;
       };
       on_both = λ told files_tell. record {
-        gives = refusal_gives command makes;
+        transfers = refusal_transfers command makes;
         step = unready_step command before.store.held before.disk h1 before.files fault (is.told told).readies.states (files_stay_ready before.store.found command before.files makes);
         stops = unready_stops command before.store.held before.disk h1 before.files fault (is.told told).readies.states;
       };

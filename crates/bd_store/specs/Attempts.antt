@@ -5,7 +5,7 @@ use Rattle.bd_disk.specs.History.{History, contents}
 use Rattle.bd_disk.specs.Looks.{LooksOnlyAt}
 use Rattle.bd_disk.specs.Made.{TouchesNothing}
 use Rattle.bd_disk.specs.declared.disk.Disk.{Ghosts as DiskGhosts}
-use Rattle.bd_files.specs.Files.{IsFinished}
+use Rattle.bd_files.specs.Files.{Holds, IsFinished, Lacks}
 use Rattle.bd_files.specs.declared.files.Files.{Ghosts as FilesGhosts}
 use Rattle.bd_model.specs.FileMap.{FileMap}
 use Rattle.bd_model.specs.declared.answer.Answer.{Answer}
@@ -28,9 +28,11 @@ use Rattle.bd_restore.specs.Target.{held, HasChunks}
 use Rattle.bd_volume.specs.Headers.{HasGoodHeaders}
 use Rattle.bd_store.specs.Causes.{Counts, counts, FailsOnlyByCount, StraysOnlyBy}
 use Rattle.bd_store.specs.Naming.{NamesArranging, NamesDamage}
+use Rattle.bd_store.specs.Newest.{IsNewestRecipe}
 use Rattle.bd_store.specs.Shown.{HasFree, SameVersions, Shown}
 use Rattle.bd_store.specs.Steps.{IsOneStep, KeepsFiles}
 use Rattle.bd_store.specs.Stops.{IsSafeAtStops}
+use Rattle.bd_store.specs.Taken.{TakesNothing, TakesStream}
 use Rattle.bd_store.specs.Touches.{AnswersArranging, AnswersByNumbers, AnswersByVersion, AnswersExpiry, ArrangingReads, BackupReads, ExpiryReads, InArranging, InRestore, IsByNumbers, WalksTo, arranges_first, is_waiting}
 use Rattle.bd_store.specs.Writes.{WritesByCommand}
 use Rattle.bd_store.specs.declared.fault.StoreFault.{StoreFault}
@@ -239,12 +241,21 @@ pub record GivesBack (found : Found) (v : ℕ) (name image : List ℕ) (old new 
   pub checked : HasChunks (recipe_of found.sizes found.catalogue image v) (held new name)
   pub headers : HasGoodHeaders found.sizes image (walk found.catalogue v)
 
-abbrev pub GivesByCommand : Attempt → Command → Result Answer StoreFault → Type 0
-GivesByCommand a (Restore v name) (Ok (Restored given bytes)) = GivesBack a.before.store.found v name (contents a.before.disk) a.before.files a.after.files
-GivesByCommand a command result = Unit {0}
+-- whatever image it is: a backup takes the file under the name in, beside the newest recipe, and nothing where there is no
+-- such file
+pub record TakesSource (a : Attempt) (name : List ℕ) (result : Result Answer StoreFault) : Type 0 where
+  pub taken : (old : List RecipeEntry) (stream : List ℕ) → IsNewestRecipe a.before.store.found (contents a.before.disk) old → Holds a.before.files name stream →
+      TakesStream (record { found = a.before.store.found; held = a.before.store.held; old = old; stream = stream }) a.after.store.found (contents a.after.disk) result
+  pub missing : Lacks a.before.files name → TakesNothing result
+
+-- what goes from the disk to the target, and from the source to the disk
+abbrev pub TransfersByCommand : Attempt → Command → Result Answer StoreFault → Type 0
+TransfersByCommand a (Restore v name) (Ok (Restored given bytes)) = GivesBack a.before.store.found v name (contents a.before.disk) a.before.files a.after.files
+TransfersByCommand a (Backup name) result = TakesSource a name result
+TransfersByCommand a command result = Unit {0}
 
 pub record MeetsOnBoth (a : Attempt) : Type 0 where
-  pub gives : GivesByCommand a a.command a.result
+  pub transfers : TransfersByCommand a a.command a.result
   -- it is one step of the version machine
   pub step : IsOneStep a.command a.before.store.held a.before.disk a.after.disk a.before.files a.after.files a.result
   -- a stop at any moment leaves the state before it or the one after

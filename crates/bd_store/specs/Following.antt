@@ -15,7 +15,7 @@ use Rattle.bd_recipe.specs.Reading.{is_disk_fault}
 use Rattle.bd_recipe.specs.declared.fault.ReadFault.{ReadFault}
 use Rattle.bd_recipe.specs.declared.fault.ReadFault.TheVariants.{DiskFault as ReadDisk}
 use Rattle.bd_volume.specs.Named.{IsBeside}
-use Rattle.bd_store.specs.Attempts.{Attempt, IsAnswerOf, KeepsStore, MeetsOnFiles, Scene}
+use Rattle.bd_store.specs.Attempts.{Attempt, IsAnswerOf, KeepsStore, MeetsOnFiles, Scene, TransfersByCommand}
 use Rattle.bd_store.specs.Causes.{FailsOnlyByCount}
 use Rattle.bd_store.specs.Readying.{Readies, ReadiesOn}
 use Rattle.bd_store.specs.Steps.{IsOneStep}
@@ -75,6 +75,7 @@ pub record FollowsOnDisk (a : Attempt) : Type 0 where
   pub reads : ReadsOnly [] a.before.disk a.after.disk
 
 pub record FollowsOnBoth (a : Attempt) : Type 0 where
+  pub transfers : TransfersByCommand a a.command a.result
   pub step : IsOneStep a.command a.before.store.held a.before.disk a.after.disk a.before.files a.after.files a.result
   pub stops : IsSafeAtStops a.command a.before.store.held a.before.disk a.after.disk a.before.files a.result
 

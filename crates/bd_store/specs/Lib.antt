@@ -9,5 +9,6 @@ pub mod Readying
 pub mod Shown
 pub mod Steps
 pub mod Stops
+pub mod Taken
 pub mod Touches
 pub mod Writes

@@ -6,6 +6,7 @@ use Rattle.bd_store.specs.Shown.{Shown}
 use Rattle.bd_store.proofs.Meeting.{meets_untouched, same_versions}
 use Rattle.std.proofs.lemmas.Bool.{eq-eqb, ne_eqb}
 use Rattle.bd_store.proofs.Refusing.{numbers_refuse, versions_refuse, refused_step, refused_stops}
+use Rattle.bd_store.proofs.Taken.{takes_nothing}
 use Rattle.bd_store.proofs.store.Store.backup.Goals as goal
 
 pub returns-then-newest : goal.returns-then-newest
@@ -13,7 +14,7 @@ returns-then-newest g c =
     let used : c.args.self.now.found.catalogue.newest ≡ last_number = omega (arith, c.newest.ensures, c.if-newest.true, ap (λ (s : Shown). s.found.catalogue.newest) c.self.view_is) in
     record {
       meets = meets_untouched _ _ _ c.requires.sound c.requires.agrees
-          (record { cause = refl; has_disk = tt; answer = eq-eqb _ _ used; versions = same_versions c.args.self.now; settles = tt; figures = tt; reads = refl; damage = tt; recipe = λ damage some is. tt; step = refl; arranging = λ _. inr (record { writes = made_none _ _; step = refl }); finished = tt; gives = tt })
+          (record { cause = refl; has_disk = tt; answer = eq-eqb _ _ used; versions = same_versions c.args.self.now; settles = tt; figures = tt; reads = refl; damage = tt; recipe = λ damage some is. tt; step = refl; arranging = λ _. inr (record { writes = made_none _ _; step = refl }); finished = tt; transfers = takes_nothing (λ s. tt) tt })
           (λ told files_tell. refused_step _ _ _ _ _ (numbers_refuse _ _ _ _ c.args.self.now.found (c.requires.agrees told) used) refl (λ st phase. refl))
           (λ told files_tell. refused_stops _ _ _ _ _ (numbers_refuse _ _ _ _ c.args.self.now.found (c.requires.agrees told) used));
     }
@@ -26,7 +27,7 @@ returns-then-retained-retain g c =
     count ∙ c.if-retained-retain.true ∙ c.retain.ensures ∙ ap (λ s. s.retain) c.shape-shape.ensures.sizes ∙ ap (λ (s : Shown). s.found.sizes.retain) c.self.view_is in
     record {
       meets = meets_untouched _ _ _ c.requires.sound c.requires.agrees
-          (record { cause = refl; has_disk = tt; answer = (ne_eqb _ _ (λ e. absurd (omega (arith, e, below))), eq-eqb _ _ used, sym count ∙ used); versions = same_versions c.args.self.now; settles = tt; figures = tt; reads = refl; damage = tt; recipe = λ damage some is. tt; step = refl; arranging = λ _. inr (record { writes = made_none _ _; step = refl }); finished = tt; gives = tt })
+          (record { cause = refl; has_disk = tt; answer = (ne_eqb _ _ (λ e. absurd (omega (arith, e, below))), eq-eqb _ _ used, sym count ∙ used); versions = same_versions c.args.self.now; settles = tt; figures = tt; reads = refl; damage = tt; recipe = λ damage some is. tt; step = refl; arranging = λ _. inr (record { writes = made_none _ _; step = refl }); finished = tt; transfers = takes_nothing (λ s. tt) tt })
           (λ told files_tell. refused_step _ _ _ _ _ (versions_refuse _ _ _ _ c.args.self.now.found _ (c.requires.agrees told) below used count) refl (λ st phase. refl))
           (λ told files_tell. refused_stops _ _ _ _ _ (versions_refuse _ _ _ _ c.args.self.now.found _ (c.requires.agrees told) below used count));
     }

@@ -32,7 +32,7 @@ returns-in-Ok g c =
             step = as_list (λ a. StepsTo store.found.catalogue store.found.catalogue (Ok a)) answer c.in-Ok.ensures.lines (λ l. refl);
             arranging = λ no. absurd (cc no);
             finished = tt;
-            gives = tt;
+            transfers = tt;
           })
           (λ told files_tell. listed_step _ _ _ _ _ (c.requires.agrees told) c.in-Ok.ensures.lines)
           (λ told files_tell. listed_stops _ _ _ _));
@@ -44,7 +44,7 @@ returns-in-Err g c =
     record {
       meets = subst (λ (command : Command). Meets g.D.Disk.tells g.F.Files.tells (attempt command (Err OutOfMemory) here here)) (sym c.in-List.is)
           (meets_untouched _ _ _ c.requires.sound c.requires.agrees
-          (record { cause = refl; has_disk = tt; answer = refl; versions = same_versions c.args.self.now; settles = tt; figures = tt; reads = refl; damage = tt; recipe = tt; step = refl; arranging = λ no. absurd (cc no); finished = tt; gives = tt })
+          (record { cause = refl; has_disk = tt; answer = refl; versions = same_versions c.args.self.now; settles = tt; figures = tt; reads = refl; damage = tt; recipe = tt; step = refl; arranging = λ no. absurd (cc no); finished = tt; transfers = tt })
           (λ told files_tell. memory_step _ _ _ _)
           (λ told files_tell. safe_untouched _ _ _ _ _));
     }
