@@ -12,6 +12,7 @@ use Rattle.bd_model.specs.declared.damage.Damage.{Damage}
 use Rattle.bd_catalog.specs.Agreement.{Agrees}
 use Rattle.bd_script.specs.Long.{is_long}
 use Rattle.bd_store.specs.Attempts.{Meets, Scene, attempt}
+use Rattle.bd_store.specs.Shown.{IsOpen as IsOpenStore}
 use Rattle.bd_store.specs.Causes.{Counts, HasRisen, NoneFell}
 use Rattle.bd_store.specs.declared.fault.StoreFault.{StoreFault}
 use Rattle.bd_store.specs.declared.fault.StoreFault.TheVariants.{SourceFault as StoreSource, TargetFault as StoreTarget, DiskFault as StoreDisk, Damaged as StoreDamaged, OutOfMemory as StoreMemory}
@@ -24,10 +25,8 @@ use Rattle.bd_session.specs.declared.report.SessionEnd.TheVariants.{Done, Source
 use Rattle.bd_session.specs.declared.report.SessionReport.{SessionReport}
 
 -- the store can be asked for a command
-pub record IsOpen (disk : Type 0) (a : Around) : Type 0 where
-  pub sound : a.scene.store.worn ≡ false
-  pub room : disk_bytes a.scene.store.found.sizes ≤ a.scene.disk_bytes
-  pub agrees : disk → Agrees a.scene.store.found a.scene.disk
+abbrev pub IsOpen : Type 0 → Around → Type 0
+IsOpen disk a = IsOpenStore disk a.scene.store a.scene.disk_bytes a.scene.disk
 
 -- so many commands had their turn, and there is room for all others
 pub record HasTurned (disk files sink : Type 0) (commands : List Command) (first : Around) (report : SessionReport) (index : ℕ) (now : Around) : Type 0 where

@@ -1,9 +1,8 @@
 //! One command after the other.
 ghost use Rattle.std.specs.Prelude.{◌≡◌, ◌≤◌, false};
-ghost use Rattle.bd_model.specs.Sizes.{disk_bytes};
-ghost use Rattle.bd_catalog.specs.Agreement.{Agrees};
 ghost use Rattle.bd_session.specs.Course.{around, course};
 ghost use Rattle.bd_session.specs.Session.{MeetsSession};
+ghost use Rattle.bd_store.specs.Shown.{IsOpenOn};
 
 use crate::report::{SessionEnd, SessionReport, end_of};
 use crate::telling::{Untold, tell_answer};
@@ -25,9 +24,7 @@ pub fn session<D: Disk, F: Files, O: Sink>(
     out: &mut O,
 ) -> SessionReport
     requires takes { O.tells → D.tells → O.takes D D.history }
-    requires room { disk_bytes store.old.found.sizes ≤ D.bytes disk.old }
-    requires agrees { D.tells → Agrees store.old.found (D.history disk.old) }
-    requires sound { store.old.worn ≡ false }
+    requires opened { IsOpenOn D.Disk store.old disk.old }
     ensures meets { MeetsSession D.tells F.tells O.tells (course commands.now.items result)
         (around D.Disk F.Files O.Sink store.old disk.old files.old out.old)
         (around D.Disk F.Files O.Sink store.new disk.new files.new out.new) }

@@ -1,10 +1,14 @@
 -- A store in memory.
-use Rattle.std.specs.Prelude.{◌≡◌, ℕ, ◌+◌, Bool, List, length, Option, Some, None, Ok}
+use Rattle.std.specs.Prelude.{◌≡◌, ℕ, ◌+◌, ◌≤◌, Bool, false, List, length, Option, Some, None, Ok}
+use Rattle.bd_disk.specs.History.{History}
+use Rattle.bd_disk.specs.declared.disk.Disk.{Ghosts as DiskGhosts}
+use Rattle.bd_model.specs.Sizes.{disk_bytes}
 use Rattle.bd_model.specs.declared.layout.Phase.{Phase}
 use Rattle.bd_model.specs.declared.layout.Phase.TheVariants.{Settled, Waiting}
 use Rattle.bd_model.specs.declared.shape.Shape.{Shape}
 use Rattle.bd_model.specs.Room.{owned}
 use Rattle.bd_model.specs.State.{VersionState, history}
+use Rattle.bd_catalog.specs.Agreement.{Agrees}
 use Rattle.bd_catalog.specs.Catalogue.{all_extents}
 use Rattle.bd_catalog.specs.Opening.{Found, opened}
 use Rattle.bd_catalog.specs.Standing.{StandsFor}
@@ -16,6 +20,16 @@ pub record Shown : Type 0 where
   pub found : Found
   pub held : ℕ
   pub worn : Bool
+
+-- A store that can be asked for a command: no call on it met a fault of the disk, the disk is as long as it needs, and where
+-- that tells, it agrees with what was found.
+pub record IsOpen (told : Type 0) (store : Shown) (bytes : ℕ) (h : History) : Type 0 where
+  pub sound : store.worn ≡ false
+  pub room : disk_bytes store.found.sizes ≤ bytes
+  pub agrees : told → Agrees store.found h
+
+abbrev pub IsOpenOn : {D : Type 0} → DiskGhosts D → Shown → D → Type 0
+IsOpenOn d store disk = IsOpen d.tells store (d.bytes disk) (d.history disk)
 
 -- the same versions, however they are arranged
 pub record SameVersions (old new : Shown) : Type 0 where

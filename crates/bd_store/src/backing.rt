@@ -3,11 +3,9 @@ ghost use Rattle.std.specs.Prelude.{◌≡◌, ◌↔◌, ◌≤◌, ◌<◌, tr
 ghost use Rattle.bd_disk.specs.Calls.{FailsByCount};
 ghost use Rattle.bd_disk.specs.History.{contents};
 ghost use Rattle.bd_disk.specs.Runs.{Works};
-ghost use Rattle.bd_model.specs.Sizes.{disk_bytes};
 ghost use Rattle.bd_model.specs.State.{last_number};
 ghost use Rattle.bd_model.specs.declared.command.Command.TheVariants.{Backup, Reorganise};
 ghost use Rattle.bd_model.specs.declared.layout.Phase.TheVariants.{Settled};
-ghost use Rattle.bd_catalog.specs.Agreement.{Agrees};
 ghost use Rattle.bd_catalog.specs.Catalogue.{retained_in};
 ghost use Rattle.bd_recipe.specs.Reading.{is_disk_fault as is_read_disk_fault};
 ghost use Rattle.bd_volume.specs.Named.{IsBeside};
@@ -16,6 +14,7 @@ ghost use Rattle.bd_store.specs.Attempts.{Beside, Meets, attempt, scene, scene_b
 ghost use Rattle.bd_store.specs.Following.{Follows};
 ghost use Rattle.bd_store.specs.Newest.{IsNewestRecipe};
 ghost use Rattle.bd_store.specs.Readying.{Readies, ReadiesOn};
+ghost use Rattle.bd_store.specs.Shown.{IsOpenOn};
 ghost use Rattle.bd_store.specs.Touches.{InArranging};
 
 use crate::fault::{
@@ -36,9 +35,7 @@ use bd_recipe::{Neighbour, ReadFault};
 impl Store {
     // Reads the newest recipe, and arranges the store where it waits.
     pub(crate) fn ready<D: Disk>(&mut self, disk: &mut D) -> Result<Neighbour, ReadFault>
-        requires room { disk_bytes self.old.found.sizes ≤ D.bytes disk.old }
-        requires agrees { D.tells → Agrees self.old.found (D.history disk.old) }
-        requires sound { self.old.worn ≡ false }
+        requires opened { IsOpenOn D.Disk self.old disk.old }
         ensures disk { Works D.Disk (InArranging self.old.found) (IsBeside self.old.found) disk.old disk.new }
         ensures cause { FailsByCount is_read_disk_fault (D.faults disk.old) (D.faults disk.new) result }
         ensures worn { (self.new.worn ≡ true) ↔ (result ≡ Err ReadFault.DiskFault) }
@@ -78,9 +75,7 @@ impl Store {
         files: &mut F,
         name: &Name,
     ) -> Result<Answer, StoreFault>
-        requires room { disk_bytes self.old.found.sizes ≤ D.bytes disk.old }
-        requires agrees { D.tells → Agrees self.old.found (D.history disk.old) }
-        requires sound { self.old.worn ≡ false }
+        requires opened { IsOpenOn D.Disk self.old disk.old }
         ensures meets { Meets D.tells F.tells (attempt (Backup name.now) result (scene D.Disk F.Files self.old disk.old files.old) (scene D.Disk F.Files self.new disk.new files.new)) }
     {
         let shape = self.catalog.shape();
@@ -103,9 +98,7 @@ impl Store {
     ) -> Result<Answer, StoreFault>
         requires number { self.old.found.catalogue.newest < last_number }
         requires limit { retained_in self.old.found.catalogue < self.old.found.sizes.retain }
-        requires room { disk_bytes self.old.found.sizes ≤ D.bytes disk.old }
-        requires agrees { D.tells → Agrees self.old.found (D.history disk.old) }
-        requires sound { self.old.worn ≡ false }
+        requires opened { IsOpenOn D.Disk self.old disk.old }
         ensures meets { Meets D.tells F.tells (attempt (Backup name.now) result (scene D.Disk F.Files self.old disk.old files.old) (scene D.Disk F.Files self.new disk.new files.new)) }
     {
         match self.ready(disk) {
@@ -125,9 +118,7 @@ impl Store {
         requires number { self.old.found.catalogue.newest < last_number }
         requires limit { retained_in self.old.found.catalogue < self.old.found.sizes.retain }
         requires settled { self.old.found.catalogue.phase ≡ Settled }
-        requires room { disk_bytes self.old.found.sizes ≤ D.bytes disk.old }
-        requires agrees { D.tells → Agrees self.old.found (D.history disk.old) }
-        requires sound { self.old.worn ≡ false }
+        requires opened { IsOpenOn D.Disk self.old disk.old }
         requires recipe { IsRecipeOrNone self.old.found.sizes self.old.found.catalogue neighbour.now.entries }
         requires newest { D.tells → IsNewestRecipe self.old.found (contents (D.history disk.old)) neighbour.now.entries }
         ensures follows { Follows D.tells F.tells (attempt (Backup name.now) result (scene D.Disk F.Files self.old disk.old files.old) (scene D.Disk F.Files self.new disk.new files.new)) }
@@ -163,9 +154,7 @@ impl Store {
 
     /// Arranges the store, where it waits, and answers its figures. A settled store is left as it is.
     pub fn reorganise<D: Disk>(&mut self, disk: &mut D) -> Result<Answer, StoreFault>
-        requires room { disk_bytes self.old.found.sizes ≤ D.bytes disk.old }
-        requires agrees { D.tells → Agrees self.old.found (D.history disk.old) }
-        requires sound { self.old.worn ≡ false }
+        requires opened { IsOpenOn D.Disk self.old disk.old }
         ensures meets { (beside : Beside) → Meets D.tells (Unit {0}) (attempt Reorganise result (scene_beside D.Disk beside self.old disk.old) (scene_beside D.Disk beside self.new disk.new)) }
     {
         match self.catalog.phase() {

@@ -1,10 +1,9 @@
 //! The oldest version, given up.
 ghost use Rattle.std.specs.Prelude.{◌≡◌, ◌≤◌, true, false};
-ghost use Rattle.bd_model.specs.Sizes.{disk_bytes};
 ghost use Rattle.bd_model.specs.declared.command.Command.TheVariants.{Expire};
-ghost use Rattle.bd_catalog.specs.Agreement.{Agrees};
 ghost use Rattle.bd_catalog.specs.Splitting.{FitsExpire};
 ghost use Rattle.bd_store.specs.Attempts.{Beside, Meets, attempt, scene_beside};
+ghost use Rattle.bd_store.specs.Shown.{IsOpenOn};
 ghost use Rattle.bd_store.specs.Touches.{arranges_first};
 
 use crate::fault::{StoreFault, fault_of_reading};
@@ -18,9 +17,7 @@ impl Store {
     /// Gives up the oldest version. It reads nothing and takes no memory, but where the store waits with exactly two versions:
     /// it is arranged first then.
     pub fn expire<D: Disk>(&mut self, disk: &mut D) -> Result<Answer, StoreFault>
-        requires room { disk_bytes self.old.found.sizes ≤ D.bytes disk.old }
-        requires agrees { D.tells → Agrees self.old.found (D.history disk.old) }
-        requires sound { self.old.worn ≡ false }
+        requires opened { IsOpenOn D.Disk self.old disk.old }
         ensures meets { (beside : Beside) → Meets D.tells (Unit {0}) (attempt Expire result (scene_beside D.Disk beside self.old disk.old) (scene_beside D.Disk beside self.new disk.new)) }
     {
         let _shape = self.catalog.shape();
@@ -37,9 +34,7 @@ impl Store {
     // Arranges the store, and gives up the older of its two versions.
     fn arrange_and_give_up<D: Disk>(&mut self, disk: &mut D) -> Result<Answer, StoreFault>
         requires first { arranges_first self.old.found ≡ true }
-        requires room { disk_bytes self.old.found.sizes ≤ D.bytes disk.old }
-        requires agrees { D.tells → Agrees self.old.found (D.history disk.old) }
-        requires sound { self.old.worn ≡ false }
+        requires opened { IsOpenOn D.Disk self.old disk.old }
         ensures meets { (beside : Beside) → Meets D.tells (Unit {0}) (attempt Expire result (scene_beside D.Disk beside self.old disk.old) (scene_beside D.Disk beside self.new disk.new)) }
     {
         match self.ready(disk) {
@@ -51,9 +46,7 @@ impl Store {
     // Gives up the oldest version by one commit. It reads nothing, and takes no memory.
     fn give_up_oldest<D: Disk>(&mut self, disk: &mut D) -> Result<Answer, StoreFault>
         requires fits { FitsExpire self.old.found.catalogue }
-        requires room { disk_bytes self.old.found.sizes ≤ D.bytes disk.old }
-        requires agrees { D.tells → Agrees self.old.found (D.history disk.old) }
-        requires sound { self.old.worn ≡ false }
+        requires opened { IsOpenOn D.Disk self.old disk.old }
         ensures meets { (beside : Beside) → Meets D.tells (Unit {0}) (attempt Expire result (scene_beside D.Disk beside self.old disk.old) (scene_beside D.Disk beside self.new disk.new)) }
     {
         let _shape = self.catalog.shape();

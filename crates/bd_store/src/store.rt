@@ -11,7 +11,6 @@ ghost use Rattle.bd_model.specs.declared.answer.Answer.TheVariants.{Listed};
 ghost use Rattle.bd_model.specs.declared.command.Command.TheVariants.{Restore, Scrub};
 ghost use Rattle.bd_gate.specs.Halves.{BeforeExtents};
 ghost use Rattle.bd_gate.specs.Superblock.{sizes_at};
-ghost use Rattle.bd_catalog.specs.Agreement.{Agrees};
 ghost use Rattle.bd_catalog.specs.Catalogue.{oldest_in};
 ghost use Rattle.bd_catalog.specs.Opening.{opened};
 ghost use Rattle.bd_catalog.specs.Standing.{lines_from};
@@ -19,6 +18,7 @@ ghost use Rattle.bd_recover.specs.Answers.{is_disk_fault as is_format_disk_fault
 ghost use Rattle.bd_recover.specs.Opens.{is_disk_fault as is_open_disk_fault, Rests};
 ghost use Rattle.bd_store.specs.Attempts.{Meets, attempt, scene};
 ghost use Rattle.bd_store.specs.Openings.{AnswersOpening, IsNewStore, MakingStops};
+ghost use Rattle.bd_store.specs.Shown.{IsOpenOn};
 
 use crate::fault::{StoreFault, fault_of_reading, fault_of_restore, is_disk_fault};
 use crate::listing::lines_of;
@@ -101,9 +101,7 @@ impl Store {
         version: u32,
         name: &Name,
     ) -> Result<Answer, StoreFault>
-        requires room { disk_bytes self.old.found.sizes ≤ D.bytes disk.old }
-        requires agrees { D.tells → Agrees self.old.found (D.history disk.old) }
-        requires sound { self.old.worn ≡ false }
+        requires opened { IsOpenOn D.Disk self.old disk.old }
         ensures meets { Meets D.tells F.tells (attempt (Restore version name.now) result (scene D.Disk F.Files self.old disk.old files.old) (scene D.Disk F.Files self.new disk.new files.new)) }
     {
         let _shape = self.catalog.shape();
@@ -135,9 +133,7 @@ impl Store {
     ) -> Result<Answer, StoreFault>
         requires oldest { oldest_in self.old.found.catalogue ≤ version }
         requires newest { version ≤ self.old.found.catalogue.newest }
-        requires room { disk_bytes self.old.found.sizes ≤ D.bytes disk.old }
-        requires agrees { D.tells → Agrees self.old.found (D.history disk.old) }
-        requires sound { self.old.worn ≡ false }
+        requires opened { IsOpenOn D.Disk self.old disk.old }
         ensures meets { Meets D.tells F.tells (attempt (Restore version name.now) result (scene D.Disk F.Files self.old disk.old files.old) (scene D.Disk F.Files self.new disk.new files.new)) }
     {
         let plan = match plan_for(self.alloc, disk, &self.catalog, version) {
@@ -173,9 +169,7 @@ impl Store {
         files: &mut F,
         command: &Command,
     ) -> Result<Answer, StoreFault>
-        requires room { disk_bytes self.old.found.sizes ≤ D.bytes disk.old }
-        requires agrees { D.tells → Agrees self.old.found (D.history disk.old) }
-        requires sound { self.old.worn ≡ false }
+        requires opened { IsOpenOn D.Disk self.old disk.old }
         requires built { command.now ≢ Scrub }
         ensures meets { Meets D.tells F.tells (attempt command.now result (scene D.Disk F.Files self.old disk.old files.old) (scene D.Disk F.Files self.new disk.new files.new)) }
     {

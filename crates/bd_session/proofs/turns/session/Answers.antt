@@ -4,7 +4,7 @@ use Rattle.bd_session.proofs.Stepping.{all_turned, command_at, ended, none_begun
 use Rattle.bd_session.proofs.turns.session.Goals as goal
 
 pub returns-in-Err : goal.returns-in-Err
-returns-in-Err g c = record { meets = none_begun _ _ c.none.result (record { sound = c.requires.sound; room = c.requires.room; agrees = c.requires.agrees }) c.none.ensures.answers c.none.ensures.clocks c.none.ensures.end }
+returns-in-Err g c = record { meets = none_begun _ _ c.none.result c.requires.opened c.none.ensures.answers c.none.ensures.clocks c.none.ensures.end }
 
 pub loop-command-init : goal.loop-command-init
 loop-command-init g c = record {
@@ -13,33 +13,33 @@ loop-command-init g c = record {
   answers_room = omega (arith, c.in-Ok.ensures.answers.1, c.len.ensures);
   clocks_room = omega (arith, c.in-Ok.ensures.clocks.1, c.len.ensures);
   ending = c.in-Ok.ensures.end;
-  opened = record { sound = c.requires.sound; room = c.requires.room; agrees = c.requires.agrees };
+  opened = c.requires.opened;
 }
 
 pub returns : goal.returns
-returns g c = record { meets = all_turned _ _ _ c.loop-command.command-index _ (record { sound = c.requires.sound; room = c.requires.room; agrees = c.requires.agrees }) c.loop-command.invariant (omega (arith, c.loop-command-test.false, ap length c.as_slice-command-items.ensures)) }
+returns g c = record { meets = all_turned _ _ _ c.loop-command.command-index _ c.requires.opened c.loop-command.invariant (omega (arith, c.loop-command-test.false, ap length c.as_slice-command-items.ensures)) }
 
 pub returns-in-Scrub : goal.returns-in-Scrub
 returns-in-Scrub g c = record {
-  meets = not_begun _ _ _ _ _ (record { sound = c.requires.sound; room = c.requires.room; agrees = c.requires.agrees }) c.loop-command.invariant
+  meets = not_begun _ _ _ _ _ c.requires.opened c.loop-command.invariant
       (command_at _ _ _ _ c.as_slice-command-items.ensures c.loop-command-test.true c.command-item.is ∙ ap Some c.in-Scrub.is) _ c.ending.ensures;
 }
 
 pub returns-in-Err-carry_out : goal.returns-in-Err-carry_out
 returns-in-Err-carry_out g c = record {
-  meets = ended _ _ _ _ _ (record { sound = c.requires.sound; room = c.requires.room; agrees = c.requires.agrees }) c.loop-command.invariant _ (command_at _ _ _ _ c.as_slice-command-items.ensures c.loop-command-test.true c.command-item.is) _ _
+  meets = ended _ _ _ _ _ c.requires.opened c.loop-command.invariant _ (command_at _ _ _ _ c.as_slice-command-items.ensures c.loop-command-test.true c.command-item.is) _ _
       c.in-Err-carry_out.ensures.meets _ (c.end_of.ensures, record { faults = refl; handed = refl }) _ c.ending-in-Err-carry_out.ensures;
 }
 
 pub returns-in-Err-Output : goal.returns-in-Err-Output
 returns-in-Err-Output g c = record {
-  meets = ended _ _ _ _ _ (record { sound = c.requires.sound; room = c.requires.room; agrees = c.requires.agrees }) c.loop-command.invariant _ (command_at _ _ _ _ c.as_slice-command-items.ensures c.loop-command-test.true c.command-item.is) _ _
+  meets = ended _ _ _ _ _ c.requires.opened c.loop-command.invariant _ (command_at _ _ _ _ c.as_slice-command-items.ensures c.loop-command-test.true c.command-item.is) _ _
       c.in-Ok-carry_out.ensures.meets OutputFault (record { later = c.tell_answer.ensures.later; faults = rw c.in-Err-Output.field-0-is at c.in-Err-Output.ensures.cause; handed = c.in-Err-Output.ensures.part }) _ c.ending-in-Err-Output.ensures;
 }
 
 pub returns-in-Err-Memory : goal.returns-in-Err-Memory
 returns-in-Err-Memory g c = record {
-  meets = ended _ _ _ _ _ (record { sound = c.requires.sound; room = c.requires.room; agrees = c.requires.agrees }) c.loop-command.invariant _ (command_at _ _ _ _ c.as_slice-command-items.ensures c.loop-command-test.true c.command-item.is) _ _
+  meets = ended _ _ _ _ _ c.requires.opened c.loop-command.invariant _ (command_at _ _ _ _ c.as_slice-command-items.ensures c.loop-command-test.true c.command-item.is) _ _
       c.in-Ok-carry_out.ensures.meets OutOfMemory ((rw c.in-Err-Memory.field-0-is at c.in-Err-Memory.ensures.cause).1, record { faults = (rw c.in-Err-Memory.field-0-is at c.in-Err-Memory.ensures.cause).0; handed = ap g.O.Sink.handed (c.tell_answer.ensures.memory (c.in-Err-Memory.is ∙ ap Err c.in-Err-Memory.field-0-is)) }) _ c.ending-in-Err-Memory.ensures;
 }
 

@@ -19,9 +19,11 @@ give_up_oldest-requires g c =
     let versions : retained_in c.ready.new.self.found.catalogue ≡ retained_in c.args.self.now.found.catalogue = ap (λ (vs : List VersionEntry). length vs) is.settled.versions in
     record {
       fits = record { some = omega (arith, versions, first_two c.args.self.now.found c.requires.first); arranged = inl is.settled.phase };
-      room = omega (arith, c.requires.room, ap disk_bytes is.settled.sizes, c.ready.ensures.disk.bytes);
-      agrees = λ told. (c.in-Ok.ensures.told told).agrees;
-      sound = ready_sound c.in-Ok.ensures.worn;
+      opened = record {
+        sound = ready_sound c.in-Ok.ensures.worn;
+        room = omega (arith, c.requires.opened.room, ap disk_bytes is.settled.sizes, c.ready.ensures.disk.bytes);
+        agrees = λ told. (c.in-Ok.ensures.told told).agrees;
+      };
     }
 
 pub returns : goal.returns
@@ -35,7 +37,7 @@ returns g c =
                 subst (λ s. P beside s c.match-ready.disk c.match-ready.result) (sym w.self-is)
                 (subst (λ d. P beside w.give_up_oldest.new.self d c.match-ready.result) (sym w.disk-is)
                 (subst (P beside w.give_up_oldest.new.self w.give_up_oldest.new.disk) (sym w.result-is)
-                (followed {files = Unit {0}} {command = Expire} c.requires.first c.requires.agrees
+                (followed {files = Unit {0}} {command = Expire} c.requires.first c.requires.opened.agrees
                 (made_ready g.D.Disk beside c.args.self.now c.ready.new.self c.args.disk.now c.ready.new.disk (Ok w.in-Ok.field-0) c.ready.ensures.disk w.in-Ok.ensures.cause w.in-Ok.ensures.worn c.ready.ensures.held w.in-Ok.ensures.store w.in-Ok.ensures.told)
                 (lean_follows w.in-Ok.ensures.store.settled.phase
                 (subst (λ (vs : List VersionEntry). 1 ≤ length vs) (sym w.in-Ok.ensures.store.settled.versions) (omega (arith, first_two c.args.self.now.found c.requires.first)))

@@ -12,7 +12,7 @@ pub returns-in-Ok : goal.returns-in-Ok
 returns-in-Ok g c =
     let goes : is_full c.args.self.now.found ≡ false = backup_goes_on c.args.self.now.found c.requires.number c.requires.limit in
     record {
-      meets = followed {after = scene g.D.Disk g.F.Files c.take_in.new.self c.take_in.new.disk c.take_in.new.files} goes c.requires.agrees
+      meets = followed {after = scene g.D.Disk g.F.Files c.take_in.new.self c.take_in.new.disk c.take_in.new.files} goes c.requires.opened.agrees
           (made_ready g.D.Disk (beside_of g.F.Files c.args.files.now) c.args.self.now c.ready.new.self c.args.disk.now c.ready.new.disk (Ok c.in-Ok.neighbour) c.ready.ensures.disk c.in-Ok.ensures.cause c.in-Ok.ensures.worn c.ready.ensures.held c.in-Ok.ensures.store
           c.in-Ok.ensures.told)
           c.take_in.ensures.follows;

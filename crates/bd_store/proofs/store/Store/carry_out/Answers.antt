@@ -18,7 +18,7 @@ returns-in-Ok g c =
     let store : Shown = c.args.self.now in
     record {
       meets = subst (λ (command : Command). Meets g.D.Disk.tells g.F.Files.tells (attempt command (Ok answer) here here)) (sym c.in-List.is)
-          (meets_untouched Listing (Ok answer) here c.requires.sound c.requires.agrees
+          (meets_untouched Listing (Ok answer) here c.requires.opened.sound c.requires.opened.agrees
           (record {
             cause = refl;
             has_disk = tt;
@@ -34,7 +34,7 @@ returns-in-Ok g c =
             finished = tt;
             transfers = tt;
           })
-          (λ told files_tell. listed_step _ _ _ _ _ (c.requires.agrees told) c.in-Ok.ensures.lines)
+          (λ told files_tell. listed_step _ _ _ _ _ (c.requires.opened.agrees told) c.in-Ok.ensures.lines)
           (λ told files_tell. listed_stops _ _ _ _));
     }
 
@@ -43,7 +43,7 @@ returns-in-Err g c =
     let here = scene g.D.Disk g.F.Files c.args.self.now c.args.disk.now c.args.files.now in
     record {
       meets = subst (λ (command : Command). Meets g.D.Disk.tells g.F.Files.tells (attempt command (Err OutOfMemory) here here)) (sym c.in-List.is)
-          (meets_untouched _ _ _ c.requires.sound c.requires.agrees
+          (meets_untouched _ _ _ c.requires.opened.sound c.requires.opened.agrees
           (record { cause = refl; has_disk = tt; answer = refl; versions = same_versions c.args.self.now; settles = tt; figures = tt; reads = refl; damage = tt; recipe = tt; step = refl; arranging = λ no. absurd (cc no); finished = tt; transfers = tt })
           (λ told files_tell. memory_step _ _ _ _)
           (λ told files_tell. safe_untouched _ _ _ _ _));

@@ -20,7 +20,7 @@ returns-in-Err g c =
     let found : Found = c.self.inside.catalog.found in
     let held = held_count c.self.inside.space in
     let same : found ≡ c.args.self.now.found = ap (λ (s : Shown). s.found) c.self.view_is in
-    let shown = shown_is found held c.args.self.now same (ap (λ (s : Shown). s.held) c.self.view_is) c.requires.sound in
+    let shown = shown_is found held c.args.self.now same (ap (λ (s : Shown). s.held) c.self.view_is) c.requires.opened.sound in
     let worn : Bool = c.is_disk_fault-self-inside.result in
     let DiskFailed : StoreFault → Type 0 = λ fault. (worn ≡ true) ↔ (◌≡◌ {A = Result Answer StoreFault} (Err fault) (Err DiskFault)) in
     let MeetsFrom : Shown → StoreFault → Type 0 =
@@ -28,7 +28,7 @@ returns-in-Err g c =
     (scene g.D.Disk g.F.Files before c.args.disk.now c.args.files.now) (scene g.D.Disk g.F.Files (record { found = found; held = held; worn = worn }) c.plan_for.new.disk c.args.files.now)) in
     let is : MeetsFrom (record { found = found; held = held; worn = false }) (fault_of_reading c.in-Err.fault) =
     meets_unread g.D.Disk g.F.Files found held c.args.version c.args.name.now c.args.disk.now c.args.files.now
-    (λ told. subst (λ (f : Found). Agrees f (g.D.Disk.history c.args.disk.now)) (sym same) (c.requires.agrees told))
+    (λ told. subst (λ (f : Found). Agrees f (g.D.Disk.history c.args.disk.now)) (sym same) (c.requires.opened.agrees told))
     (subst (λ (f : Found). oldest_in f.catalogue ≤ c.args.version) (sym same) c.requires.oldest) (subst (λ (f : Found). c.args.version ≤ f.catalogue.newest) (sym same) c.requires.newest)
     c.plan_for.new.disk c.in-Err.fault worn
     (record { disk = c.plan_for.ensures.disk; cause = c.in-Err.ensures.cause; entries = c.in-Err.ensures.entries; seen = c.in-Err.ensures.seen })
@@ -40,12 +40,12 @@ returns-in-Ok-run_plan g c =
     let found : Found = c.self.inside.catalog.found in
     let held = held_count c.self.inside.space in
     let same : found ≡ c.args.self.now.found = ap (λ (s : Shown). s.found) c.self.view_is in
-    let shown = shown_is found held c.args.self.now same (ap (λ (s : Shown). s.held) c.self.view_is) c.requires.sound in
+    let shown = shown_is found held c.args.self.now same (ap (λ (s : Shown). s.held) c.self.view_is) c.requires.opened.sound in
     record {
       meets = subst (λ (s : Shown). Meets g.D.Disk.tells g.F.Files.tells (attempt (Restore c.args.version c.args.name.now) (Ok (Restored c.args.version c.in-Ok-run_plan.bytes))
           (scene g.D.Disk g.F.Files s c.args.disk.now c.args.files.now) (scene g.D.Disk g.F.Files s c.run_plan.new.disk c.run_plan.new.files))) shown
           (meets_restored g.D.Disk g.F.Files found held c.args.version c.args.name.now c.args.disk.now c.args.files.now
-          (λ told. subst (λ (f : Found). Agrees f (g.D.Disk.history c.args.disk.now)) (sym same) (c.requires.agrees told))
+          (λ told. subst (λ (f : Found). Agrees f (g.D.Disk.history c.args.disk.now)) (sym same) (c.requires.opened.agrees told))
           (subst (λ (f : Found). oldest_in f.catalogue ≤ c.args.version) (sym same) c.requires.oldest) (subst (λ (f : Found). c.args.version ≤ f.catalogue.newest) (sym same) c.requires.newest)
           c.in-Ok.plan c.plan_for.new.disk
           (record { disk = c.plan_for.ensures.disk; faults = c.in-Ok.ensures.cause.cause; made = c.in-Ok.ensures.plan; recipe = c.in-Ok.ensures.recipe; entries = c.in-Ok.ensures.entries; places = c.in-Ok.ensures.places })
@@ -59,7 +59,7 @@ returns-in-Err-run_plan g c =
     let found : Found = c.self.inside.catalog.found in
     let held = held_count c.self.inside.space in
     let same : found ≡ c.args.self.now.found = ap (λ (s : Shown). s.found) c.self.view_is in
-    let shown = shown_is found held c.args.self.now same (ap (λ (s : Shown). s.held) c.self.view_is) c.requires.sound in
+    let shown = shown_is found held c.args.self.now same (ap (λ (s : Shown). s.held) c.self.view_is) c.requires.opened.sound in
     let worn : Bool = c.is_disk_fault-self-inside-in-Err-run_plan.result in
     let DiskFailed : StoreFault → Type 0 = λ fault. (worn ≡ true) ↔ (◌≡◌ {A = Result Answer StoreFault} (Err fault) (Err DiskFault)) in
     let MeetsFrom : Shown → StoreFault → Type 0 =
@@ -67,7 +67,7 @@ returns-in-Err-run_plan g c =
     (scene g.D.Disk g.F.Files before c.args.disk.now c.args.files.now) (scene g.D.Disk g.F.Files (record { found = found; held = held; worn = worn }) c.run_plan.new.disk c.run_plan.new.files)) in
     let is : MeetsFrom (record { found = found; held = held; worn = false }) (fault_of_restore c.in-Err-run_plan.fault) =
     meets_stopped g.D.Disk g.F.Files found held c.args.version c.args.name.now c.args.disk.now c.args.files.now
-    (λ told. subst (λ (f : Found). Agrees f (g.D.Disk.history c.args.disk.now)) (sym same) (c.requires.agrees told))
+    (λ told. subst (λ (f : Found). Agrees f (g.D.Disk.history c.args.disk.now)) (sym same) (c.requires.opened.agrees told))
     (subst (λ (f : Found). oldest_in f.catalogue ≤ c.args.version) (sym same) c.requires.oldest) (subst (λ (f : Found). c.args.version ≤ f.catalogue.newest) (sym same) c.requires.newest)
     c.in-Ok.plan c.plan_for.new.disk
     (record { disk = c.plan_for.ensures.disk; faults = c.in-Ok.ensures.cause.cause; made = c.in-Ok.ensures.plan; recipe = c.in-Ok.ensures.recipe; entries = c.in-Ok.ensures.entries; places = c.in-Ok.ensures.places })

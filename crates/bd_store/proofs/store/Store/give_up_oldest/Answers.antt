@@ -20,7 +20,7 @@ overflow_sub-version g c = omega (arith, c.retained.ensures, ap (λ (s : Shown).
 pub invariant_of-self : goal.invariant_of-self
 invariant_of-self g c =
     let found : Found = c.self.inside.catalog.found in
-    let sound : c.self.inside.worn ≡ false = ap (λ (s : Shown). s.worn) c.self.view_is ∙ c.requires.sound in
+    let sound : c.self.inside.worn ≡ false = ap (λ (s : Shown). s.worn) c.self.view_is ∙ c.requires.opened.sound in
     kept_expired found c.commit-named.new.self.found c.commit-named.new.space c.is_err-self-inside.result c.commit-named.result c.is_err-self-inside.ensures.value c.commit-named.ensures.made c.commit-named.ensures.owners
     (c.commit-named.ensures.extents ∙ c.self.invariant.count sound)
 
@@ -29,7 +29,7 @@ returns g c =
     let found : Found = c.self.inside.catalog.found in
     let held : ℕ = held_count c.self.inside.space in
     let same : found ≡ c.args.self.now.found = ap (λ (s : Shown). s.found) c.self.view_is in
-    let shown = shown_is found held c.args.self.now same (ap (λ (s : Shown). s.held) c.self.view_is) c.requires.sound in
+    let shown = shown_is found held c.args.self.now same (ap (λ (s : Shown). s.held) c.self.view_is) c.requires.opened.sound in
     let version : ℕ = c.newest.result - (c.retained.result - 1) in
     let answer : c.match-named.result ≡ answer_of version c.drop_volume-extents.result c.commit-named.result =
     elim c.match-named.branch [
@@ -45,7 +45,7 @@ returns g c =
           (subst (λ n. From beside (record { found = found; held = held; worn = false }) n c.match-named.result) (sym c.commit-named.ensures.held)
           (subst (From beside (record { found = found; held = held; worn = false }) held) (sym answer)
           (expiry_meets g.D.Disk beside found held c.args.disk.now c.commit-named.new.disk
-          (λ told. subst (λ (f : Found). Agrees f (g.D.Disk.history c.args.disk.now)) (sym same) (c.requires.agrees told))
+          (λ told. subst (λ (f : Found). Agrees f (g.D.Disk.history c.args.disk.now)) (sym same) (c.requires.opened.agrees told))
           (subst (λ (f : Found). FitsExpire f.catalogue) (sym same) c.requires.fits) c.commit-named.ensures.disk (Unit {0})
           version c.drop_volume-extents.result
           (omega (arith, c.newest.ensures, c.retained.ensures, ap (λ (s : Shown). retained_in s.found.catalogue) c.self.view_is, c.requires.fits.some)) c.drop_volume-extents.ensures

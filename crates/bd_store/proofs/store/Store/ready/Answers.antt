@@ -21,18 +21,18 @@ returns-in-Err-clause-told g c =
     let found : Found = c.self.inside.catalog.found in
     subst (λ (s : Shown). g.D.Disk.tells → ReadiesOn s.held s.found found (g.D.Disk.history c.args.disk.now) (g.D.Disk.history c.newest_recipe.new.disk) (Err c.in-Err.fault)) c.self.view_is
     (unread_told g.D.Disk found (held_count c.self.inside.space) c.args.disk.now c.newest_recipe.new.disk
-    (λ told. subst (λ (s : Shown). Agrees s.found (g.D.Disk.history c.args.disk.now)) (sym c.self.view_is) (c.requires.agrees told)) c.newest_recipe.ensures.disk
+    (λ told. subst (λ (s : Shown). Agrees s.found (g.D.Disk.history c.args.disk.now)) (sym c.self.view_is) (c.requires.opened.agrees told)) c.newest_recipe.ensures.disk
     c.in-Err.fault c.in-Err.ensures.entries c.in-Err.ensures.seen)
 
 pub arrange-requires-clause-agrees : goal.arrange-requires-clause-agrees
 arrange-requires-clause-agrees g c =
     agrees_behind g.D.Disk c.self.inside.catalog.found (held_count c.self.inside.space) c.args.disk.now c.newest_recipe.new.disk
-    (λ told. subst (λ (s : Shown). Agrees s.found (g.D.Disk.history c.args.disk.now)) (sym c.self.view_is) (c.requires.agrees told)) c.newest_recipe.ensures.disk
+    (λ told. subst (λ (s : Shown). Agrees s.found (g.D.Disk.history c.args.disk.now)) (sym c.self.view_is) (c.requires.opened.agrees told)) c.newest_recipe.ensures.disk
 
 pub arrange-requires-clause-newest : goal.arrange-requires-clause-newest
 arrange-requires-clause-newest g c = λ told waiting.
     (recipe_behind g.D.Disk c.self.inside.catalog.found (held_count c.self.inside.space) c.args.disk.now c.newest_recipe.new.disk
-    (λ told. subst (λ (s : Shown). Agrees s.found (g.D.Disk.history c.args.disk.now)) (sym c.self.view_is) (c.requires.agrees told)) c.newest_recipe.ensures.disk
+    (λ told. subst (λ (s : Shown). Agrees s.found (g.D.Disk.history c.args.disk.now)) (sym c.self.view_is) (c.requires.opened.agrees told)) c.newest_recipe.ensures.disk
     told (c.in-Ok.ensures.entries told)).some (omega (arith, waits_with_two c.self.inside.catalog.found c.shape-shape.ensures.rules waiting))
 
 pub returns-in-Ok-arrange-clause-disk : goal.returns-in-Ok-arrange-clause-disk
@@ -55,7 +55,7 @@ returns-in-Ok-arrange-clause-told g c =
     let mid : Found = c.arrange.new.catalog.found in
     subst (λ (s : Shown). g.D.Disk.tells → ReadiesOn s.held s.found mid (g.D.Disk.history c.args.disk.now) (g.D.Disk.history c.arrange.new.disk) (Ok c.in-Ok.neighbour)) c.self.view_is
     (arranged_told g.D.Disk found (held_count c.self.inside.space) c.args.disk.now c.newest_recipe.new.disk
-    (λ told. subst (λ (s : Shown). Agrees s.found (g.D.Disk.history c.args.disk.now)) (sym c.self.view_is) (c.requires.agrees told)) c.newest_recipe.ensures.disk
+    (λ told. subst (λ (s : Shown). Agrees s.found (g.D.Disk.history c.args.disk.now)) (sym c.self.view_is) (c.requires.opened.agrees told)) c.newest_recipe.ensures.disk
     c.in-Ok.neighbour c.in-Ok.ensures.entries c.arrange.new.disk mid c.arrange.ensures.disk
     (omega (arith, c.shape-shape.result.in_range.extent_low, ap (λ (s : Sizes). s.extent) c.shape-shape.ensures.sizes))
     c.in-Ok.ensures.places (λ settled. (c.arrange.ensures.settled settled).1) c.in-Ok-arrange.ensures.found c.in-Ok-arrange.ensures.agrees c.in-Ok-arrange.ensures.answer c.in-Ok-arrange.ensures.states)
@@ -71,6 +71,6 @@ returns-in-Err-arrange-clause-told g c =
     let mid : Found = c.arrange.new.catalog.found in
     subst (λ (s : Shown). g.D.Disk.tells → ReadiesOn s.held s.found mid (g.D.Disk.history c.args.disk.now) (g.D.Disk.history c.arrange.new.disk) (Err c.in-Err-arrange.fault)) c.self.view_is
     (unarranged_told g.D.Disk found (held_count c.self.inside.space) c.args.disk.now c.newest_recipe.new.disk
-    (λ told. subst (λ (s : Shown). Agrees s.found (g.D.Disk.history c.args.disk.now)) (sym c.self.view_is) (c.requires.agrees told)) c.newest_recipe.ensures.disk
+    (λ told. subst (λ (s : Shown). Agrees s.found (g.D.Disk.history c.args.disk.now)) (sym c.self.view_is) (c.requires.opened.agrees told)) c.newest_recipe.ensures.disk
     c.in-Ok.neighbour c.in-Ok.ensures.entries c.arrange.new.disk mid
     c.in-Err-arrange.fault (λ settled. (c.arrange.ensures.settled settled).1) c.in-Err-arrange.ensures.agrees c.in-Err-arrange.ensures.answer c.in-Err-arrange.ensures.states)

@@ -15,7 +15,7 @@ returns-in-Settled g c =
     let settled : c.args.self.now.found.catalogue.phase ≡ Settled = ap (λ (s : Shown). s.found.catalogue.phase) (sym c.self.view_is) ∙ sym c.phase.ensures ∙ c.in-Settled.is in
     record {
       meets = λ beside.
-          meets_arranged (scene_beside g.D.Disk beside c.args.self.now c.args.disk.now) c.figures-owned.result c.requires.sound c.requires.agrees settled c.figures-owned.ensures.figures c.figures-owned.ensures.state;
+          meets_arranged (scene_beside g.D.Disk beside c.args.self.now c.args.disk.now) c.figures-owned.result c.requires.opened.sound c.requires.opened.agrees settled c.figures-owned.ensures.figures c.figures-owned.ensures.state;
     }
 
 pub returns-in-Ok : goal.returns-in-Ok
@@ -23,7 +23,7 @@ returns-in-Ok g c =
     let waiting : is_waiting c.args.self.now.found ≡ true = ap (λ (s : Shown). waits s.found.catalogue.phase) (sym c.self.view_is) ∙ ap waits (sym c.phase.ensures ∙ c.in-Waiting.is) in
     record {
       meets = λ beside.
-          followed waiting c.requires.agrees
+          followed waiting c.requires.opened.agrees
           (made_ready g.D.Disk beside c.args.self.now c.ready.new.self c.args.disk.now c.ready.new.disk (Ok c.in-Ok._neighbour) c.ready.ensures.disk c.in-Ok.ensures.cause c.in-Ok.ensures.worn c.ready.ensures.held c.in-Ok.ensures.store c.in-Ok.ensures.told)
           (arranged_follows (scene_beside g.D.Disk beside c.ready.new.self c.ready.new.disk) c.figures-owned-in-Ok.result (ready_sound c.in-Ok.ensures.worn) (λ told. (c.in-Ok.ensures.told told).agrees) c.in-Ok.ensures.store.settled.phase
           c.figures-owned-in-Ok.ensures.figures c.figures-owned-in-Ok.ensures.state);

@@ -25,12 +25,12 @@ pub returns-then-is_err : goal.returns-then-is_err
 returns-then-is_err g c =
     let found : Found = c.reserve.new.self.found in
     let same : found ≡ c.args.self.now.found = c.reserve.ensures.found ∙ ap (λ (s : Shown). s.found) c.self.view_is in
-    let shown = shown_is found (held_count c.self.inside.space) c.args.self.now same (ap (λ (s : Shown). s.held) c.self.view_is) c.requires.sound in
-    let sound : c.self.inside.worn ≡ false = ap (λ (s : Shown). s.worn) c.self.view_is ∙ c.requires.sound in
+    let shown = shown_is found (held_count c.self.inside.space) c.args.self.now same (ap (λ (s : Shown). s.held) c.self.view_is) c.requires.opened.sound in
+    let sound : c.self.inside.worn ≡ false = ap (λ (s : Shown). s.worn) c.self.view_is ∙ c.requires.opened.sound in
     record {
       follows = subst (λ (s : Shown). Follows g.D.Disk.tells g.F.Files.tells (attempt (Backup c.args.name.now) (Err OutOfMemory)
           (scene g.D.Disk g.F.Files c.args.self.now c.args.disk.now c.args.files.now) (scene g.D.Disk g.F.Files s c.args.disk.now c.args.files.now))) (sym shown ∙ (λ k. record { found = found; held = held_count c.self.inside.space; worn = sym sound k }))
-          (follows_without_memory c.args.name.now (scene g.D.Disk g.F.Files c.args.self.now c.args.disk.now c.args.files.now) c.requires.sound c.requires.agrees (backup_goes_on c.args.self.now.found c.requires.number c.requires.limit));
+          (follows_without_memory c.args.name.now (scene g.D.Disk g.F.Files c.args.self.now c.args.disk.now c.args.files.now) c.requires.opened.sound c.requires.opened.agrees (backup_goes_on c.args.self.now.found c.requires.number c.requires.limit));
     }
 
 pub name_version-named-requires-clause-reserved : goal.name_version-named-requires-clause-reserved
@@ -41,12 +41,12 @@ name_version-named-requires-clause-agrees g c = λ told.
     let found : Found = c.reserve.new.self.found in
     let same : found ≡ c.args.self.now.found = c.reserve.ensures.found ∙ ap (λ (s : Shown). s.found) c.self.view_is in
     agrees_staged found (InFree found.sizes c.self.inside.space) (λ place inside. omega (arith, inside.within.0))
-    (subst (λ (f : Found). Agrees f (g.D.Disk.history c.args.disk.now)) (sym same) (c.requires.agrees told)) (written c.intake.ensures.disk told)
+    (subst (λ (f : Found). Agrees f (g.D.Disk.history c.args.disk.now)) (sym same) (c.requires.opened.agrees told)) (written c.intake.ensures.disk told)
 
 pub invariant_of-self-in-Ok : goal.invariant_of-self-in-Ok
 invariant_of-self-in-Ok g c =
     let found : Found = c.reserve.new.self.found in
-    let sound : c.self.inside.worn ≡ false = ap (λ (s : Shown). s.worn) c.self.view_is ∙ c.requires.sound in
+    let sound : c.self.inside.worn ≡ false = ap (λ (s : Shown). s.worn) c.self.view_is ∙ c.requires.opened.sound in
     kept_named found _ c.name_version-named.new.catalog.found c.name_version-named.new.space c.in-Ok.staged c.is_disk_fault-self-inside.result c.name_version-named.result
     c.name_version-named.ensures.answer c.name_version-named.ensures.made c.name_version-named.ensures.owners
     (c.name_version-named.ensures.counts.0 ∙ c.intake.ensures.space.size ∙ c.self.invariant.count sound ∙ ap (λ (f : Found). f.sizes.extents) (sym c.reserve.ensures.found)) refl c.is_disk_fault-self-inside.ensures
@@ -56,10 +56,10 @@ returns-in-Ok g c =
     let found : Found = c.reserve.new.self.found in
     let held = held_count c.self.inside.space in
     let same : found ≡ c.args.self.now.found = c.reserve.ensures.found ∙ ap (λ (s : Shown). s.found) c.self.view_is in
-    let shown = shown_is found held c.args.self.now same (ap (λ (s : Shown). s.held) c.self.view_is) c.requires.sound in
-    let sound : c.self.inside.worn ≡ false = ap (λ (s : Shown). s.worn) c.self.view_is ∙ c.requires.sound in
+    let shown = shown_is found held c.args.self.now same (ap (λ (s : Shown). s.held) c.self.view_is) c.requires.opened.sound in
+    let sound : c.self.inside.worn ≡ false = ap (λ (s : Shown). s.worn) c.self.view_is ∙ c.requires.opened.sound in
     let begun : Begun found c.self.inside.space g.D.Disk.tells (g.D.Disk.history c.args.disk.now) = begun_from same (record {
-      agrees = c.requires.agrees;
+      agrees = c.requires.opened.agrees;
       settled = c.requires.settled;
       below = c.requires.number;
       fewer = c.requires.limit;
@@ -84,10 +84,10 @@ returns-in-Err g c =
     let found : Found = c.reserve.new.self.found in
     let held = held_count c.self.inside.space in
     let same : found ≡ c.args.self.now.found = c.reserve.ensures.found ∙ ap (λ (s : Shown). s.found) c.self.view_is in
-    let shown = shown_is found held c.args.self.now same (ap (λ (s : Shown). s.held) c.self.view_is) c.requires.sound in
-    let sound : c.self.inside.worn ≡ false = ap (λ (s : Shown). s.worn) c.self.view_is ∙ c.requires.sound in
+    let shown = shown_is found held c.args.self.now same (ap (λ (s : Shown). s.held) c.self.view_is) c.requires.opened.sound in
+    let sound : c.self.inside.worn ≡ false = ap (λ (s : Shown). s.worn) c.self.view_is ∙ c.requires.opened.sound in
     let begun : Begun found c.self.inside.space g.D.Disk.tells (g.D.Disk.history c.args.disk.now) = begun_from same (record {
-      agrees = c.requires.agrees;
+      agrees = c.requires.opened.agrees;
       settled = c.requires.settled;
       below = c.requires.number;
       fewer = c.requires.limit;
