@@ -6,7 +6,7 @@ use Rattle.bd_disk.specs.History.{History, contents}
 use Rattle.bd_disk.specs.Images.{Agree, AgreeBut}
 use Rattle.bd_disk.specs.Made.{LeavesNow, LeavesSince, WritesOnly}
 use Rattle.bd_disk.proofs.Agreeing.{agree_fewer, agree_trans}
-use Rattle.bd_disk.proofs.Frames.{contents_now, leaves_same, leaves_wider, same_contents, writes_wider}
+use Rattle.bd_disk.proofs.Frames.{contents_now, leaves_both, leaves_now, leaves_same, leaves_wider, same_contents, writes_wider}
 use Rattle.bd_model.specs.Extents.{owner_bytes}
 use Rattle.bd_model.specs.Marks.{Near}
 use Rattle.bd_model.specs.Sizes.{Sizes}
@@ -32,7 +32,7 @@ use Rattle.bd_catalog.proofs.Committing.{number-small}
 use Rattle.bd_catalog.proofs.Obeying.{IsBounded}
 use Rattle.bd_catalog.proofs.OneArranging.{arrange_fits}
 use Rattle.bd_catalog.proofs.Staged.{AreUnnamed, agrees_staged, either_stands, staged_commit, staged_stands, staging}
-use Rattle.bd_catalog.proofs.Standing.{halves_agree}
+use Rattle.bd_catalog.proofs.Standing.{found_once, halves_agree}
 use Rattle.bd_catalog.proofs.StandingNamed.{stands_settled}
 use Rattle.bd_recipe.specs.Reading.{IfDamaged, recipe_found}
 use Rattle.bd_recipe.specs.declared.fault.ReadFault.{ReadFault}
@@ -42,9 +42,11 @@ use Rattle.bd_volume.proofs.Beside.{half_beside}
 use Rattle.bd_volume.proofs.Unnamed.{named_bytes_decide}
 use Rattle.bd_arrange.specs.Arranged.{AnArrangedStoreStands, AnswersDue, Arranges, ButDiskFault, IsAllotted, IsArrangedFrom, IsDamageOfDue, KeepsStates}
 use Rattle.bd_arrange.specs.Desks.{OnDesk}
+use Rattle.bd_arrange.specs.Opens.{HasVersionsOf, IsSafeOpening, OpensAlike}
 use Rattle.bd_arrange.specs.Turns.{AreArranged, Ground, due, ground, grown_bytes}
 use Rattle.bd_arrange.specs.Underway.{HasSplits, HasTurned, IsStaged, arranged_at}
 use Rattle.bd_arrange.proofs.NoDamage.{never_damaged}
+use Rattle.bd_arrange.proofs.Opens.{alike_back, opens_alike, opens_committed, opens_staged}
 use Rattle.bd_arrange.proofs.TakingTurns.{KeptStays, turns_later}
 
 -- ---- nothing was done
@@ -53,12 +55,14 @@ pub keeps_settled : (held : ℕ) (found : Found) (h : History) → Agrees found 
 keeps_settled held found h agrees settled = record {
   contents = record { each = λ shape st phase near stands. stands_settled stands agrees.opens settled };
   stops = record { each = λ shape st near sure. leaves_same refl sure };
+  opens = record { each = λ f sure. leaves_same refl sure };
 }
 
 pub keeps_all : (held : ℕ) (h : History) → KeepsStates {T = Unit {0}} held h h (Err OutOfMemory)
 keeps_all held h = record {
   contents = record { each = λ shape st phase near stands. stands };
   stops = record { each = λ shape st near sure. leaves_same refl sure };
+  opens = record { each = λ f sure. leaves_same refl sure };
 }
 
 -- ---- places that nothing names
@@ -89,6 +93,13 @@ module _ (found : Found) (h0 h1 : History) (agrees : Agrees found h0) (writes : 
   pub agrees_now : Agrees found h1
   agrees_now = agrees_staged found (IsUnnamed s c) (λ place p. p.behind) agrees unnamed
 
+  -- what each image opened with has the versions of what was found
+  alike_found : {new : History} (f : Found) → LeavesNow (OpensAlike f) h0 → (LeavesNow (OpensAlike found) h0 → LeavesSince (OpensAlike found) h0 new) → LeavesSince (OpensAlike f) h0 new
+  alike_found f sure leaves =
+      let now : OpensAlike f (contents h0) = sure.each (contents h0) (contents_now h0) in
+      let alike : HasVersionsOf f found = subst (HasVersionsOf f) (found_once (contents h0) now.again found now.opens agrees.opens) now.alike in
+      leaves_wider (OpensAlike f) (opens_alike alike) (leaves (record { each = λ image at. opens_alike (alike_back alike) image (sure.each image at) }))
+
   module _ (held : ℕ) where
     stands_now : (shape : Shape) (st : VersionState) (phase : Phase) → StandsFor shape st phase held (contents h0) → StandsFor shape st phase held (contents h1)
     stands_now shape st phase stands = staged_stands found (IsUnnamed s c) (are_unnamed shape held st found) agrees unnamed phase stands
@@ -105,6 +116,7 @@ module _ (found : Found) (h0 h1 : History) (agrees : Agrees found h0) (writes : 
     keeps_refused fault met = record {
       contents = record { each = λ shape st phase near stands. refused shape st phase fault met stands };
       stops = record { each = λ shape st near sure. staging found (IsUnnamed s c) (are_unnamed shape held st found) agrees unnamed sure };
+      opens = record { each = λ f sure. alike_found f sure (λ same. opens_staged found same (IsUnnamed s c) (λ place p. p.behind) unnamed) };
     }
 
   -- ---- what was made is named
@@ -182,11 +194,21 @@ module _ (found : Found) (h0 h1 : History) (agrees : Agrees found h0) (writes : 
         (staged_commit found (IsUnnamed s c) (are_unnamed shape held st found) agrees unnamed sure (Stands shape held st) after
         (λ image made. record { phase = Settled; so = settles image made shape st now.phase near now.so }) either.stops)
 
+    opens_named : (h2 : History) → LeavesEither found after h1 h2 → IsSafeOpening h0 h2
+    opens_named h2 either = record {
+      each = λ f sure. alike_found f sure (λ same.
+          let staged : LeavesSince (OpensAlike found) h0 h1 = opens_staged found same (IsUnnamed s c) (λ place p. p.behind) unnamed in
+          leaves_both staged (leaves_wider (OpensAlike found)
+          (λ image is. ⊎_elim (λ old. old) (λ made. record { again = after; opens = made; alike = record { sizes = refl; base = refl; newest = refl; versions = refl } }) is)
+          (opens_committed found (leaves_now staged) after either.stops)));
+    }
+
     module _ (h2 : History) where
       pub keeps_named : IsMade found after h1 h2 → LeavesEither found after h1 h2 → KeepsStates {T = Unit {0}} held h0 h2 (Ok tt)
       keeps_named done either = record {
         contents = record { each = λ shape st phase near stands. settles (contents h2) done.kept shape st phase near stands };
         stops = record { each = λ shape st near sure. stops_named h2 shape st near sure either };
+        opens = opens_named h2 either;
       }
 
       pub keeps_failed : LeavesEither found after h1 h2 → KeepsStates {T = Unit {0}} held h0 h2 (Err DiskFault)
@@ -198,6 +220,7 @@ module _ (found : Found) (h0 h1 : History) (agrees : Agrees found h0) (writes : 
               (λ image made. settles image made shape st phase near stands) either.contents);
         };
         stops = record { each = λ shape st near sure. stops_named h2 shape st near sure either };
+        opens = opens_named h2 either;
       }
 
       pub keeps_either : (T : Type 0) → T → (result : Result (Unit {0}) ReadFault) → OnErr result (result ≡ Err DiskFault) → OnOk result (T → IsMade found after h1 h2) → LeavesEither found after h1 h2 →

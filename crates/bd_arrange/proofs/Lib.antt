@@ -10,6 +10,7 @@ pub mod NoDamage
 pub mod OneStretch
 pub mod OneTurn
 pub mod OpenRows
+pub mod Opens
 pub mod Picked
 pub mod RowsThen
 pub mod Settling

@@ -11,3 +11,4 @@ pub mod Meeting
 pub mod Opened
 pub mod Stepping
 pub mod Turning
+pub mod Stopping

@@ -6,5 +6,6 @@ pub mod Keeping
 pub mod Promised
 pub mod Reads
 pub mod Session
+pub mod Stops
 pub mod Telling
 pub mod Turns

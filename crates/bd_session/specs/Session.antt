@@ -9,6 +9,7 @@ use Rattle.bd_session.specs.Ends.{EndsOnlyByCount, IsMetBy}
 use Rattle.bd_session.specs.Headline.{EndsWell, MeetsTheHeadline}
 use Rattle.bd_session.specs.Keeping.{ClocksRise, KeepsOthers, KeepsStore, StraysOnlyFor, WritesByCommands}
 use Rattle.bd_session.specs.Promised.{IsPromised, start}
+use Rattle.bd_session.specs.Stops.{OpensAsStore, VersionsStay}
 use Rattle.bd_session.specs.Telling.{HandsAnswers}
 use Rattle.bd_session.specs.Turns.{Goes}
 
@@ -35,5 +36,7 @@ pub record MeetsSession (disk files sink : Type 0) (c : Course) (before now : Ar
   pub writes : disk → WritesByCommands c before.scene.disk now.scene.disk
   -- over whatever image: each command, from where the one before it left, is all that a command on a store is promised to be
   pub goes : Goes disk files sink c before now
+  -- and where each image opened with the store's versions, a stop leaves those behind the last answer
+  pub versions : disk → OpensAsStore before → VersionsStay goes
   -- no extent is held for readers, and disk and files tell
   pub honestly : disk → files → before.scene.store.held ≡ 0 → MeetsHonestly c before now

@@ -30,6 +30,7 @@ use Rattle.bd_store.specs.Touches.{InArranging, ExpiryReads, IsByNumbers}
 use Rattle.bd_store.specs.declared.fault.StoreFault.{StoreFault}
 use Rattle.bd_store.proofs.Behind.{answers_before, backup_reads, step_before, stops_before, then_no_looks, then_none, versions_before, writes_before}
 use Rattle.bd_store.proofs.Ending.{gone_on, went_on, rests_not, by_end, not_both}
+use Rattle.bd_store.proofs.Opens.{opens_behind}
 use Rattle.bd_store.proofs.Taken.{counted_before, newest_same, taken_before}
 
 module _ (disk files : Type 0) (command : Command) (before : Scene) (mid : Found) (worn : Bool) (h1 : History) (after : Scene) (neighbour : Marked) (result : Result Answer StoreFault)
@@ -162,6 +163,8 @@ module _ (disk files : Type 0) (command : Command) (before : Scene) (mid : Found
       untouched = λ refused. absurd (refuses_not refused);
       on_disk = λ told. record {
         agrees = (follows.on_disk told).agrees;
+        opens = opens_behind (record { sizes = ready.settled.sizes; base = ready.settled.base; newest = ready.settled.newest; versions = ready.settled.versions })
+            ((readied told).readies.states.opens.each before.store.found) (follows.on_disk told).opens;
         writes = writes_before before.store.held before.store.found mid after.store.found before.disk h1 after.disk command makes (follows.on_disk told).writes result follows.ends (follows.on_disk told).step ready.same (readied told).readies.quiet
             (readied told).readies.answer.arranged (readied told).readies.agrees (readied told).writes;
         reads = reads told command makes;

@@ -10,7 +10,7 @@ use Rattle.bd_disk.specs.Runs.{Writes}
 use Rattle.bd_disk.specs.Trace.{ReadsOnly}
 use Rattle.bd_disk.specs.declared.disk.Disk.{Ghosts as DiskGhosts}
 use Rattle.bd_disk.specs.declared.disk.Failed.{Failed}
-use Rattle.bd_disk.proofs.Frames.{contents_now, made_none, writes_wider}
+use Rattle.bd_disk.proofs.Frames.{contents_now, leaves_same, made_none, writes_wider}
 use Rattle.bd_disk.proofs.Looking.{looks_from}
 use Rattle.bd_disk.proofs.RunLemmas.{nothing_read, written}
 use Rattle.bd_model.specs.FileMap.{FileMap}
@@ -52,6 +52,8 @@ use Rattle.bd_store.specs.declared.fault.StoreFault.TheVariants.{Damaged, DiskFa
 use Rattle.bd_store.proofs.Ending.{by_end, not_both}
 use Rattle.bd_store.proofs.Refusing.{Refuses}
 use Rattle.bd_store.proofs.Unowned.{half_unowned}
+use Rattle.bd_store.specs.Opens.{KeepsOpening}
+use Rattle.bd_store.proofs.Opens.{opens_named}
 
 -- an expiry that fits doesn't arrange first
 pub lean : (found : Found) → FitsExpire found.catalogue → arranges_first found ≡ false
@@ -177,6 +179,10 @@ module _ {D : Type 0} (d : DiskGhosts D) (beside : Beside) (found : Found) (held
     arranging = λ first. not_both first (lean found fits);
   }
 
+  -- at any stop the oldest version is there, or gone
+  dropped : LeavesEither found (after_step found Dropping) h0 h1 → KeepsOpening found Expire h0 h1
+  dropped either = opens_named found Expire (after_step found Dropping) refl refl (λ sure. leaves_same refl sure) either.stops
+
   pub expired_meets : (version extents : ℕ) → version ≡ oldest_in found.catalogue → extents ≡ length (expired found.catalogue) → d.faults disk1 ≡ d.faults disk0 → (d.tells → IsMade found (after_step found Dropping) h0 h1) →
       (d.tells → LeavesEither found (after_step found Dropping) h0 h1) → Meets d.tells files (attempt Expire (Ok (Expired version extents)) before (after_it (after_step found Dropping) false))
   expired_meets version extents is_version is_extents same made either = record {
@@ -194,6 +200,7 @@ module _ {D : Type 0} (d : DiskGhosts D) (beside : Beside) (found : Found) (held
     untouched = λ no. absurd no;
     on_disk = λ told. record {
       agrees = λ _. (made told).agrees;
+      opens = dropped (either told);
       writes = writes_half told (after_step found Dropping) (Ok (Expired version extents)) refl;
       reads = λ _. (record { catalogue = refl; made = made told }, nothing_read writes told);
       looks = looks_from _ {places = []} tt (nothing_read writes told);
@@ -224,6 +231,7 @@ module _ {D : Type 0} (d : DiskGhosts D) (beside : Beside) (found : Found) (held
     untouched = λ no. absurd no;
     on_disk = λ told. record {
       agrees = λ no. absurd (cc no);
+      opens = dropped (either told);
       writes = writes_half told now (Err DiskFault) tt;
       reads = λ _. nothing_read writes told;
       looks = looks_from _ {places = []} tt (nothing_read writes told);
@@ -289,6 +297,7 @@ lean_follows {disk} {files} {result} {before} {after} settled some meets =
           let is = meets.on_disk told in
           record {
             agrees = is.agrees;
+            opens = is.opens;
             writes = is.writes.ready no;
             step = is.writes.step no;
             reads = by_end (λ e. ExpiryReads found after.store.found before.disk after.disk e → ReadsOnly [] before.disk after.disk) (record {

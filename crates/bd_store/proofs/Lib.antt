@@ -22,3 +22,4 @@ pub mod TakingIn
 pub mod LeanExpiry
 pub mod Unowned
 pub mod Taken
+pub mod Opens

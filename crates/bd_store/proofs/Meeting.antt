@@ -16,6 +16,7 @@ use Rattle.bd_store.specs.Stops.{IsSafeAtStops}
 use Rattle.bd_store.specs.Writes.{StepsTo, WritesArranging, WritesReady, arranges}
 use Rattle.bd_store.specs.declared.fault.StoreFault.{StoreFault}
 use Rattle.bd_store.specs.declared.fault.StoreFault.TheVariants.{DiskFault, OutOfMemory}
+use Rattle.bd_store.proofs.Opens.{opens_quiet}
 
 -- the same store has the same versions
 pub same_versions : (s : Shown) → SameVersions s s
@@ -98,6 +99,7 @@ module _ (command : Command) (result : Result Answer StoreFault) (s : Scene) whe
     untouched = λ _. refl;
     on_disk = λ told. record {
       agrees = λ _. agrees told;
+      opens = opens_quiet (made_none _ s.disk);
       writes = record { ready = λ _. writes_none s.store.found command s.disk; step = λ _. is.step; arranging = is.arranging };
       reads = is.reads;
       looks = looks_none command command result s;

@@ -115,6 +115,7 @@ module _ {D : Type 0} (d : DiskGhosts D) (found : Found) (held : ℕ) (disk0 dis
     states = record {
       contents = record { each = λ shape st phase near stands. unread_arranges told fault (answers told) shape st phase near stands };
       stops = record { each = λ shape st near sure. leaves_quiet (quiet told) sure };
+      opens = record { each = λ f sure. leaves_quiet (quiet told) sure };
     };
   }
 
@@ -144,6 +145,7 @@ module _ {D : Type 0} (d : DiskGhosts D) (found : Found) (held : ℕ) (disk0 dis
         states = record {
           contents = record { each = λ shape st phase near stands. (states told).contents.each shape st phase near (stands_behind told stands) };
           stops = record { each = λ shape st near sure. let first = leaves_quiet (quiet told) sure in leaves_both first ((states told).stops.each shape st near (leaves_now first)) };
+          opens = record { each = λ f sure. let first = leaves_quiet (quiet told) sure in leaves_both first ((states told).opens.each f (leaves_now first)) };
         };
       }
 
@@ -185,6 +187,7 @@ module _ {D : Type 0} (d : DiskGhosts D) (found : Found) (held : ℕ) (disk0 dis
       states = record {
         contents = record { each = λ shape st phase near stands. due_arranges fault shape st phase ((states told).contents.each shape st phase near (stands_behind told stands)) };
         stops = record { each = λ shape st near sure. let first = leaves_quiet (quiet told) sure in leaves_both first ((states told).stops.each shape st near (leaves_now first)) };
+        opens = record { each = λ f sure. let first = leaves_quiet (quiet told) sure in leaves_both first ((states told).opens.each f (leaves_now first)) };
       };
     }
 

@@ -25,6 +25,7 @@ use Rattle.bd_store.specs.declared.figures.Figures.{Figures}
 use Rattle.bd_store.proofs.Ending.{not_both, rests_not}
 use Rattle.bd_store.proofs.Meeting.{meets_untouched, same_versions}
 use Rattle.bd_store.proofs.Refusing.{Refuses, refused_stops}
+use Rattle.bd_store.proofs.Opens.{opens_quiet}
 
 module _ (store : Shown) (h : History) (files : FileMap) (figures : Figures) (agrees : Agrees store.found h) (settled : store.found.catalogue.phase ≡ Settled) (has : HasFigures store figures) (are : AreFiguresOf store figures) where
   abbrev answer : Answer
@@ -70,7 +71,7 @@ module _ {disk files : Type 0} (s : Scene) (figures : Figures) (sound : s.store.
       settles = settled;
       figures = (has.owned, has.free);
     };
-    on_disk = λ told. record { agrees = λ _. agrees told; writes = made_none _ s.disk; step = refl; reads = reads_none s.disk };
+    on_disk = λ told. record { agrees = λ _. agrees told; opens = opens_quiet (made_none _ s.disk); writes = made_none _ s.disk; step = refl; reads = reads_none s.disk };
     on_files = λ told. record { beside = refl; strays = record { later = omega arith; missing = inl refl }; finished = tt };
     on_both = λ told files_tell. record {
       transfers = tt;

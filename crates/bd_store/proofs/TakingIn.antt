@@ -43,12 +43,14 @@ use Rattle.bd_intake.specs.Answers.{CountsSource, HoldsVersion, IsVersion, Store
 use Rattle.bd_intake.specs.Causes.{FailsByCount}
 use Rattle.bd_intake.specs.Filling.{CountsMissing, LeavesFiles}
 use Rattle.bd_intake.specs.Firsts.{cut_in, new_by_mark}
+use Rattle.bd_arrange.proofs.Opens.{opens_staged}
 use Rattle.bd_store.specs.Attempts.{Scene, attempt, scene, KeepsVersions, SettlesBy, TakesSource, TellsFigures}
 use Rattle.bd_store.specs.Causes.{counts, FailsOnlyByCount, StraysOnlyBy}
 use Rattle.bd_store.specs.Following.{EndsReady, Follows}
 use Rattle.bd_store.specs.Kept.{IsKept}
 use Rattle.bd_store.specs.Naming.{refusal_of, with_room, AnswersNaming}
 use Rattle.bd_store.specs.Newest.{IsNewestRecipe}
+use Rattle.bd_store.specs.Opens.{KeepsOpening}
 use Rattle.bd_store.specs.Shown.{HasFree, SameVersions, Shown}
 use Rattle.bd_store.specs.Touches.{is_full, AnswersByNumbers}
 use Rattle.bd_store.specs.Writes.{IsUnowned, StepsTo}
@@ -57,6 +59,7 @@ use Rattle.bd_store.specs.declared.fault.StoreFault.TheVariants.{DiskFault, OutO
 use Rattle.bd_store.proofs.Ending.{not_both}
 use Rattle.bd_store.proofs.Meeting.{memory_step, same_versions}
 use Rattle.bd_store.proofs.OneCall.{failed_one_step, failed_safe, made_one_step, made_safe, refused_one_step, refused_safe}
+use Rattle.bd_store.proofs.Opens.{opens_named, opens_quiet, opens_written}
 use Rattle.bd_store.proofs.Quiet.{safe_untouched}
 use Rattle.bd_store.proofs.Refusing.{backup_goes_on}
 use Rattle.bd_store.proofs.Taken.{holds_committed, newest_same, takes_nothing}
@@ -249,6 +252,7 @@ module _ {D F : Type 0} (d : DiskGhosts D) (f : FilesGhosts F) (found : Found) (
     };
     on_disk = λ told. record {
       agrees = λ _. agrees_staged found (InFree found.sizes space) (λ place inside. omega (arith, inside.within.0)) (begun.agrees told) (written took.disk told);
+      opens = opens_written found (Backup name) (InFree found.sizes space) (λ place inside. omega (arith, inside.within.0)) (written took.disk told);
       writes = unowned told (Err fault) took;
       step = refused_step_to found.catalogue fault;
       reads = nothing_read took.disk told;
@@ -287,6 +291,10 @@ module _ {D F : Type 0} (d : DiskGhosts D) (f : FilesGhosts F) (found : Found) (
 
       within : d.tells → Named → WritesOnly (IsUnowned found) h1 (d.history disk3)
       within told is = made_both (unowned told (Ok staged) took) (writes_wider (IsUnowned found) (half_unowned found (small told)) (written is.disk told))
+
+      at_stops : d.tells → Named → KeepsOpening found (Backup name) h1 (d.history disk3)
+      at_stops told is = opens_named found (Backup name) after refl (version_entry staged.version, fresh_entries staged.fresh, refl)
+          (λ sure. opens_staged found sure (InFree found.sizes space) (λ place inside. omega (arith, inside.within.0)) (written took.disk told)) (is.either told).stops
 
       all_read : d.tells → Named → ReadsOnly [] h1 (d.history disk3)
       all_read told is = reads_both (nothing_read took.disk told) (nothing_read is.disk told)
@@ -345,6 +353,7 @@ module _ {D F : Type 0} (d : DiskGhosts D) (f : FilesGhosts F) (found : Found) (
           };
           on_disk = λ told. record {
             agrees = λ _. subst (λ (s : Found). Agrees s (d.history disk3)) (sym is.made) (is.done told).agrees;
+            opens = at_stops disk3 found3 space3 (Ok answer) told is;
             writes = within disk3 found3 space3 (Ok answer) told is;
             step = subst (λ a. StepsTo found.catalogue found3.catalogue (Ok a)) says (staged.version.recipe.numbers, fresh_entries staged.fresh, ap (λ (s : Found). s.catalogue) is.made);
             reads = all_read disk3 found3 space3 (Ok answer) told is;
@@ -375,6 +384,7 @@ module _ {D F : Type 0} (d : DiskGhosts D) (f : FilesGhosts F) (found : Found) (
           store = record { worn = fails; sizes = λ sound. not_both gone sound; held = is.held; versions = tt; settles = tt; figures = tt };
           on_disk = λ told. record {
             agrees = λ sound. not_both gone sound;
+            opens = at_stops disk3 found3 space3 (Err DiskFault) told is;
             writes = within disk3 found3 space3 (Err DiskFault) told is;
             step = tt;
             reads = all_read disk3 found3 space3 (Err DiskFault) told is;
@@ -406,7 +416,7 @@ follows_without_memory name s sound agrees goes = record {
   ends = tt;
   answer = goes;
   store = record { worn = (λ worn. not_both worn sound, λ failed. absurd (cc failed)); sizes = λ _. refl; held = refl; versions = same_versions s.store; settles = tt; figures = tt };
-  on_disk = λ told. record { agrees = λ _. agrees told; writes = made_none _ s.disk; step = refl; reads = reads_none s.disk };
+  on_disk = λ told. record { agrees = λ _. agrees told; opens = opens_quiet (made_none _ s.disk); writes = made_none _ s.disk; step = refl; reads = reads_none s.disk };
   on_files = λ told. record { beside = refl; strays = record { later = omega arith; missing = inl refl }; finished = tt };
   on_both = λ told files_tell. record { transfers = takes_nothing (λ s. tt) tt; step = memory_step (Backup name) s.store.held s.disk s.files; stops = safe_untouched (Backup name) s.store.held s.disk s.files OutOfMemory };
 }

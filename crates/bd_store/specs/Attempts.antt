@@ -29,6 +29,7 @@ use Rattle.bd_volume.specs.Headers.{HasGoodHeaders}
 use Rattle.bd_store.specs.Causes.{Counts, counts, FailsOnlyByCount, StraysOnlyBy}
 use Rattle.bd_store.specs.Naming.{NamesArranging, NamesDamage}
 use Rattle.bd_store.specs.Newest.{IsNewestRecipe}
+use Rattle.bd_store.specs.Opens.{KeepsOpening}
 use Rattle.bd_store.specs.Shown.{HasFree, SameVersions, Shown}
 use Rattle.bd_store.specs.Steps.{IsOneStep, KeepsFiles}
 use Rattle.bd_store.specs.Stops.{IsSafeAtStops}
@@ -214,6 +215,8 @@ RecipeByCommand a command = Unit {0}
 -- over every image
 pub record MeetsOnDisk (a : Attempt) : Type 0 where
   pub agrees : a.after.store.worn ≡ false → Agrees a.after.store.found a.after.disk
+  -- a stop at any moment leaves the versions before it or those after
+  pub opens : KeepsOpening a.before.store.found a.command a.before.disk a.after.disk
   pub writes : WritesByCommand a.before.store.held a.before.store.found a.after.store.found a.command a.before.disk a.after.disk a.result
   pub reads : ReadsByCommand a a.command
   pub looks : LooksByCommand a a.command

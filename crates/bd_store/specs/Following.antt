@@ -17,6 +17,7 @@ use Rattle.bd_recipe.specs.declared.fault.ReadFault.TheVariants.{DiskFault as Re
 use Rattle.bd_volume.specs.Named.{IsBeside}
 use Rattle.bd_store.specs.Attempts.{Attempt, IsAnswerOf, KeepsStore, MeetsOnFiles, Scene, TransfersByCommand}
 use Rattle.bd_store.specs.Causes.{FailsOnlyByCount}
+use Rattle.bd_store.specs.Opens.{KeepsOpening}
 use Rattle.bd_store.specs.Readying.{Readies, ReadiesOn}
 use Rattle.bd_store.specs.Steps.{IsOneStep}
 use Rattle.bd_store.specs.Stops.{IsSafeAtStops}
@@ -70,6 +71,7 @@ EndsReady (Err fault) = ⊥
 
 pub record FollowsOnDisk (a : Attempt) : Type 0 where
   pub agrees : a.after.store.worn ≡ false → Agrees a.after.store.found a.after.disk
+  pub opens : KeepsOpening a.before.store.found a.command a.before.disk a.after.disk
   pub writes : WritesReady a.before.store.found a.command a.before.disk a.after.disk
   pub step : StepsTo a.before.store.found.catalogue a.after.store.found.catalogue a.result
   pub reads : ReadsOnly [] a.before.disk a.after.disk

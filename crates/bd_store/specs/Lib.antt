@@ -5,6 +5,7 @@ pub mod Kept
 pub mod Naming
 pub mod Newest
 pub mod Openings
+pub mod Opens
 pub mod Readying
 pub mod Shown
 pub mod Steps

@@ -1,12 +1,14 @@
 -- What an opening leaves of what lies round it.
-use Rattle.std.proofs.Common.{◌≡◌, ℕ, refl, sym, subst, arith, Err}
+use Rattle.std.proofs.Common.{◌≡◌, ◌∙◌, ℕ, ap, refl, sym, subst, arith, Err}
 use Rattle.bd_disk.specs.Calls.{FailsByCount}
 use Rattle.bd_disk.specs.History.{History, contents}
-use Rattle.bd_catalog.specs.Opening.{opened}
-use Rattle.bd_recover.specs.Opens.{is_disk_fault}
+use Rattle.bd_disk.specs.Made.{LeavesNow}
+use Rattle.bd_catalog.specs.Opening.{Found, opened}
+use Rattle.bd_recover.specs.Opens.{Rests, is_disk_fault}
 use Rattle.bd_recover.specs.declared.fault.OpenFault.{OpenFault}
 use Rattle.bd_recover.specs.declared.fault.OpenFault.TheVariants.{NotAStore as OpenNotAStore, DiskFault as OpenDisk, OutOfMemory as OpenMemory}
 use Rattle.bd_store.specs.Openings.{AnswersOpening}
+use Rattle.bd_store.specs.Opens.{OpensAlike}
 use Rattle.mfdedup.specs.Commands.{EndsUnopened, OpensNone, ReadsFront}
 use Rattle.mfdedup.specs.Counts.{EndsOnlyByCount}
 use Rattle.mfdedup.specs.Failing.{end_of_opening}
@@ -23,6 +25,12 @@ only_disk o bytes faults disk e f = λ i. at_disk o (e i) disk (f i)
 
 pub but_faults : (o : Outside) (bytes faults : ℕ) (disk : History) → bytes ≡ o.disk_bytes → at_disk o bytes disk faults ≡ record o { disk = disk; counts = record o.counts { disk = faults } }
 but_faults o bytes faults disk e = λ i. at_disk o (e i) disk faults
+
+-- behind an opening each image opens as what was found
+pub opens_at_rest : {found : Found} {h : History} → Rests found h → LeavesNow (OpensAlike found) h
+opens_at_rest {found} rests = record {
+  each = λ image now. record { again = found; opens = ap opened (rests.settled.each image now) ∙ rests.agrees.opens; alike = record { sizes = refl; base = refl; newest = refl; versions = refl } };
+}
 
 -- why no store was opened
 pub unopened : (disk : Type 0) (fault : OpenFault) (old : History) → (disk → AnswersOpening (opened (contents old)) (Err fault)) → EndsUnopened disk old (end_of_opening fault)

@@ -1,7 +1,7 @@
 use Rattle.std.proofs.Common.{◌∙◌, inl, inr, refl}
 use Rattle.bd_disk.proofs.RunLemmas.{looked, nothing_written}
 use Rattle.mfdedup.specs.Outside.{outside}
-use Rattle.mfdedup.proofs.Begun.{no_store, only_disk}
+use Rattle.mfdedup.proofs.Begun.{no_store, only_disk, opens_at_rest}
 use Rattle.mfdedup.proofs.command.run_commands.Goals as goal
 
 pub returns-in-Ok : goal.returns-in-Ok
@@ -22,6 +22,7 @@ returns-in-Ok g c = record {
     ending = c.session-report.result.end;
     ends = c.end_of_session.ensures;
     meets = c.session-report.ensures.meets;
+    versions = λ told. c.session-report.ensures.meets.versions told (opens_at_rest (c.in-Ok.ensures.rests told));
   });
 }
 

@@ -1,0 +1,44 @@
+-- What images open with behind the answers of a list, whatever images they were before.
+use Rattle.std.proofs.Common.{◌⊎◌, ℕ, List, inl, inr, refl, sym, subst, ⊎_elim}
+use Rattle.bd_disk.specs.Made.{LeavesSince}
+use Rattle.bd_disk.proofs.Frames.{leaves_now, leaves_same, leaves_wider}
+use Rattle.bd_model.specs.declared.answer.Answer.{Answer}
+use Rattle.bd_model.specs.declared.command.Command.{Command}
+use Rattle.bd_store.specs.Opens.{OpensNext}
+use Rattle.bd_store.proofs.Opens.{opens_on}
+use Rattle.bd_session.specs.Course.{Around, Course}
+use Rattle.bd_session.specs.Stops.{OpensAsStore, OpensBehind, VersionsStay}
+use Rattle.bd_session.specs.Turns.{AllAnswered, Goes, LastTurn, NoneBegun, NotBegun, Turn, Turns, no_turn, next_turn}
+use Rattle.bd_session.proofs.Turning.{IsOpen, open_after, still_open}
+
+module _ {disk files sink : Type 0} (told : disk) where
+  opens_after : {command : Command} {answer : Answer} {moment : ℕ} {before after : Around} → Turn disk files sink command answer moment before after → IsOpen disk before → OpensAsStore before → OpensAsStore after
+  opens_after turn opened sure =
+      let after = open_after turn opened in
+      opens_on (turn.meets.store.sizes after.sound) (after.agrees told) (leaves_now ((turn.meets.on_disk told).opens sure))
+
+  still_opens : {commands : List Command} {first : Around} {answers : List Answer} {clocks : List ℕ} {now : Around} → Turns disk files sink commands first answers clocks now → IsOpen disk first → OpensAsStore first → OpensAsStore now
+  still_opens no_turn opened sure = sure
+  still_opens (next_turn command answer moment turns there turn) opened sure = opens_after turn (still_open turns opened) (still_opens turns opened sure)
+
+  pub versions_stay : {c : Course} {first now : Around} (goes : Goes disk files sink c first now) → IsOpen disk first → OpensAsStore first → VersionsStay goes
+  versions_stay {c} {first} {now} goes opened sure = record {
+    answered = λ turns. still_opens turns opened sure;
+    ended = by goes.ends;
+  } where
+    last_sure : OpensAsStore goes.last
+    last_sure = still_opens goes.turns opened sure
+
+    Ended : Around → Type 0
+    Ended a = LeavesSince (OpensBehind c goes.last) goes.last.scene.disk a.scene.disk
+
+    rests : Ended goes.last
+    rests = leaves_wider (OpensBehind c goes.last) (λ image is. inl is) (leaves_same refl last_sure)
+
+    by : AllAnswered c goes.last now ⊎ NoneBegun c goes.last now ⊎ NotBegun c goes.last now ⊎ LastTurn disk files sink c goes.last now → Ended now
+    by (inl all) = subst Ended (sym all.same) rests
+    by (inr (inl none)) = subst Ended (sym none.same) rests
+    by (inr (inr (inl not_begun))) = subst Ended (sym not_begun.same) rests
+    by (inr (inr (inr turn))) = leaves_wider (OpensBehind c goes.last)
+        (λ image is. ⊎_elim (λ same. inl same) (λ (next : OpensNext goes.last.scene.store.found turn.command image). inr (turn.command, turn.next, next)) is)
+        ((turn.meets.on_disk told).opens last_sure)
