@@ -30,15 +30,15 @@ module _ {disk files sink : Type 0} (told : disk) where
     last_sure = still_opens goes.turns opened sure
 
     Ended : Around → Type 0
-    Ended a = LeavesSince (OpensBehind c goes.last) goes.last.scene.disk a.scene.disk
+    Ended a = LeavesSince (OpensBehind c goes.last a) goes.last.scene.disk a.scene.disk
 
     rests : Ended goes.last
-    rests = leaves_wider (OpensBehind c goes.last) (λ image is. inl is) (leaves_same refl last_sure)
+    rests = leaves_wider (OpensBehind c goes.last goes.last) (λ image is. inl is) (leaves_same refl last_sure)
 
     by : AllAnswered c goes.last now ⊎ NoneBegun c goes.last now ⊎ NotBegun c goes.last now ⊎ LastTurn disk files sink c goes.last now → Ended now
     by (inl all) = subst Ended (sym all.same) rests
     by (inr (inl none)) = subst Ended (sym none.same) rests
     by (inr (inr (inl not_begun))) = subst Ended (sym not_begun.same) rests
-    by (inr (inr (inr turn))) = leaves_wider (OpensBehind c goes.last)
-        (λ image is. ⊎_elim (λ same. inl same) (λ (next : OpensNext goes.last.scene.store.found turn.command image). inr (turn.command, turn.next, next)) is)
+    by (inr (inr (inr turn))) = leaves_wider (OpensBehind c goes.last now)
+        (λ image is. ⊎_elim (λ same. inl same) (λ (next : OpensNext goes.last.scene.store.found turn.command now.scene.store image). inr (turn.command, turn.next, next)) is)
         ((turn.meets.on_disk told).opens last_sure)

@@ -12,11 +12,11 @@ abbrev pub OpensAsStore : Around → Type 0
 OpensAsStore a = LeavesNow (OpensAlike a.scene.store.found) a.scene.disk
 
 -- the image opens with the versions behind the last answer, or with what the command behind it made of them
-abbrev pub OpensBehind : Course → Around → List ℕ → Type 0
-OpensBehind c last image = OpensAlike last.scene.store.found image ⊎ ((command : Command) × (next_command c ≡ Some command) × OpensNext last.scene.store.found command image)
+abbrev pub OpensBehind : Course → Around → Around → List ℕ → Type 0
+OpensBehind c last now image = OpensAlike last.scene.store.found image ⊎ ((command : Command) × (next_command c ≡ Some command) × OpensNext last.scene.store.found command now.scene.store image)
 
 -- Behind each answer every image opens with the versions that the store then has; and so it does at any moment after the last
 -- one, or with what the command made that brought the end.
 pub record VersionsStay {disk files sink : Type 0} {c : Course} {first now : Around} (goes : Goes disk files sink c first now) : Type 0 where
   pub answered : {answers : List Answer} {clocks : List ℕ} {at : Around} → Turns disk files sink c.commands first answers clocks at → OpensAsStore at
-  pub ended : LeavesSince (OpensBehind c goes.last) goes.last.scene.disk now.scene.disk
+  pub ended : LeavesSince (OpensBehind c goes.last now) goes.last.scene.disk now.scene.disk

@@ -53,6 +53,7 @@ use Rattle.bd_store.proofs.Ending.{by_end, not_both}
 use Rattle.bd_store.proofs.Refusing.{Refuses}
 use Rattle.bd_store.proofs.Unowned.{half_unowned}
 use Rattle.bd_store.specs.Opens.{KeepsOpening}
+use Rattle.bd_store.specs.Shown.{Shown}
 use Rattle.bd_store.proofs.Opens.{opens_named}
 
 -- an expiry that fits doesn't arrange first
@@ -180,8 +181,8 @@ module _ {D : Type 0} (d : DiskGhosts D) (beside : Beside) (found : Found) (held
   }
 
   -- at any stop the oldest version is there, or gone
-  dropped : LeavesEither found (after_step found Dropping) h0 h1 → KeepsOpening found Expire h0 h1
-  dropped either = opens_named found Expire (after_step found Dropping) refl refl (λ sure. leaves_same refl sure) either.stops
+  dropped : (end : Shown) → (end.worn ≡ false → after_step found Dropping ≡ end.found) → LeavesEither found (after_step found Dropping) h0 h1 → KeepsOpening found Expire end h0 h1
+  dropped end same either = opens_named found Expire end (after_step found Dropping) refl refl same (λ sure. leaves_same refl sure) either.stops
 
   pub expired_meets : (version extents : ℕ) → version ≡ oldest_in found.catalogue → extents ≡ length (expired found.catalogue) → d.faults disk1 ≡ d.faults disk0 → (d.tells → IsMade found (after_step found Dropping) h0 h1) →
       (d.tells → LeavesEither found (after_step found Dropping) h0 h1) → Meets d.tells files (attempt Expire (Ok (Expired version extents)) before (after_it (after_step found Dropping) false))
@@ -200,7 +201,7 @@ module _ {D : Type 0} (d : DiskGhosts D) (beside : Beside) (found : Found) (held
     untouched = λ no. absurd no;
     on_disk = λ told. record {
       agrees = λ _. (made told).agrees;
-      opens = dropped (either told);
+      opens = dropped _ (λ _. refl) (either told);
       writes = writes_half told (after_step found Dropping) (Ok (Expired version extents)) refl;
       reads = λ _. (record { catalogue = refl; made = made told }, nothing_read writes told);
       looks = looks_from _ {places = []} tt (nothing_read writes told);
@@ -231,7 +232,7 @@ module _ {D : Type 0} (d : DiskGhosts D) (beside : Beside) (found : Found) (held
     untouched = λ no. absurd no;
     on_disk = λ told. record {
       agrees = λ no. absurd (cc no);
-      opens = dropped (either told);
+      opens = dropped _ (λ no. absurd (cc no)) (either told);
       writes = writes_half told now (Err DiskFault) tt;
       reads = λ _. nothing_read writes told;
       looks = looks_from _ {places = []} tt (nothing_read writes told);

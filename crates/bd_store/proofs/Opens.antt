@@ -1,5 +1,5 @@
 -- What images open with at each stop of a command.
-use Rattle.std.proofs.Common.{◌≡◌, ◌∙◌, ◌≤◌, ℕ, List, inl, inr, sym, ap, ⊎_elim, Ok}
+use Rattle.std.proofs.Common.{◌≡◌, ◌∙◌, ◌≤◌, ℕ, false, List, inl, inr, sym, ap, ⊎_elim, Ok}
 use Rattle.bd_disk.specs.History.{History, Now, contents}
 use Rattle.bd_disk.specs.Made.{LeavesNow, LeavesSince, WritesNothing, WritesOnly}
 use Rattle.bd_disk.proofs.Frames.{leaves_both, leaves_now, leaves_quiet, leaves_wider}
@@ -11,37 +11,38 @@ use Rattle.bd_catalog.specs.Steps.{IsOldOrCommitted}
 use Rattle.bd_catalog.proofs.Staged.{same_catalogue}
 use Rattle.bd_arrange.specs.Opens.{HasVersionsOf, OpensAlike}
 use Rattle.bd_arrange.proofs.Opens.{alike_back, alike_both, alike_self, opens_alike, opens_committed, opens_staged}
+use Rattle.bd_store.specs.Shown.{Shown}
 use Rattle.bd_store.specs.Opens.{KeepsOpening, MakesNext, OpensNext, OpensOnEitherSide}
 
 -- the versions stayed
-pub opens_kept : {found : Found} {command : Command} {old new : History} → LeavesSince (OpensAlike found) old new → LeavesSince (OpensOnEitherSide found command) old new
-opens_kept {found} {command} kept = leaves_wider (OpensOnEitherSide found command) (λ image is. inl is) kept
+pub opens_kept : {found : Found} {command : Command} {end : Shown} {old new : History} → LeavesSince (OpensAlike found) old new → LeavesSince (OpensOnEitherSide found command end) old new
+opens_kept {found} {command} {end} kept = leaves_wider (OpensOnEitherSide found command end) (λ image is. inl is) kept
 
 -- nothing was written
-pub opens_quiet : {found : Found} {command : Command} {old new : History} → WritesNothing old new → KeepsOpening found command old new
+pub opens_quiet : {found : Found} {command : Command} {end : Shown} {old new : History} → WritesNothing old new → KeepsOpening found command end old new
 opens_quiet quiet sure = opens_kept (leaves_quiet quiet sure)
 
-module _ (found : Found) (command : Command) {h0 h1 : History} where
+module _ (found : Found) (command : Command) (end : Shown) {h0 h1 : History} where
   -- nothing but places behind the halves was
-  pub opens_written : (Places : ℕ → Type 0) → ((place : ℕ) → Places place → extent_place found.sizes 0 ≤ place) → WritesOnly Places h0 h1 → KeepsOpening found command h0 h1
+  pub opens_written : (Places : ℕ → Type 0) → ((place : ℕ) → Places place → extent_place found.sizes 0 ≤ place) → WritesOnly Places h0 h1 → KeepsOpening found command end h0 h1
   opens_written Places behind writes sure = opens_kept (opens_staged found sure Places behind writes)
 
   -- such places were, and then a commit was made, or failed
-  pub opens_named : {h2 : History} (after : Found) → after.sizes ≡ found.sizes → MakesNext command found.catalogue after.catalogue → (LeavesNow (OpensAlike found) h0 → LeavesSince (OpensAlike found) h0 h1) →
-      LeavesSince (IsOldOrCommitted found after h1) h1 h2 → KeepsOpening found command h0 h2
-  opens_named after sizes made first stops sure =
+  pub opens_named : {h2 : History} (after : Found) → after.sizes ≡ found.sizes → MakesNext command found.catalogue after.catalogue → (end.worn ≡ false → after ≡ end.found) → (LeavesNow (OpensAlike found) h0 → LeavesSince (OpensAlike found) h0 h1) →
+      LeavesSince (IsOldOrCommitted found after h1) h1 h2 → KeepsOpening found command end h0 h2
+  opens_named after sizes made same first stops sure =
       let staged : LeavesSince (OpensAlike found) h0 h1 = first sure in
       leaves_both (opens_kept staged)
-      (leaves_wider (OpensOnEitherSide found command)
-      (λ image is. ⊎_elim (λ old. inl old) (λ opens. inr (record { ready = found; alike = alike_self found; next = after; opens = opens; sizes = sizes; made = made })) is)
+      (leaves_wider (OpensOnEitherSide found command end)
+      (λ image is. ⊎_elim (λ old. inl old) (λ opens. inr (record { ready = found; alike = alike_self found; next = after; opens = opens; sizes = sizes; made = made; same = same })) is)
       (opens_committed found (leaves_now staged) after stops))
 
 -- Where the store in memory goes on, each image opens with its versions.
-pub opens_on : {found after : Found} {command : Command} {new : History} → after.sizes ≡ found.sizes → Agrees after new → LeavesNow (OpensOnEitherSide found command) new → LeavesNow (OpensAlike after) new
-opens_on {found} {after} {command} {new} sizes agrees within = record {
+pub opens_on : {found after : Found} {command : Command} {end : Shown} {new : History} → after.sizes ≡ found.sizes → Agrees after new → LeavesNow (OpensOnEitherSide found command end) new → LeavesNow (OpensAlike after) new
+opens_on {found} {after} {command} {end} {new} sizes agrees within = record {
   each = λ image now. ⊎_elim
       (λ (same : OpensAlike found image). alike image now same.again same.opens (same.alike.sizes ∙ sym sizes))
-      (λ (next : OpensNext found command image). alike image now next.next next.opens (next.sizes ∙ sym sizes))
+      (λ (next : OpensNext found command end image). alike image now next.next next.opens (next.sizes ∙ sym sizes))
       (within.each image now);
 } where
   alike : (image : List ℕ) → Now new image → (again : Found) → opened image ≡ Ok again → again.sizes ≡ after.sizes → OpensAlike after image
@@ -54,13 +55,13 @@ opens_on {found} {after} {command} {new} sizes agrees within = record {
       }
 
 -- what follows of a store that was settled first
-pub opens_behind : {found mid : Found} {command : Command} {h0 h1 h2 : History} → HasVersionsOf found mid → (LeavesNow (OpensAlike found) h0 → LeavesSince (OpensAlike found) h0 h1) → KeepsOpening mid command h1 h2 →
-    KeepsOpening found command h0 h2
-opens_behind {found} {mid} {command} alike first second sure =
+pub opens_behind : {found mid : Found} {command : Command} {end : Shown} {h0 h1 h2 : History} → HasVersionsOf found mid → (LeavesNow (OpensAlike found) h0 → LeavesSince (OpensAlike found) h0 h1) → KeepsOpening mid command end h1 h2 →
+    KeepsOpening found command end h0 h2
+opens_behind {found} {mid} {command} {end} alike first second sure =
     let before : LeavesSince (OpensAlike found) _ _ = first sure in
     leaves_both (opens_kept before)
-    (leaves_wider (OpensOnEitherSide found command)
+    (leaves_wider (OpensOnEitherSide found command end)
     (λ image is. ⊎_elim
     (λ same. inl (opens_alike alike image same))
-    (λ (next : OpensNext mid command image). inr (record { ready = next.ready; alike = alike_both alike next.alike; next = next.next; opens = next.opens; sizes = next.sizes ∙ alike.sizes; made = next.made })) is)
+    (λ (next : OpensNext mid command end image). inr (record { ready = next.ready; alike = alike_both alike next.alike; next = next.next; opens = next.opens; sizes = next.sizes ∙ alike.sizes; made = next.made; same = next.same })) is)
     (second (record { each = λ image now. opens_alike (alike_back alike) image ((leaves_now before).each image now) })))

@@ -252,7 +252,7 @@ module _ {D F : Type 0} (d : DiskGhosts D) (f : FilesGhosts F) (found : Found) (
     };
     on_disk = λ told. record {
       agrees = λ _. agrees_staged found (InFree found.sizes space) (λ place inside. omega (arith, inside.within.0)) (begun.agrees told) (written took.disk told);
-      opens = opens_written found (Backup name) (InFree found.sizes space) (λ place inside. omega (arith, inside.within.0)) (written took.disk told);
+      opens = opens_written found (Backup name) (record { found = found; held = held; worn = worn }) (InFree found.sizes space) (λ place inside. omega (arith, inside.within.0)) (written took.disk told);
       writes = unowned told (Err fault) took;
       step = refused_step_to found.catalogue fault;
       reads = nothing_read took.disk told;
@@ -292,8 +292,8 @@ module _ {D F : Type 0} (d : DiskGhosts D) (f : FilesGhosts F) (found : Found) (
       within : d.tells → Named → WritesOnly (IsUnowned found) h1 (d.history disk3)
       within told is = made_both (unowned told (Ok staged) took) (writes_wider (IsUnowned found) (half_unowned found (small told)) (written is.disk told))
 
-      at_stops : d.tells → Named → KeepsOpening found (Backup name) h1 (d.history disk3)
-      at_stops told is = opens_named found (Backup name) after refl (version_entry staged.version, fresh_entries staged.fresh, refl)
+      at_stops : (end : Shown) → (end.worn ≡ false → after ≡ end.found) → d.tells → Named → KeepsOpening found (Backup name) end h1 (d.history disk3)
+      at_stops end same told is = opens_named found (Backup name) end after refl (version_entry staged.version, fresh_entries staged.fresh, refl) same
           (λ sure. opens_staged found sure (InFree found.sizes space) (λ place inside. omega (arith, inside.within.0)) (written took.disk told)) (is.either told).stops
 
       all_read : d.tells → Named → ReadsOnly [] h1 (d.history disk3)
@@ -353,7 +353,7 @@ module _ {D F : Type 0} (d : DiskGhosts D) (f : FilesGhosts F) (found : Found) (
           };
           on_disk = λ told. record {
             agrees = λ _. subst (λ (s : Found). Agrees s (d.history disk3)) (sym is.made) (is.done told).agrees;
-            opens = at_stops disk3 found3 space3 (Ok answer) told is;
+            opens = at_stops disk3 found3 space3 (Ok answer) end (λ _. sym is.made) told is;
             writes = within disk3 found3 space3 (Ok answer) told is;
             step = subst (λ a. StepsTo found.catalogue found3.catalogue (Ok a)) says (staged.version.recipe.numbers, fresh_entries staged.fresh, ap (λ (s : Found). s.catalogue) is.made);
             reads = all_read disk3 found3 space3 (Ok answer) told is;
@@ -384,7 +384,7 @@ module _ {D F : Type 0} (d : DiskGhosts D) (f : FilesGhosts F) (found : Found) (
           store = record { worn = fails; sizes = λ sound. not_both gone sound; held = is.held; versions = tt; settles = tt; figures = tt };
           on_disk = λ told. record {
             agrees = λ sound. not_both gone sound;
-            opens = at_stops disk3 found3 space3 (Err DiskFault) told is;
+            opens = at_stops disk3 found3 space3 (Err DiskFault) (record { found = found3; held = held_count space3; worn = worn }) (λ sound. not_both gone sound) told is;
             writes = within disk3 found3 space3 (Err DiskFault) told is;
             step = tt;
             reads = all_read disk3 found3 space3 (Err DiskFault) told is;

@@ -71,7 +71,7 @@ EndsReady (Err fault) = ⊥
 
 pub record FollowsOnDisk (a : Attempt) : Type 0 where
   pub agrees : a.after.store.worn ≡ false → Agrees a.after.store.found a.after.disk
-  pub opens : KeepsOpening a.before.store.found a.command a.before.disk a.after.disk
+  pub opens : KeepsOpening a.before.store.found a.command a.after.store a.before.disk a.after.disk
   pub writes : WritesReady a.before.store.found a.command a.before.disk a.after.disk
   pub step : StepsTo a.before.store.found.catalogue a.after.store.found.catalogue a.result
   pub reads : ReadsOnly [] a.before.disk a.after.disk

@@ -1,5 +1,5 @@
 -- What an image that a stop leaves opens with, whatever image it was before.
-use Rattle.std.specs.Prelude.{◌≡◌, ◌⊎◌, ℕ, List, Ok}
+use Rattle.std.specs.Prelude.{◌≡◌, ◌⊎◌, ℕ, false, List, Ok}
 use Rattle.bd_disk.specs.History.{History}
 use Rattle.bd_disk.specs.Made.{LeavesNow, LeavesSince}
 use Rattle.bd_model.specs.declared.command.Command.{Command}
@@ -9,6 +9,7 @@ use Rattle.bd_catalog.specs.Growing.{after_backup}
 use Rattle.bd_catalog.specs.Opening.{Found, opened}
 use Rattle.bd_catalog.specs.Splitting.{after_expire}
 pub use Rattle.bd_arrange.specs.Opens.{HasVersionsOf, OpensAlike}
+use Rattle.bd_store.specs.Shown.{Shown}
 
 -- what a command makes of a catalogue that is ready: a backup adds its version, an expiry drops the oldest
 abbrev pub MakesNext : Command → Catalogue → Catalogue → Type 0
@@ -16,19 +17,21 @@ MakesNext (Backup name) c next = (entry : VersionEntry) × (category : List Open
 MakesNext Expire c next = next ≡ after_expire c
 MakesNext command c next = ⊥
 
--- the image opens with what the command made of these versions, however they were arranged
-pub record OpensNext (found : Found) (command : Command) (image : List ℕ) : Type 0 where
+-- The image opens with what the command made of these versions, however they were arranged; unless the disk failed, that is
+-- what the store has afterwards.
+pub record OpensNext (found : Found) (command : Command) (after : Shown) (image : List ℕ) : Type 0 where
   pub ready : Found
   pub alike : HasVersionsOf found ready
   pub next : Found
   pub opens : opened image ≡ Ok next
   pub sizes : next.sizes ≡ found.sizes
   pub made : MakesNext command ready.catalogue next.catalogue
+  pub same : after.worn ≡ false → next ≡ after.found
 
-abbrev pub OpensOnEitherSide : Found → Command → List ℕ → Type 0
-OpensOnEitherSide found command image = OpensAlike found image ⊎ OpensNext found command image
+abbrev pub OpensOnEitherSide : Found → Command → Shown → List ℕ → Type 0
+OpensOnEitherSide found command after image = OpensAlike found image ⊎ OpensNext found command after image
 
 -- Where each image opened with the versions that were found, each that a stop at any moment of the command left does so, or
 -- opens with what the command made of them.
-abbrev pub KeepsOpening : Found → Command → History → History → Type 0
-KeepsOpening found command old new = LeavesNow (OpensAlike found) old → LeavesSince (OpensOnEitherSide found command) old new
+abbrev pub KeepsOpening : Found → Command → Shown → History → History → Type 0
+KeepsOpening found command after old new = LeavesNow (OpensAlike found) old → LeavesSince (OpensOnEitherSide found command after) old new
