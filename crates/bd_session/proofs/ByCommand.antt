@@ -1,5 +1,5 @@
 -- What is said of a command by which one it is. A command that is built adds its lines here; all else goes by its answer.
-use Rattle.std.proofs.Common.{◌≡◌, ◌≤◌, ◌⊎◌, ◌∙◌, ◌&&◌, ◌==◌, ℕ, true, [], inl, inr, refl, sym, ap, subst, ⊎_elim, Result, Ok, Err, Option, Some, false, List}
+use Rattle.std.proofs.Common.{◌≡◌, ◌≤◌, ◌⊎◌, ◌∙◌, ◌&&◌, ◌==◌, ℕ, true, [], inl, inr, refl, sym, ap, subst, ⊎_elim, Result, Ok, Err, Option, Some, None, false, List}
 use Rattle.std.specs.FinMap as map
 use Rattle.std.specs.Str.{bytes_eq}
 use Rattle.std.proofs.lemmas.Bool.{eqb-true}
@@ -28,65 +28,60 @@ use Rattle.bd_catalog.specs.Agreement.{Agrees}
 use Rattle.bd_catalog.proofs.StandingFound.{opened-found}
 use Rattle.bd_script.specs.Long.{is_long}
 use Rattle.bd_store.specs.Attempts.{IsAnswerOf, ReadsByCommand, Scene, attempt}
-use Rattle.bd_store.specs.Steps.{task, IsNear, KeepsFiles}
+use Rattle.bd_store.specs.Deeds.{Deed, TakesIn, GivesBack, GivesUp, Settles, Checks, Tells, deed_of, source_of, target_of}
+use Rattle.bd_store.specs.Steps.{task, IsNear, KeepsBut, KeepsFiles}
 use Rattle.bd_store.specs.Touches.{IsLeanExpiry, WalksTo, arranges_first, waits}
-use Rattle.bd_store.specs.Writes.{IsArrangedFirst, WritesArranging, WritesByCommand, WritesReady, arranges}
+use Rattle.bd_store.specs.Writes.{IsArrangedFirst, WritesArranging, WritesByCommand, WritesFor, arranges, arranges_for}
 use Rattle.bd_store.specs.declared.fault.StoreFault.{StoreFault}
 use Rattle.bd_store.specs.declared.fault.StoreFault.TheVariants.{SourceFault as StoreSource, TargetFault as StoreTarget, DiskFault as StoreDisk, Damaged as StoreDamaged, OutOfMemory as StoreMemory}
 use Rattle.bd_session.specs.Drops.{ArrangesFirst, Drops}
 use Rattle.bd_session.specs.Reads.{ExpiryDrops, ExpiryReads, ReadsFor, RestoreReads}
 use Rattle.bd_session.specs.Ends.{IsMetBy, end_of}
-use Rattle.bd_session.specs.Keeping.{IsQuiet}
+use Rattle.bd_session.specs.Keeping.{IsQuiet, IsQuietDeed}
 use Rattle.bd_session.proofs.Dropping.{drops_oldest}
 
 -- no command writes in the superblock
-ready_beyond : (found : Found) (command : Command) {old new : History} → WritesReady found command old new → WritesOnly (λ place. 64 ≤ place) old new
-ready_beyond found (Backup name) writes = writes_wider _ (λ place unowned. unowned.begins) writes
-ready_beyond found (Restore v name) writes = nothing_within _ writes
-ready_beyond found Expire writes = writes_wider _ (λ place unowned. unowned.begins) writes
-ready_beyond found Reorganise writes = nothing_within _ writes
-ready_beyond found Scrub writes = nothing_within _ writes
-ready_beyond found Listing writes = nothing_within _ writes
+ready_beyond : (deed : Deed) (found : Found) {old new : History} → WritesFor deed found old new → WritesOnly (λ place. 64 ≤ place) old new
+ready_beyond (TakesIn source) found writes = writes_wider _ (λ place unowned. unowned.begins) writes
+ready_beyond (GivesBack v target) found writes = nothing_within _ writes
+ready_beyond (GivesUp count) found writes = writes_wider _ (λ place unowned. unowned.begins) writes
+ready_beyond Settles found writes = nothing_within _ writes
+ready_beyond Checks found writes = nothing_within _ writes
+ready_beyond Tells found writes = nothing_within _ writes
 
 first_beyond : (held : ℕ) (found after : Found) (command : Command) (result : Result Answer StoreFault) {old new : History} → IsArrangedFirst held found after command old new result → WritesOnly (λ place. 64 ≤ place) old new
-first_beyond held found after command result is = made_both (writes_wider _ (λ place beside. beside.begins) is.first) (ready_beyond is.arranged command is.second)
+first_beyond held found after command result is = made_both (writes_wider _ (λ place beside. beside.begins) is.first) (ready_beyond (deed_of is.arranged command) is.arranged is.second)
 
 arranging_beyond : (held : ℕ) (found after : Found) (command : Command) (result : Result Answer StoreFault) {old new : History} → WritesArranging held found after command old new result → WritesOnly (λ place. 64 ≤ place) old new
-arranging_beyond held found after command (Ok (BackedUp version bytes chunks fresh need)) is = first_beyond held found after command (Ok (BackedUp version bytes chunks fresh need)) is
-arranging_beyond held found after command (Ok (FullExtents counted free room)) is = first_beyond held found after command (Ok (FullExtents counted free room)) is
-arranging_beyond held found after command (Ok (Arranged owned free)) is = first_beyond held found after command (Ok (Arranged owned free)) is
-arranging_beyond held found after command (Ok (Expired version extents)) is = first_beyond held found after command (Ok (Expired version extents)) is
-arranging_beyond held found after command (Err StoreSource) is = first_beyond held found after command (Err StoreSource) is
-arranging_beyond held found after command result is = ⊎_elim (λ first. first_beyond held found after command result first) (λ unarranged. writes_wider _ (λ place beside. beside.begins) unarranged.writes) is
+arranging_beyond held found after command result is = ⊎_elim (λ first. first_beyond held found after command result first) (λ unarranged. writes_wider _ (λ place beside. beside.begins) unarranged.1.writes) is
 
 pub writes_beyond : {held : ℕ} (found : Found) {after : Found} (command : Command) {result : Result Answer StoreFault} {old new : History} → WritesByCommand held found after command old new result → WritesOnly (λ place. 64 ≤ place) old new
 writes_beyond {held} found {after} command {result} {old} {new} writes =
     elim (arranges found command) as (λ b. arranges found command ≡ b → WritesOnly (λ place. 64 ≤ place) old new) [
       | true ↦ λ is. arranging_beyond held found after command result (writes.arranging is)
-      | false ↦ λ no. ready_beyond found command (writes.ready no)
+      | false ↦ λ no. ready_beyond (deed_of found command) found (writes.ready no)
     ] refl
 
--- restores and lists write nothing
-pub quiet_writes : {held : ℕ} (found : Found) {after : Found} (command : Command) {result : Result Answer StoreFault} {old new : History} → IsQuiet command → WritesByCommand held found after command old new result → WritesNothing old new
-quiet_writes found (Backup name) quiet writes = absurd quiet
-quiet_writes found (Restore v name) quiet writes = writes.ready refl
-quiet_writes found Expire quiet writes = absurd quiet
-quiet_writes found Reorganise quiet writes = absurd quiet
-quiet_writes found Scrub quiet writes = absurd quiet
-quiet_writes found Listing quiet writes = writes.ready refl
+-- such a command writes nothing
+quiet_deed : (deed : Deed) (found : Found) {old new : History} → IsQuietDeed deed → (arranges_for found deed ≡ false → WritesFor deed found old new) → WritesNothing old new
+quiet_deed (TakesIn source) found quiet writes = absurd quiet
+quiet_deed (GivesBack v target) found quiet writes = writes refl
+quiet_deed (GivesUp count) found quiet writes = absurd quiet
+quiet_deed Settles found quiet writes = absurd quiet
+quiet_deed Checks found quiet writes = writes refl
+quiet_deed Tells found quiet writes = writes refl
 
--- each name has what it had, but for the target of a restore
-pub target_or_kept : (command : Command) (old new : FileMap) (name : List ℕ) → KeepsFiles command old new → ((v : ℕ) × (command ≡ Restore v name)) ⊎ (map.get new name ≡ map.get old name)
-target_or_kept (Restore v target) old new name keeps =
-    elim (bytes_eq name target) as (λ b. bytes_eq name target ≡ b → ((u : ℕ) × (Restore v target ≡ Restore u name)) ⊎ (map.get new name ≡ map.get old name)) [
-      | true ↦ λ e. inl (v, ap (λ (n : List ℕ). Restore v n) (sym ((bytes_eq-Decides name target).0 e)))
+pub quiet_writes : {held : ℕ} (found : Found) {after : Found} (command : Command) {result : Result Answer StoreFault} {old new : History} → IsQuiet command → WritesByCommand held found after command old new result → WritesNothing old new
+quiet_writes found command quiet writes = quiet_deed (deed_of found command) found (quiet found) writes.ready
+
+-- each name has what it had, but for the target
+pub target_or_kept : (target : Option (List ℕ)) (old new : FileMap) (name : List ℕ) → KeepsBut target old new → (target ≡ Some name) ⊎ (map.get new name ≡ map.get old name)
+target_or_kept None old new name same = inr (ap (λ (m : FileMap). map.get m name) same)
+target_or_kept (Some target) old new name keeps =
+    elim (bytes_eq name target) as (λ b. bytes_eq name target ≡ b → (Some target ≡ Some name) ⊎ (map.get new name ≡ map.get old name)) [
+      | true ↦ λ e. inl (ap Some (sym ((bytes_eq-Decides name target).0 e)))
       | false ↦ λ e. inr (keeps.others name (not_from_Decides _ (bytes_eq-Decides name target) e))
     ] refl
-target_or_kept (Backup n) old new name same = inr (ap (λ (m : FileMap). map.get m name) same)
-target_or_kept Expire old new name same = inr (ap (λ (m : FileMap). map.get m name) same)
-target_or_kept Reorganise old new name same = inr (ap (λ (m : FileMap). map.get m name) same)
-target_or_kept Scrub old new name same = inr (ap (λ (m : FileMap). map.get m name) same)
-target_or_kept Listing old new name same = inr (ap (λ (m : FileMap). map.get m name) same)
 
 -- ---- which faults it meets
 
@@ -94,23 +89,23 @@ target_or_kept Listing old new name same = inr (ap (λ (m : FileMap). map.get m 
 pub met_fault : (found : Found) (command : Command) (fault : StoreFault) → IsAnswerOf found command (Err fault) → (next : Option Command) → next ≡ Some command → IsMetBy next (end_of fault)
 met_fault found command StoreDisk answers next is = tt
 met_fault found command StoreMemory answers next is = tt
-met_fault found (Backup name) StoreSource answers next is = (name, is)
+met_fault found (Backup name) StoreSource answers next is = (Backup name, is, (name, refl))
 met_fault found (Restore v name) StoreSource answers next is = absurd answers
 met_fault found Listing StoreSource answers next is = absurd (cc answers)
 met_fault found Expire StoreSource answers next is = absurd answers
 met_fault found Reorganise StoreSource answers next is = absurd answers
 met_fault found Scrub StoreSource answers next is = absurd answers
 met_fault found (Backup name) StoreTarget answers next is = absurd answers
-met_fault found (Restore v name) StoreTarget answers next is = (v, name, is)
+met_fault found (Restore v name) StoreTarget answers next is = (Restore v name, is, (name, refl))
 met_fault found Listing StoreTarget answers next is = absurd (cc answers)
 met_fault found Expire StoreTarget answers next is = absurd answers
 met_fault found Reorganise StoreTarget answers next is = absurd answers
 met_fault found Scrub StoreTarget answers next is = absurd answers
-met_fault found (Backup name) (StoreDamaged damage) answers next is = (Backup name, is, tt)
-met_fault found (Restore v name) (StoreDamaged damage) answers next is = (Restore v name, is, tt)
+met_fault found (Backup name) (StoreDamaged damage) answers next is = (Backup name, is, (found, tt))
+met_fault found (Restore v name) (StoreDamaged damage) answers next is = (Restore v name, is, (found, tt))
 met_fault found Listing (StoreDamaged damage) answers next is = absurd (cc answers)
-met_fault found Expire (StoreDamaged damage) answers next is = (Expire, is, tt)
-met_fault found Reorganise (StoreDamaged damage) answers next is = (Reorganise, is, tt)
+met_fault found Expire (StoreDamaged damage) answers next is = (Expire, is, (found, tt))
+met_fault found Reorganise (StoreDamaged damage) answers next is = (Reorganise, is, (found, tt))
 met_fault found Scrub (StoreDamaged damage) answers next is = absurd answers
 
 -- ---- what was answered

@@ -11,13 +11,14 @@ use Rattle.bd_model.specs.State.{VersionState}
 use Rattle.bd_model.specs.Step.{Outcome, phase_after}
 use Rattle.bd_model.specs.declared.answer.Answer.{Answer}
 use Rattle.bd_model.specs.declared.command.Command.{Command}
-use Rattle.bd_model.specs.declared.command.Command.TheVariants.{Restore, Scrub}
+use Rattle.bd_model.specs.declared.command.Command.TheVariants.{Scrub}
 use Rattle.bd_model.specs.declared.damage.Damage.{Damage}
 use Rattle.bd_model.specs.declared.layout.Phase.{Phase}
 use Rattle.bd_model.specs.declared.layout.Phase.TheVariants.{Settled}
 use Rattle.bd_model.specs.declared.shape.Shape.{Shape}
 use Rattle.bd_model.proofs.ListLemmas.{same_some}
 use Rattle.bd_catalog.specs.Standing.{Stands, StandsFor}
+use Rattle.bd_store.specs.Deeds.{target_of}
 use Rattle.bd_store.specs.Attempts.{Meets, MeetsOnBoth, Scene, attempt}
 use Rattle.bd_store.specs.Causes.{Counts}
 use Rattle.bd_store.specs.Steps.{Task, task, Answered, IsNear, IsOneStep, KeepsFiles, MakesStep}
@@ -144,9 +145,9 @@ module _ {disk files sink : Type 0} {c : Course} {first now : Around} (told : di
 
     -- each file but a half written target is as before
     half_or_kept : LeavesTarget c.ending → KeepsFiles turn.command g.point.files now.scene.files → (name : List ℕ) → IsHalfWritten c name ⊎ (map.get now.scene.files name ≡ map.get g.point.files name)
-    half_or_kept leaves keeps name = by_name (target_or_kept turn.command g.point.files now.scene.files name keeps) where
-      by_name : ((v : ℕ) × (turn.command ≡ Restore v name)) ⊎ (map.get now.scene.files name ≡ map.get g.point.files name) → IsHalfWritten c name ⊎ (map.get now.scene.files name ≡ map.get g.point.files name)
-      by_name (inl (v, e)) = inl (record { version = v; command = turn.next ∙ ap Some e; fault = leaves })
+    half_or_kept leaves keeps name = by_name (target_or_kept (target_of turn.command) g.point.files now.scene.files name keeps) where
+      by_name : (target_of turn.command ≡ Some name) ⊎ (map.get now.scene.files name ≡ map.get g.point.files name) → IsHalfWritten c name ⊎ (map.get now.scene.files name ≡ map.get g.point.files name)
+      by_name (inl target) = inl (record { command = turn.command; next = turn.next; target = target; fault = leaves })
       by_name (inr same) = inr same
 
     -- an end that leaves the state

@@ -9,6 +9,7 @@ use Rattle.bd_disk.proofs.Frames.{later, made_both, made_none}
 use Rattle.bd_model.specs.declared.answer.Answer.{Answer}
 use Rattle.bd_model.specs.declared.command.Command.{Command}
 use Rattle.bd_catalog.specs.Opening.{Found}
+use Rattle.bd_store.specs.Deeds.{target_of}
 use Rattle.bd_store.specs.Attempts.{IsAnswerOf, Scene, attempt, Meets}
 use Rattle.bd_store.specs.declared.fault.StoreFault.{StoreFault}
 use Rattle.bd_session.specs.Course.{Around, Course, next_command, answered}
@@ -48,7 +49,7 @@ module _ {disk files sink : Type 0} {c : Course} {first now : Around} (goes : Go
 
   -- a target below a number is one below a greater number
   below_more : (k n : ℕ) (name : List ℕ) → k ≤ n → IsTargetBelow c k name → IsTargetBelow c n name
-  below_more k n name le (j, v, low, tried) = (j, v, omega (arith, low, le), tried)
+  below_more k n name le is = record { number = is.number; command = is.command; below = omega (arith, is.below, le); tried = is.tried; target = is.target }
 
   -- each name but targets of restores so far has what it had
   KeptSoFar : ℕ → Scene → Type 0
@@ -60,9 +61,9 @@ module _ {disk files sink : Type 0} {c : Course} {first now : Around} (goes : Go
       ⊎_elim
       (λ before. inl (below_more k (k + 1) name (omega arith) before))
       (λ same. ⊎_elim
-      (λ target. inl (k, target.0, omega arith, record { tried = low; is = step.there ∙ ap Some target.1 }))
+      (λ target. inl (record { number = k; command = step.command; below = omega arith; tried = record { tried = low; is = step.there }; target = target }))
       (λ stays. inr (stays ∙ same))
-      (target_or_kept step.command a.files b.files name (step.meets.on_files told).beside))
+      (target_or_kept (target_of step.command) a.files b.files name (step.meets.on_files told).beside))
       (kept name)
 
   wider_keeps : (k : ℕ) (a : Scene) → KeptSoFar k a → KeptSoFar (k + 1) a
@@ -94,7 +95,9 @@ module _ {disk files sink : Type 0} {c : Course} {first now : Around} (goes : Go
               (λ lacking. inr (record {
                 number = k;
                 name = lacking.0;
-                backup = record { tried = low; is = step.there ∙ ap Some lacking.1 };
+                command = step.command;
+                tried = record { tried = low; is = step.there };
+                source = lacking.1;
                 lacks = ⊎_elim (λ target. inl target) (λ same. inr (record { none = sym same ∙ lacking.2.none })) (far.kept lacking.0);
               }))
               here.missing;

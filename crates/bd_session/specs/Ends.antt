@@ -5,14 +5,16 @@ use Rattle.bd_files.specs.Sinks.{HandsPart}
 use Rattle.bd_model.specs.Texts.{answer_text}
 use Rattle.bd_model.specs.declared.answer.Answer.{Answer}
 use Rattle.bd_model.specs.declared.command.Command.{Command}
-use Rattle.bd_model.specs.declared.command.Command.TheVariants.{Backup, Restore, Expire, Reorganise, Scrub}
+use Rattle.bd_model.specs.declared.command.Command.TheVariants.{Scrub}
+use Rattle.bd_catalog.specs.Opening.{Found}
 use Rattle.bd_script.specs.Long.{is_long}
+use Rattle.bd_store.specs.Deeds.{Deed, TakesIn, GivesBack, GivesUp, Settles, Checks, Tells, deed_of, source_of, target_of}
 use Rattle.bd_store.specs.Causes.{HasRisen, NoneFell}
 use Rattle.bd_store.specs.declared.fault.StoreFault.{StoreFault}
 use Rattle.bd_store.specs.declared.fault.StoreFault.TheVariants.{SourceFault as StoreSource, TargetFault as StoreTarget, DiskFault as StoreDisk, Damaged as StoreDamaged, OutOfMemory as StoreMemory}
 use Rattle.bd_session.specs.Course.{Around}
 use Rattle.bd_session.specs.declared.report.SessionEnd.{SessionEnd}
-use Rattle.bd_session.specs.declared.report.SessionEnd.TheVariants.{SourceFault, TargetFault, DiskFault, Damaged, OutputFault, OutOfMemory, Unbuilt}
+use Rattle.bd_session.specs.declared.report.SessionEnd.TheVariants.{Done, SourceFault, TargetFault, DiskFault, Damaged, OutputFault, OutOfMemory, Unbuilt}
 
 -- the end that a fault of the store brings
 abbrev pub end_of : StoreFault → SessionEnd
@@ -73,18 +75,29 @@ pub record EndsOnlyByCount (ending : SessionEnd) (before now : Around) : Type 0 
 -- ---- by which command
 
 -- the commands that read what may be damaged
-abbrev pub MayMeetDamage : Command → Type 0
-MayMeetDamage (Backup name) = Unit {0}
-MayMeetDamage (Restore v name) = Unit {0}
-MayMeetDamage Expire = Unit {0}
-MayMeetDamage Reorganise = Unit {0}
-MayMeetDamage command = ⊥
+abbrev pub MayMeetDamage : Deed → Type 0
+MayMeetDamage (TakesIn source) = Unit {0}
+MayMeetDamage (GivesBack v target) = Unit {0}
+MayMeetDamage (GivesUp count) = Unit {0}
+MayMeetDamage Settles = Unit {0}
+MayMeetDamage Checks = ⊥
+MayMeetDamage Tells = ⊥
 
--- A source that fails belongs to a backup, a target that fails to a restore, and damage to one of these or to a command that
--- arranges. The command that is still to come is a scrub.
+-- the next command is one of these
+abbrev pub IsOneOf : (Command → Type 0) → Option Command → Type 0
+IsOneOf P next = (command : Command) × (next ≡ Some command) × P command
+
+abbrev pub HasName : Option (List ℕ) → Type 0
+HasName named = (name : List ℕ) × (named ≡ Some name)
+
+-- A source that fails belongs to a command that reads one, a target that fails to one that writes one, and damage to one that
+-- may meet it. The command that is still to come is a scrub.
 abbrev pub IsMetBy : Option Command → SessionEnd → Type 0
-IsMetBy next SourceFault = (name : List ℕ) × (next ≡ Some (Backup name))
-IsMetBy next TargetFault = (v : ℕ) × (name : List ℕ) × (next ≡ Some (Restore v name))
-IsMetBy next (Damaged damage) = (command : Command) × (next ≡ Some command) × MayMeetDamage command
+IsMetBy next Done = Unit {0}
+IsMetBy next SourceFault = IsOneOf (λ command. HasName (source_of command)) next
+IsMetBy next TargetFault = IsOneOf (λ command. HasName (target_of command)) next
+IsMetBy next DiskFault = Unit {0}
+IsMetBy next (Damaged damage) = IsOneOf (λ command. (found : Found) × MayMeetDamage (deed_of found command)) next
+IsMetBy next OutputFault = Unit {0}
+IsMetBy next OutOfMemory = Unit {0}
 IsMetBy next Unbuilt = next ≡ Some Scrub
-IsMetBy next ending = Unit {0}

@@ -5,12 +5,12 @@ use Rattle.bd_disk.specs.History.{History, clock, contents, Since}
 use Rattle.bd_disk.specs.Made.{WritesOnly}
 use Rattle.bd_model.specs.FileMap.{FileMap}
 use Rattle.bd_model.specs.declared.command.Command.{Command}
-use Rattle.bd_model.specs.declared.command.Command.TheVariants.{Restore}
 use Rattle.bd_model.specs.declared.damage.Damage.{Damage}
 use Rattle.bd_model.specs.declared.layout.Phase.{Phase}
 use Rattle.bd_model.specs.Folds.{Point, answers_of, unheld}
 use Rattle.bd_model.specs.Step.{without_room}
 use Rattle.bd_catalog.specs.Standing.{StandsFor, Stands}
+use Rattle.bd_store.specs.Deeds.{target_of}
 use Rattle.bd_session.specs.Course.{Around, Course, answered, next_command}
 use Rattle.bd_session.specs.Promised.{Start, reached, phase_reached}
 use Rattle.bd_session.specs.Reads.{ReadsInCourse}
@@ -59,10 +59,11 @@ LeavesTarget DiskFault = Unit {0}
 LeavesTarget OutOfMemory = Unit {0}
 LeavesTarget _ = ⊥
 
--- the target of a restore that didn't end well
+-- the target of a command that didn't end well
 pub record IsHalfWritten (c : Course) (name : List ℕ) : Type 0 where
-  pub version : ℕ
-  pub command : next_command c ≡ Some (Restore version name)
+  pub command : Command
+  pub next : next_command c ≡ Some command
+  pub target : target_of command ≡ Some name
   pub fault : LeavesTarget c.ending
 
 -- The contents stand for the state after the commands that were carried out, or, after a fault of the disk, for the next

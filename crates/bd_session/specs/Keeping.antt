@@ -6,9 +6,10 @@ use Rattle.bd_disk.specs.Made.{WritesNothing, WritesOnly}
 use Rattle.bd_files.specs.Files.{Lacks}
 use Rattle.bd_model.specs.FileMap.{FileMap}
 use Rattle.bd_model.specs.declared.command.Command.{Command}
-use Rattle.bd_model.specs.declared.command.Command.TheVariants.{Backup, Restore, List as Listing}
 use Rattle.bd_catalog.specs.Agreement.{Agrees}
+use Rattle.bd_catalog.specs.Opening.{Found}
 use Rattle.bd_store.specs.Attempts.{Scene}
+use Rattle.bd_store.specs.Deeds.{Deed, TakesIn, GivesBack, GivesUp, Settles, Checks, Tells, deed_of, source_of, target_of}
 use Rattle.bd_session.specs.Course.{Course, answered}
 use Rattle.bd_session.specs.declared.report.SessionEnd.{SessionEnd}
 use Rattle.bd_session.specs.declared.report.SessionEnd.TheVariants.{DiskFault}
@@ -31,20 +32,26 @@ pub record IsTried (c : Course) (k : ℕ) (command : Command) : Type 0 where
   pub tried : k ≤ answered c
   pub is : slice_get c.commands k ≡ Some command
 
--- a restore to this name was tried, at a number below n
-abbrev pub IsTargetBelow : Course → ℕ → List ℕ → Type 0
-IsTargetBelow c n name = (k : ℕ) × (v : ℕ) × (k < n) × IsTried c k (Restore v name)
+-- a command that writes this name was tried, at a number below n
+pub record IsTargetBelow (c : Course) (n : ℕ) (name : List ℕ) : Type 0 where
+  pub number : ℕ
+  pub command : Command
+  pub below : number < n
+  pub tried : IsTried c number command
+  pub target : target_of command ≡ Some name
 
--- each file has what it had, but for the targets of restores that were tried
+-- each file has what it had, but for the targets of commands that were tried
 pub record KeepsOthers (c : Course) (before now : FileMap) : Type 0 where
   pub others : (name : List ℕ) → IsTargetBelow c (answered c + 1) name ⊎ (map.get now name ≡ map.get before name)
 
--- A backup was tried whose source wasn't there: neither at entry, nor, unless an earlier restore may have changed that,
--- when it was asked for.
+-- A command was tried whose source wasn't there: neither at entry, nor, unless it is an earlier one's target, when it was
+-- asked for.
 pub record AsksForMissing (c : Course) (before : FileMap) : Type 0 where
   pub number : ℕ
   pub name : List ℕ
-  pub backup : IsTried c number (Backup name)
+  pub command : Command
+  pub tried : IsTried c number command
+  pub source : source_of command ≡ Some name
   pub lacks : IsTargetBelow c number name ⊎ Lacks before name
 
 -- the count of missing sources rises only for one
@@ -52,13 +59,20 @@ pub record StraysOnlyFor (c : Course) (before now : Scene) : Type 0 where
   pub later : before.strays ≤ now.strays
   pub missing : (now.strays ≡ before.strays) ⊎ AsksForMissing c before.files
 
--- restores and lists write nothing
-abbrev pub IsQuiet : Command → Type 0
-IsQuiet (Restore v name) = Unit {0}
-IsQuiet Listing = Unit {0}
-IsQuiet command = ⊥
+-- what is done writes nothing
+abbrev pub IsQuietDeed : Deed → Type 0
+IsQuietDeed (TakesIn source) = ⊥
+IsQuietDeed (GivesBack v target) = Unit {0}
+IsQuietDeed (GivesUp count) = ⊥
+IsQuietDeed Settles = ⊥
+IsQuietDeed Checks = Unit {0}
+IsQuietDeed Tells = Unit {0}
 
--- nothing writes in the superblock, and restores and lists write nothing at all
+-- and so does a command, whatever store it is asked of
+abbrev pub IsQuiet : Command → Type 0
+IsQuiet command = (found : Found) → IsQuietDeed (deed_of found command)
+
+-- nothing writes in the superblock, and what gives versions back, checks or tells writes nothing at all
 pub record WritesByCommands (c : Course) (before now : History) : Type 0 where
   pub beyond : WritesOnly (λ place. 64 ≤ place) before now
   pub nothing : ((k : ℕ) → (command : Command) → IsTried c k command → IsQuiet command) → WritesNothing before now

@@ -1,4 +1,5 @@
 -- What a command does behind making the store ready, as it is seen from before that.
+use Rattle.std.proofs.lemmas.Bool.{and_parts}
 use Rattle.std.proofs.Common.{◌≡◌, ◌≢◌, ◌∙◌, inl, ◌≤◌, ℕ, ◌+◌, ◌-◌, ◌∷◌, ◌++◌, Bool, true, false, List, [], length, append-nil, refl, sym, ap, subst, arith, nat_le, cond, eqb, Some, None, Result, Ok, le-leb}
 use Rattle.bd_disk.specs.History.{History, contents}
 use Rattle.bd_disk.specs.Looks.{LooksOnlyAt}
@@ -14,7 +15,7 @@ use Rattle.bd_model.specs.Step.{Outcome, drop_oldest, expired_extents, phase_aft
 use Rattle.bd_model.specs.declared.answer.Answer.{Answer}
 use Rattle.bd_model.specs.declared.answer.Answer.TheVariants.{Expired, NothingRetained}
 use Rattle.bd_model.specs.declared.command.Command.{Command}
-use Rattle.bd_model.specs.declared.command.Command.TheVariants.{Backup, Restore, Expire, Reorganise, Scrub, List as Listing}
+use Rattle.bd_model.specs.declared.command.Command.TheVariants.{Expire}
 use Rattle.bd_model.specs.declared.layout.Phase.{Phase}
 use Rattle.bd_model.specs.declared.layout.Phase.TheVariants.{Settled, Waiting}
 use Rattle.bd_model.specs.declared.shape.Shape.{Shape}
@@ -27,71 +28,66 @@ use Rattle.bd_recipe.specs.Marked.{Marked}
 use Rattle.bd_volume.specs.Named.{IsBeside}
 use Rattle.bd_arrange.specs.Arranged.{IsArrangedFrom, IsSettledFrom, KeepsStates}
 use Rattle.bd_store.specs.Attempts.{IsAnswerOf, KeepsVersions}
-use Rattle.bd_store.specs.Following.{EndsReady, MakesReady}
+use Rattle.bd_store.specs.Deeds.{Deed, TakesIn, GivesBack, GivesUp, Settles, Checks, Tells, deed_of}
+use Rattle.bd_store.specs.Following.{EndsReady, MakesReady, ReadiesFor}
 use Rattle.bd_store.specs.Newest.{newest_places}
 use Rattle.bd_store.specs.Shown.{SameVersions, Shown}
 use Rattle.bd_store.specs.Steps.{task, IsOneStep, LeadsTo, MakesStep, StandsOnEitherSide, Task}
 use Rattle.bd_store.specs.Stops.{IsSafeAtStops, IsSureBy}
 use Rattle.bd_store.specs.Touches.{AnswersArranging, AnswersByNumbers, AnswersExpiry, BackupReads, arranges_first, is_waiting, waits}
-use Rattle.bd_store.specs.Writes.{IsArrangedFirst, IsUnowned, StepsTo, WritesArranging, WritesByCommand, WritesReady, arranges}
+use Rattle.bd_store.specs.Writes.{IsArrangedFirst, StepsTo, WritesArranging, WritesFor, WritesByCommand, WritesReady, arranges, arranges_for}
 use Rattle.bd_store.specs.declared.fault.StoreFault.{StoreFault}
-use Rattle.bd_store.proofs.Ending.{by_end, first_two, first_waits, not_both, rests_not}
+use Rattle.bd_store.proofs.Ending.{by_end, by_ready, first_two, first_waits, not_both, rests_not}
 use Rattle.bd_store.proofs.Nearing.{near_state}
 
 -- ---- the answer
 
 -- what is answered of the same versions, settled, is answered of those before
 pub answers_before : (command : Command) (old new : Found) (result : Result Answer StoreFault) → MakesReady old command → IsSettledFrom old new → EndsReady result → IsAnswerOf new command result → IsAnswerOf old command result
-answers_before (Backup name) old new result makes same ends =
-    by_end (λ e. AnswersByNumbers new e → AnswersByNumbers old e) (record {
-      named = λ version bytes chunks fresh need is. (makes, is.1 ∙ ap (λ n. n + 1) same.newest);
-      full = λ counted free held is. makes;
-      expired = λ version extents is. is;
-      arranged = λ owned free is. is;
-      source = λ is. makes;
-      disk = λ is. makes;
-      memory = λ is. makes;
-    }) result ends
-answers_before Expire old new result makes same ends =
-    by_end (λ e. AnswersExpiry new e → AnswersExpiry old e) (record {
-      named = λ version bytes chunks fresh need is. is;
-      full = λ counted free held is. is;
-      expired = λ version extents is. (subst (λ vs. 1 ≤ length vs) same.versions is.0, is.1 ∙ (λ k. same.newest k + 1 - length (same.versions k)));
-      arranged = λ owned free is. is;
-      source = λ is. is;
-      disk = λ is. subst (λ vs. 1 ≤ length vs) same.versions is;
-      memory = λ is. makes;
-    }) result ends
-answers_before Reorganise old new result makes same ends =
-    by_end (λ e. AnswersArranging new e → AnswersArranging old e) (record {
-      named = λ version bytes chunks fresh need is. is;
-      full = λ counted free held is. is;
-      expired = λ version extents is. is;
-      arranged = λ owned free is. tt;
-      source = λ is. is;
-      disk = λ is. makes;
-      memory = λ is. makes;
-    }) result ends
-answers_before (Restore v name) old new result makes same ends = absurd makes
-answers_before Scrub old new result makes same ends = absurd makes
-answers_before Listing old new result makes same ends = absurd makes
+answers_before command old new result makes same ends = by_ready (λ c. IsAnswerOf new c result → IsAnswerOf old c result) (record {
+  backup = λ name not_full. by_end (λ e. AnswersByNumbers new e → AnswersByNumbers old e) (record {
+    named = λ version bytes chunks fresh need is. (not_full, is.1 ∙ ap (λ n. n + 1) same.newest);
+    full = λ counted free held is. not_full;
+    expired = λ version extents is. is;
+    arranged = λ owned free is. is;
+    source = λ is. not_full;
+    disk = λ is. not_full;
+    memory = λ is. not_full;
+  }) result ends;
+  expiry = λ first. by_end (λ e. AnswersExpiry new e → AnswersExpiry old e) (record {
+    named = λ version bytes chunks fresh need is. is;
+    full = λ counted free held is. is;
+    expired = λ version extents is. (subst (λ vs. 1 ≤ length vs) same.versions is.0, is.1 ∙ (λ k. same.newest k + 1 - length (same.versions k)));
+    arranged = λ owned free is. is;
+    source = λ is. is;
+    disk = λ is. subst (λ vs. 1 ≤ length vs) same.versions is;
+    memory = λ is. first;
+  }) result ends;
+  arranging = λ waiting. by_end (λ e. AnswersArranging new e → AnswersArranging old e) (record {
+    named = λ version bytes chunks fresh need is. is;
+    full = λ counted free held is. is;
+    expired = λ version extents is. is;
+    arranged = λ owned free is. tt;
+    source = λ is. is;
+    disk = λ is. waiting;
+    memory = λ is. waiting;
+  }) result ends;
+}) command makes
 
 -- only an expiry answers that it gave a version up
 pub expiry_alone : (command : Command) (old new : Found) (version extents : ℕ) → MakesReady old command → IsAnswerOf new command (Ok (Expired version extents)) → command ≡ Expire
-expiry_alone (Backup name) old new version extents makes is = absurd is
-expiry_alone Expire old new version extents makes is = refl
-expiry_alone Reorganise old new version extents makes is = absurd is
-expiry_alone (Restore v name) old new version extents makes is = absurd makes
-expiry_alone Scrub old new version extents makes is = absurd makes
-expiry_alone Listing old new version extents makes is = absurd makes
+expiry_alone command old new version extents makes = by_ready (λ c. IsAnswerOf new c (Ok (Expired version extents)) → c ≡ Expire) (record {
+  backup = λ name not_full is. absurd is;
+  expiry = λ first is. refl;
+  arranging = λ waiting is. absurd is;
+}) command makes
 
 pub expiry_first : (command : Command) (old new : Found) (version extents : ℕ) → MakesReady old command → IsAnswerOf new command (Ok (Expired version extents)) → arranges_first old ≡ true
-expiry_first (Backup name) old new version extents makes is = absurd is
-expiry_first Expire old new version extents makes is = makes
-expiry_first Reorganise old new version extents makes is = absurd is
-expiry_first (Restore v name) old new version extents makes is = absurd makes
-expiry_first Scrub old new version extents makes is = absurd makes
-expiry_first Listing old new version extents makes is = absurd makes
+expiry_first command old new version extents makes = by_ready (λ c. IsAnswerOf new c (Ok (Expired version extents)) → arranges_first old ≡ true) (record {
+  backup = λ name not_full is. absurd is;
+  expiry = λ first is. first;
+  arranging = λ waiting is. absurd is;
+}) command makes
 
 -- ---- the versions
 
@@ -134,48 +130,56 @@ settled_or_waits found = by found.catalogue.phase where
   by (Waiting cursor) rests = absurd (cc rests)
 
 -- a command that arranges is of a store that waits
-pub arranges_waiting : (found : Found) (command : Command) → arranges found command ≡ true → is_waiting found ≡ true
-arranges_waiting found (Backup name) is = is
-arranges_waiting found Expire is = first_waits found is
-arranges_waiting found Reorganise is = is
-arranges_waiting found (Restore v name) is = absurd (cc is)
-arranges_waiting found Scrub is = absurd (cc is)
-arranges_waiting found Listing is = absurd (cc is)
+pub arranges_waiting : (found : Found) (deed : Deed) → arranges_for found deed ≡ true → is_waiting found ≡ true
+arranges_waiting found (TakesIn source) is = is
+arranges_waiting found (GivesBack v target) is = absurd (cc is)
+arranges_waiting found (GivesUp count) is = (and_parts (waits found.catalogue.phase) _ is).0
+arranges_waiting found Settles is = is
+arranges_waiting found Checks is = absurd (cc is)
+arranges_waiting found Tells is = absurd (cc is)
 
--- of those that make the store ready a backup alone may find it settled
-pub ready_settled : (found : Found) (command : Command) → MakesReady found command → arranges found command ≡ false → (found.catalogue.phase ≡ Settled) × ((name : List ℕ) × (command ≡ Backup name))
-ready_settled found (Backup name) makes rests = (settled_or_waits found rests, (name, refl))
-ready_settled found Expire makes rests = not_both makes rests
-ready_settled found Reorganise makes rests = not_both makes rests
-ready_settled found (Restore v name) makes rests = absurd makes
-ready_settled found Scrub makes rests = absurd makes
-ready_settled found Listing makes rests = absurd makes
+-- one that makes the store ready and doesn't arrange it finds it settled
+pub ready_settled : (found : Found) (deed : Deed) → ReadiesFor found deed → arranges_for found deed ≡ false → found.catalogue.phase ≡ Settled
+ready_settled found (TakesIn source) makes rests = settled_or_waits found rests
+ready_settled found (GivesBack v target) makes rests = absurd makes
+ready_settled found (GivesUp count) makes rests = not_both makes rests
+ready_settled found Settles makes rests = not_both makes rests
+ready_settled found Checks makes rests = absurd makes
+ready_settled found Tells makes rests = absurd makes
+
+-- where nothing was written before
+pub quiet_writing : (deed : Deed) (found : Found) {h0 h1 : History} → WritesNothing h0 h1 → WritesFor deed found h0 h1
+quiet_writing (TakesIn source) found quiet = nothing_within _ quiet
+quiet_writing (GivesBack v target) found quiet = quiet
+quiet_writing (GivesUp count) found quiet = nothing_within _ quiet
+quiet_writing Settles found quiet = quiet
+quiet_writing Checks found quiet = quiet
+quiet_writing Tells found quiet = quiet
+
+writing_both : (deed : Deed) (found : Found) (h0 h1 h2 : History) → WritesFor deed found h0 h1 → WritesFor deed found h1 h2 → WritesFor deed found h0 h2
+writing_both (TakesIn source) found h0 h1 h2 first second = made_both first second
+writing_both (GivesBack v target) found h0 h1 h2 first second = made_both first second
+writing_both (GivesUp count) found h0 h1 h2 first second = made_both first second
+writing_both Settles found h0 h1 h2 first second = made_both first second
+writing_both Checks found h0 h1 h2 first second = made_both first second
+writing_both Tells found h0 h1 h2 first second = made_both first second
 
 module _ (held : ℕ) (found mid after : Found) (h0 h1 h2 : History) (command : Command) (makes : MakesReady found command) (second : WritesReady mid command h1 h2) where
   -- a settled store was only read before
   written_settled : (found.catalogue.phase ≡ Settled → mid ≡ found) → (found.catalogue.phase ≡ Settled → WritesNothing h0 h1) → arranges found command ≡ false → WritesReady found command h0 h2
   written_settled as_it_was quiet rests =
-      let is = ready_settled found command makes rests in
-      subst (λ c. WritesReady found c h0 h2) (sym is.1.1)
-      (made_both (nothing_within _ (quiet is.0)) (subst (λ (f : Found). WritesOnly (IsUnowned f) h1 h2) (as_it_was is.0) (subst (λ c. WritesReady mid c h1 h2) is.1.1 second)))
+      let is = ready_settled found (deed_of found command) makes rests in
+      writing_both (deed_of found command) found h0 h1 h2 (quiet_writing (deed_of found command) found (quiet is)) (subst (λ (f : Found). WritesFor (deed_of f command) f h1 h2) (as_it_was is) second)
 
   pub writes_before : (result : Result Answer StoreFault) → EndsReady result → StepsTo mid.catalogue after.catalogue result → (found.catalogue.phase ≡ Settled → mid ≡ found) → (found.catalogue.phase ≡ Settled → WritesNothing h0 h1) →
       (found.catalogue.phase ≢ Settled → IsArrangedFrom held found mid (contents h0) (contents h1)) → Agrees mid h1 → WritesOnly (IsBeside found) h0 h1 → WritesByCommand held found after command h0 h2 result
   writes_before result ends step as_it_was quiet arranged agrees first = record {
     ready = written_settled as_it_was quiet;
-    step = λ rests. subst (λ (f : Found). StepsTo f.catalogue after.catalogue result) (as_it_was (ready_settled found command makes rests).0) step;
+    step = λ rests. subst (λ (f : Found). StepsTo f.catalogue after.catalogue result) (as_it_was (ready_settled found (deed_of found command) makes rests)) step;
     arranging = λ is.
-        let waits_so : found.catalogue.phase ≢ Settled = λ settled. rests_not found (arranges_waiting found command is) settled in
+        let waits_so : found.catalogue.phase ≢ Settled = λ settled. rests_not found (arranges_waiting found (deed_of found command) is) settled in
         let whole : IsArrangedFirst held found after command h0 h2 result = record { arranged = mid; middle = h1; first = first; made = arranged waits_so; agrees = agrees; second = second; step = step } in
-        by_end (λ e. IsArrangedFirst held found after command h0 h2 e → WritesArranging held found after command h0 h2 e) (record {
-          named = λ version bytes chunks fresh need it. it;
-          full = λ counted free room it. it;
-          expired = λ version extents it. it;
-          arranged = λ owned free it. it;
-          source = λ it. it;
-          disk = λ it. inl it;
-          memory = λ it. inl it;
-        }) result ends whole;
+        inl whole;
   }
 
 -- nothing more was read

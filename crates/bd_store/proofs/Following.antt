@@ -13,13 +13,13 @@ use Rattle.bd_disk.specs.declared.disk.Disk.{Ghosts as DiskGhosts}
 use Rattle.bd_disk.proofs.RunLemmas.{work_looked, work_written}
 use Rattle.bd_model.specs.declared.answer.Answer.{Answer}
 use Rattle.bd_model.specs.declared.command.Command.{Command}
-use Rattle.bd_model.specs.declared.command.Command.TheVariants.{Backup, Restore, Expire, Reorganise, Scrub, List as Listing}
 use Rattle.bd_model.specs.declared.layout.RecipeEntry.{RecipeEntry}
 use Rattle.bd_catalog.specs.Agreement.{Agrees}
 use Rattle.bd_catalog.specs.Opening.{Found}
 use Rattle.bd_recipe.specs.Marked.{Marked}
-use Rattle.bd_store.specs.Attempts.{Beside, scene_beside, Attempt, Meets, Scene, attempt, DamageByCommand, TransfersByCommand, LooksByCommand, NewestEnds, ReadsByCommand, RecipeByCommand}
-use Rattle.bd_store.specs.Following.{Follows, IsMadeReady, IsMadeReadyOn, MakesReady}
+use Rattle.bd_store.specs.Attempts.{Beside, scene_beside, Attempt, Meets, Scene, attempt, EndsFor, MayLook, NamesFor, TransfersByCommand, NewestEnds, ReadsByCommand}
+use Rattle.bd_store.specs.Deeds.{Deed, TakesIn, GivesBack, GivesUp, Settles, Checks, Tells, deed_of}
+use Rattle.bd_store.specs.Following.{Follows, IsMadeReady, IsMadeReadyOn, MakesReady, ReadiesFor}
 use Rattle.bd_store.specs.Naming.{NamesArranging}
 use Rattle.bd_store.specs.Newest.{IsNewestRecipe}
 use Rattle.bd_store.specs.Readying.{IsReady, Readies, ReadiesOn}
@@ -29,7 +29,7 @@ use Rattle.bd_store.specs.Taken.{Source, TakesStream}
 use Rattle.bd_store.specs.Touches.{InArranging, ExpiryReads, IsByNumbers}
 use Rattle.bd_store.specs.declared.fault.StoreFault.{StoreFault}
 use Rattle.bd_store.proofs.Behind.{answers_before, backup_reads, step_before, stops_before, then_no_looks, then_none, versions_before, writes_before}
-use Rattle.bd_store.proofs.Ending.{gone_on, went_on, rests_not, by_end, not_both}
+use Rattle.bd_store.proofs.Ending.{gone_on, went_on, rests_not, by_end, by_ready, not_both}
 use Rattle.bd_store.proofs.Opens.{opens_behind}
 use Rattle.bd_store.proofs.Taken.{counted_before, newest_same, taken_before}
 
@@ -42,32 +42,31 @@ module _ (disk files : Type 0) (command : Command) (before : Scene) (mid : Found
   whole = attempt command result before after
 
   module _ (ready : IsReady before.store now.store neighbour) (readied : disk → IsMadeReadyOn before now (Ok neighbour)) (follows : Follows disk files (attempt command result now after)) where
-    reads : disk → (c : Command) → MakesReady before.store.found c → ReadsByCommand whole c
-    reads told (Backup name) may = backup_reads before.store.found before.disk after.disk result follows.ends (λ settled. then_none ((readied told).readies.answer.reads settled) (follows.on_disk told).reads)
-    reads told Expire may = by_end (ExpiryReads before.store.found after.store.found before.disk after.disk) (record {
-      named = λ version bytes chunks fresh need no. not_both may no;
-      full = λ counted free held no. not_both may no;
-      expired = λ version extents no. not_both may no;
-      arranged = λ owned free no. not_both may no;
-      source = λ no. not_both may no;
-      disk = λ no. not_both may no;
-      memory = λ no. not_both may no;
-    }) result follows.ends
-    reads told Reorganise may = λ settled. rests_not before.store.found may settled
-    reads told (Restore v name) may = absurd may
-    reads told Scrub may = absurd may
-    reads told Listing may = absurd may
+    reads : disk → ReadsByCommand whole command
+    reads told = by_ready (λ c. ReadsByCommand whole c) (record {
+      backup = λ name not_full. backup_reads before.store.found before.disk after.disk result follows.ends (λ settled. then_none ((readied told).readies.answer.reads settled) (follows.on_disk told).reads);
+      expiry = λ first. by_end (ExpiryReads before.store.found after.store.found before.disk after.disk) (record {
+        named = λ version bytes chunks fresh need no. not_both first no;
+        full = λ counted free held no. not_both first no;
+        expired = λ version extents no. not_both first no;
+        arranged = λ owned free no. not_both first no;
+        source = λ no. not_both first no;
+        disk = λ no. not_both first no;
+        memory = λ no. not_both first no;
+      }) result follows.ends;
+      arranging = λ waiting settled. rests_not before.store.found waiting settled;
+    }) command makes
 
     looked : disk → LooksOnlyAt (InArranging before.store.found) before.disk after.disk
     looked told = then_no_looks (readied told).looks (follows.on_disk told).reads
 
-    looks : disk → (c : Command) → MakesReady before.store.found c → LooksByCommand whole c
-    looks told (Backup name) may = looked told
-    looks told Expire may = looked told
-    looks told Reorganise may = looked told
-    looks told (Restore v name) may = absurd may
-    looks told Scrub may = absurd may
-    looks told Listing may = absurd may
+    looks : disk → (deed : Deed) → ReadiesFor before.store.found deed → LooksOnlyAt (MayLook before.store.found deed) before.disk after.disk
+    looks told (TakesIn source) may = looked told
+    looks told (GivesBack v target) may = absurd may
+    looks told (GivesUp count) may = looked told
+    looks told Settles may = looked told
+    looks told Checks may = absurd may
+    looks told Tells may = absurd may
 
     names : NamesArranging before.store.found before.disk after.disk result
     names = by_end (NamesArranging before.store.found before.disk after.disk) (record {
@@ -80,25 +79,25 @@ module _ (disk files : Type 0) (command : Command) (before : Scene) (mid : Found
       memory = tt;
     }) result follows.ends
 
-    damage : (c : Command) → MakesReady before.store.found c → DamageByCommand whole c
-    damage (Backup name) may = names
-    damage Expire may = names
-    damage Reorganise may = names
-    damage (Restore v name) may = absurd may
-    damage Scrub may = absurd may
-    damage Listing may = absurd may
+    damage : (deed : Deed) → ReadiesFor before.store.found deed → NamesFor whole deed
+    damage (TakesIn source) may = names
+    damage (GivesBack v target) may = absurd may
+    damage (GivesUp count) may = names
+    damage Settles may = names
+    damage Checks may = absurd may
+    damage Tells may = absurd may
 
     -- the newest recipe was read
     newest : disk → NewestEnds whole
     newest told met some broken = let no : Err met ≡ Ok neighbour.entries = sym broken ∙ (readied told).readies.answer.found_before.some some in absurd (cc)
 
-    recipe : disk → (c : Command) → MakesReady before.store.found c → RecipeByCommand whole c
-    recipe told (Backup name) may = newest told
-    recipe told Expire may = λ first. newest told
-    recipe told Reorganise may = λ waiting. newest told
-    recipe told (Restore v name) may = absurd may
-    recipe told Scrub may = absurd may
-    recipe told Listing may = absurd may
+    recipe : disk → (deed : Deed) → ReadiesFor before.store.found deed → EndsFor whole deed
+    recipe told (TakesIn source) may = newest told
+    recipe told (GivesBack v target) may = absurd may
+    recipe told (GivesUp count) may = λ first. newest told
+    recipe told Settles may = λ waiting. newest told
+    recipe told Checks may = absurd may
+    recipe told Tells may = absurd may
 
     refuses_not : IsByNumbers result → ⊥
     refuses_not = by_end (λ e. IsByNumbers e → ⊥) (record {
@@ -126,26 +125,24 @@ module _ (disk files : Type 0) (command : Command) (before : Scene) (mid : Found
           memory = λ is. tt;
         }) result follows.ends
 
-    transfers : disk → (c : Command) → MakesReady before.store.found c → TransfersByCommand (attempt command result now after) c result → TransfersByCommand whole c result
-    transfers told (Backup name) may is = record {
-      taken = λ old stream newest_before there.
-          let same : neighbour.entries ≡ old = newest_same (readied told).readies.answer.found_before newest_before in
-          taken told old stream newest_before (is.taken old stream (subst (IsNewestRecipe mid (contents h1)) same (readied told).readies.answer.recipe) there);
-      missing = is.missing;
-    }
-    transfers told Expire may is = tt
-    transfers told Reorganise may is = tt
-    transfers told (Restore v name) may is = absurd may
-    transfers told Scrub may is = absurd may
-    transfers told Listing may is = absurd may
+    transfers : disk → TransfersByCommand (attempt command result now after) command result → TransfersByCommand whole command result
+    transfers told = by_ready (λ c. TransfersByCommand (attempt command result now after) c result → TransfersByCommand whole c result) (record {
+      backup = λ name not_full is. record {
+        taken = λ old stream newest_before there.
+            let same : neighbour.entries ≡ old = newest_same (readied told).readies.answer.found_before newest_before in
+            taken told old stream newest_before (is.taken old stream (subst (IsNewestRecipe mid (contents h1)) same (readied told).readies.answer.recipe) there);
+        missing = is.missing;
+      };
+      expiry = λ first is. tt;
+      arranging = λ waiting is. tt;
+    }) command makes
 
-    same_files : (c : Command) → MakesReady before.store.found c → KeepsFiles c before.files after.files → after.files ≡ before.files
-    same_files (Backup name) may keeps = keeps
-    same_files Expire may keeps = keeps
-    same_files Reorganise may keeps = keeps
-    same_files (Restore v name) may keeps = absurd may
-    same_files Scrub may keeps = absurd may
-    same_files Listing may keeps = absurd may
+    same_files : KeepsFiles command before.files after.files → after.files ≡ before.files
+    same_files = by_ready (λ c. KeepsFiles c before.files after.files → after.files ≡ before.files) (record {
+      backup = λ name not_full keeps. keeps;
+      expiry = λ first keeps. keeps;
+      arranging = λ waiting keeps. keeps;
+    }) command makes
 
     ready_meets : Meets disk files whole
     ready_meets = record {
@@ -167,15 +164,15 @@ module _ (disk files : Type 0) (command : Command) (before : Scene) (mid : Found
             ((readied told).readies.states.opens.each before.store.found) (follows.on_disk told).opens;
         writes = writes_before before.store.held before.store.found mid after.store.found before.disk h1 after.disk command makes (follows.on_disk told).writes result follows.ends (follows.on_disk told).step ready.same (readied told).readies.quiet
             (readied told).readies.answer.arranged (readied told).readies.agrees (readied told).writes;
-        reads = reads told command makes;
-        looks = looks told command makes;
-        damage = damage command makes;
-        recipe = recipe told command makes;
+        reads = reads told;
+        looks = looks told (deed_of before.store.found command) makes;
+        damage = damage (deed_of before.store.found command) makes;
+        recipe = recipe told (deed_of before.store.found command) makes;
       };
       on_files = λ told. record { beside = (follows.on_files told).beside; strays = (follows.on_files told).strays; finished = (follows.on_files told).finished };
       on_both = λ told files_tell. record {
-        transfers = transfers told command makes (follows.on_both told files_tell).transfers;
-        step = step_before command before.store.held before.store.found mid before.disk h1 after.disk before.files after.files result neighbour makes follows.ends follows.answer (agrees told) (readied told).readies.states (follows.on_both told files_tell).step (same_files command makes (follows.on_files files_tell).beside);
+        transfers = transfers told (follows.on_both told files_tell).transfers;
+        step = step_before command before.store.held before.store.found mid before.disk h1 after.disk before.files after.files result neighbour makes follows.ends follows.answer (agrees told) (readied told).readies.states (follows.on_both told files_tell).step (same_files (follows.on_files files_tell).beside);
         stops = stops_before command before.store.held before.store.found mid before.disk h1 after.disk before.files after.files result neighbour makes follows.ends follows.answer (agrees told) (readied told).readies.states (follows.on_both told files_tell).stops;
       };
     }

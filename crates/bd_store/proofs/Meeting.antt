@@ -1,55 +1,35 @@
 -- What a command that touched nothing meets.
-use Rattle.std.proofs.Common.{◌≡◌, ℕ, false, true, inl, refl, sym, ◌∙◌, subst, arith, Result, Ok, Err}
+use Rattle.std.proofs.Common.{◌≡◌, ℕ, List, Option, Some, None, false, true, inl, refl, sym, ◌∙◌, subst, arith, Result, Ok, Err}
 use Rattle.bd_disk.specs.History.{History}
 use Rattle.bd_disk.proofs.Frames.{made_none}
 use Rattle.bd_model.specs.FileMap.{FileMap}
 use Rattle.bd_model.specs.declared.answer.Answer.{Answer}
 use Rattle.bd_model.specs.declared.command.Command.{Command}
-use Rattle.bd_model.specs.declared.command.Command.TheVariants.{Backup, Restore, Expire, Reorganise, Scrub, List as Listing}
 use Rattle.bd_catalog.specs.Agreement.{Agrees}
 use Rattle.bd_catalog.specs.Opening.{Found}
-use Rattle.bd_store.specs.Attempts.{Scene, Attempt, attempt, DamageByCommand, FinishesByCommand, TransfersByCommand, IsAnswerOf, KeepsVersions, LooksByCommand, Meets, ReadsByCommand, RecipeByCommand, SettlesBy, TellsFigures}
+use Rattle.bd_store.specs.Attempts.{Scene, Attempt, attempt, DamageByCommand, FinishesByCommand, TransfersByCommand, IsAnswerOf, KeepsVersions, Meets, ReadsByCommand, RecipeByCommand, SettlesBy, TellsFigures}
 use Rattle.bd_store.specs.Causes.{ByCount}
+use Rattle.bd_store.specs.Deeds.{deed_of, target_of}
 use Rattle.bd_store.specs.Shown.{Shown, SameVersions}
-use Rattle.bd_store.specs.Steps.{IsOneStep, KeepsFiles}
+use Rattle.bd_store.specs.Steps.{IsOneStep, KeepsBut}
 use Rattle.bd_store.specs.Stops.{IsSafeAtStops}
-use Rattle.bd_store.specs.Writes.{StepsTo, WritesArranging, WritesReady, arranges}
+use Rattle.bd_store.specs.Writes.{StepsTo, WritesArranging, arranges}
 use Rattle.bd_store.specs.declared.fault.StoreFault.{StoreFault}
 use Rattle.bd_store.specs.declared.fault.StoreFault.TheVariants.{DiskFault, OutOfMemory}
+use Rattle.bd_store.proofs.Behind.{quiet_writing}
 use Rattle.bd_store.proofs.Opens.{opens_quiet}
 
 -- the same store has the same versions
 pub same_versions : (s : Shown) → SameVersions s s
 same_versions s = record { sizes = refl; base = refl; newest = refl; versions = refl; held = refl }
 
--- nothing is written
-writes_none : (found : Found) (command : Command) (h : History) → WritesReady found command h h
-writes_none found (Backup name) h = made_none _ h
-writes_none found (Restore version name) h = made_none _ h
-writes_none found Expire h = made_none _ h
-writes_none found Reorganise h = made_none _ h
-writes_none found Scrub h = made_none _ h
-writes_none found Listing h = made_none _ h
-
-looks_none : (command other : Command) (result : Result Answer StoreFault) (s : Scene) → LooksByCommand (attempt other result s s) command
-looks_none (Backup name) other result s = made_none _ s.disk
-looks_none (Restore version name) other result s = made_none _ s.disk
-looks_none Expire other result s = made_none _ s.disk
-looks_none Reorganise other result s = made_none _ s.disk
-looks_none Scrub other result s = tt
-looks_none Listing other result s = tt
-
-files_stay : (command : Command) (files : FileMap) → KeepsFiles command files files
-files_stay (Backup name) files = refl
-files_stay (Restore version name) files = record { others = λ other differ. refl }
-files_stay Expire files = refl
-files_stay Reorganise files = refl
-files_stay Scrub files = refl
-files_stay Listing files = refl
+pub files_stay : (target : Option (List ℕ)) (files : FileMap) → KeepsBut target files files
+files_stay None files = refl
+files_stay (Some target) files = record { others = λ other differ. refl }
 
 -- what memory wasn't there for is no step
 pub memory_step : (command : Command) (held : ℕ) (h : History) (files : FileMap) → IsOneStep command held h h files files (Err OutOfMemory)
-memory_step command held h files = record { each = λ shape st phase near stands. record { stands = record { phase = phase; so = stands }; beside = files_stay command files } }
+memory_step command held h files = record { each = λ shape st phase near stands. record { stands = record { phase = phase; so = stands }; beside = files_stay (target_of command) files } }
 
 -- the disk didn't fail
 abbrev pub HasDisk : Result Answer StoreFault → Type 0
@@ -100,14 +80,14 @@ module _ (command : Command) (result : Result Answer StoreFault) (s : Scene) whe
     on_disk = λ told. record {
       agrees = λ _. agrees told;
       opens = opens_quiet (made_none _ s.disk);
-      writes = record { ready = λ _. writes_none s.store.found command s.disk; step = λ _. is.step; arranging = is.arranging };
+      writes = record { ready = λ _. quiet_writing (deed_of s.store.found command) s.store.found (made_none _ s.disk); step = λ _. is.step; arranging = is.arranging };
       reads = is.reads;
-      looks = looks_none command command result s;
+      looks = made_none _ s.disk;
       damage = is.damage;
       recipe = is.recipe;
     };
     on_files = λ told. record {
-      beside = files_stay command s.files;
+      beside = files_stay (target_of command) s.files;
       strays = record { later = omega arith; missing = inl refl };
       finished = is.finished;
     };

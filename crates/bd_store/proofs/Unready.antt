@@ -1,13 +1,13 @@
 -- What a command meets that couldn't make the store ready.
-use Rattle.std.proofs.Common.{◌≡◌, ◌↔◌, ℕ, List, Bool, true, false, inl, inr, refl, sym, ap, subst, arith, Result, Err}
+use Rattle.std.proofs.Common.{◌≡◌, ◌↔◌, ℕ, List, Option, Some, None, Bool, true, false, inl, inr, refl, sym, ap, subst, arith, Result, Err}
 use Rattle.bd_disk.specs.Calls.{FailsByCount as FailsByOne}
 use Rattle.bd_disk.specs.History.{History, contents}
+use Rattle.bd_disk.specs.Looks.{LooksOnlyAt}
 use Rattle.bd_disk.specs.Made.{LeavesSince, WritesNothing, WritesOnly}
 use Rattle.bd_disk.proofs.Frames.{leaves_wider, nothing_within}
 use Rattle.bd_model.specs.FileMap.{FileMap}
 use Rattle.bd_model.specs.declared.answer.Answer.{Answer}
 use Rattle.bd_model.specs.declared.command.Command.{Command}
-use Rattle.bd_model.specs.declared.command.Command.TheVariants.{Backup, Restore, Expire, Reorganise, Scrub, List as Listing}
 use Rattle.bd_model.specs.declared.damage.Damage.{Damage}
 use Rattle.bd_model.specs.declared.layout.Phase.{Phase}
 use Rattle.bd_model.specs.declared.layout.Phase.TheVariants.{Settled}
@@ -20,20 +20,22 @@ use Rattle.bd_recipe.specs.declared.fault.ReadFault.{ReadFault}
 use Rattle.bd_recipe.specs.declared.fault.ReadFault.TheVariants.{DiskFault as ReadDisk, Damaged as ReadDamaged, OutOfMemory as ReadMemory}
 use Rattle.bd_volume.specs.Named.{IsBeside}
 use Rattle.bd_arrange.specs.Arranged.{Arranges, ButDiskFault, KeepsStates}
-use Rattle.bd_store.specs.Attempts.{Attempt, EndsInDamage, IsAnswerOf, KeepsVersions, SettlesBy, TellsFigures, Meets, Scene, attempt, DamageByCommand, FinishesByCommand, TransfersByCommand, LooksByCommand, NewestEnds, ReadsByCommand, RecipeByCommand}
+use Rattle.bd_store.specs.Attempts.{Attempt, EndsInDamage, IsAnswerOf, KeepsVersions, SettlesBy, TellsFigures, Meets, Scene, attempt, EndsFor, Finishes, MayLook, NamesFor, NewestEnds, ReadsByCommand, TransfersFor, WhereRestored}
 use Rattle.bd_store.specs.Causes.{counts, FailsOnlyByCount}
-use Rattle.bd_store.specs.Following.{MakesReady, IsMadeReady}
+use Rattle.bd_store.specs.Deeds.{Deed, TakesIn, GivesBack, GivesUp, Settles, Checks, Tells, deed_of, target_of}
+use Rattle.bd_store.specs.Following.{MakesReady, ReadiesFor, IsMadeReady}
 use Rattle.bd_store.specs.Naming.{fault_of_reading, NamesArranging}
 use Rattle.bd_store.specs.Readying.{AnswersReady, IsThatDamage, Readies}
 use Rattle.bd_store.specs.Shown.{SameVersions, Shown}
 use Rattle.bd_store.specs.Steps.{task, IsOneStep, KeepsFiles, MakesStep, StandsOnEitherSide, Task}
 use Rattle.bd_store.specs.Stops.{IsSafeAtStops, IsSureBy}
-use Rattle.bd_store.specs.Touches.{BackupReads}
-use Rattle.bd_store.specs.Writes.{StepsTo, WritesArranging, WritesByCommand, WritesReady}
+use Rattle.bd_store.specs.Touches.{AnswersArranging, AnswersByNumbers, AnswersExpiry, BackupReads, arranges_first, is_full, is_waiting}
+use Rattle.bd_store.specs.Writes.{StepsTo, WritesArranging, WritesByCommand}
 use Rattle.bd_store.specs.declared.fault.StoreFault.{StoreFault}
 use Rattle.bd_store.specs.declared.fault.StoreFault.TheVariants.{DiskFault}
-use Rattle.bd_store.proofs.Behind.{ready_settled}
-use Rattle.bd_store.proofs.Ending.{gone_on, went_on, rests_not, first_two, not_both}
+use Rattle.bd_store.proofs.Behind.{quiet_writing, ready_settled}
+use Rattle.bd_store.proofs.Ending.{by_ready, gone_on, went_on, rests_not, first_two, not_both}
+use Rattle.bd_store.proofs.Meeting.{files_stay}
 use Rattle.bd_store.proofs.Nearing.{near_state}
 use Rattle.bd_store.proofs.Opens.{opens_kept}
 use Rattle.bd_store.proofs.Taken.{takes_nothing}
@@ -46,18 +48,25 @@ unready_cause (ReadDamaged damage) before now n m is = record { later = record {
 unready_cause ReadMemory before now n m is = record { later = record { disk = is.later; sources = omega arith; targets = omega arith }; cause = ap (λ k. counts k n m) is.cause }
 
 pub unready_answer : (command : Command) (old new : Shown) (fault : ReadFault) → MakesReady old.found command → Readies old new (Err fault) → IsAnswerOf old.found command (Err (fault_of_reading fault))
-unready_answer (Backup name) old new ReadDisk makes is = makes
-unready_answer (Backup name) old new (ReadDamaged damage) makes is = (makes, is.1)
-unready_answer (Backup name) old new ReadMemory makes is = makes
-unready_answer Expire old new ReadDisk makes is = omega (arith, first_two old.found makes)
-unready_answer Expire old new (ReadDamaged damage) makes is = makes
-unready_answer Expire old new ReadMemory makes is = makes
-unready_answer Reorganise old new ReadDisk makes is = makes
-unready_answer Reorganise old new (ReadDamaged damage) makes is = makes
-unready_answer Reorganise old new ReadMemory makes is = makes
-unready_answer (Restore v name) old new fault makes is = absurd makes
-unready_answer Scrub old new fault makes is = absurd makes
-unready_answer Listing old new fault makes is = absurd makes
+unready_answer command old new fault makes is = by_ready (λ c. IsAnswerOf old.found c (Err (fault_of_reading fault))) (record {
+  backup = λ name not_full. named fault not_full is;
+  expiry = λ first. lost fault first;
+  arranging = λ waiting. arranged fault waiting;
+}) command makes where
+  named : (f : ReadFault) → is_full old.found ≡ false → Readies old new (Err f) → AnswersByNumbers old.found (Err (fault_of_reading f))
+  named ReadDisk not_full readies = not_full
+  named (ReadDamaged damage) not_full readies = (not_full, readies.1)
+  named ReadMemory not_full readies = not_full
+
+  lost : (f : ReadFault) → arranges_first old.found ≡ true → AnswersExpiry old.found (Err (fault_of_reading f))
+  lost ReadDisk first = omega (arith, first_two old.found first)
+  lost (ReadDamaged damage) first = first
+  lost ReadMemory first = first
+
+  arranged : (f : ReadFault) → is_waiting old.found ≡ true → AnswersArranging old.found (Err (fault_of_reading f))
+  arranged ReadDisk waiting = waiting
+  arranged (ReadDamaged damage) waiting = waiting
+  arranged ReadMemory waiting = waiting
 
 -- what a store says that is as it was
 pub unready_same : (P : Shown → Type 0) (old new : Shown) (fault : ReadFault) → Readies old new (Err fault) → P old → (fault ≡ ReadDisk → P new) → P new
@@ -104,15 +113,14 @@ pub unready_writes : (held : ℕ) (command : Command) (old new : Shown) (h0 h1 :
     WritesOnly (IsBeside old.found) h0 h1 → WritesByCommand held old.found new.found command h0 h1 (Err (fault_of_reading fault))
 unready_writes held command old new h0 h1 fault makes readies quiet writes = record {
   ready = λ rests.
-      let is = ready_settled old.found command makes rests in
-      subst (λ c. WritesReady old.found c h0 h1) (sym is.1.1) (nothing_within _ (quiet is.0));
+      quiet_writing (deed_of old.found command) old.found (quiet (ready_settled old.found (deed_of old.found command) makes rests));
   step = λ _. unready_step_to old new fault readies;
   arranging = λ _. at_fault fault (unready_step_to old new fault readies);
 } where
   at_fault : (f : ReadFault) → StepsTo old.found.catalogue new.found.catalogue (Err (fault_of_reading f)) → WritesArranging held old.found new.found command h0 h1 (Err (fault_of_reading f))
-  at_fault ReadDisk step = inr (record { writes = writes; step = step })
-  at_fault (ReadDamaged damage) step = inr (record { writes = writes; step = step })
-  at_fault ReadMemory step = inr (record { writes = writes; step = step })
+  at_fault ReadDisk step = inr (tt, record { writes = writes; step = step })
+  at_fault (ReadDamaged damage) step = inr (tt, record { writes = writes; step = step })
+  at_fault ReadMemory step = inr (tt, record { writes = writes; step = step })
 
 pub unready_reads : (found : Found) (h0 h1 : History) (fault : ReadFault) → BackupReads found h0 h1 (Err (fault_of_reading fault))
 unready_reads found h0 h1 ReadDisk = tt
@@ -135,15 +143,6 @@ unready_ends damage (ReadDamaged met) is = is
 unready_ends damage ReadMemory is = tt
 
 -- ---- over every state
-
--- no file changes
-pub files_stay_ready : (found : Found) (command : Command) (files : FileMap) → MakesReady found command → KeepsFiles command files files
-files_stay_ready found (Backup name) files makes = refl
-files_stay_ready found Expire files makes = refl
-files_stay_ready found Reorganise files makes = refl
-files_stay_ready found (Restore v name) files makes = absurd makes
-files_stay_ready found Scrub files makes = absurd makes
-files_stay_ready found Listing files makes = absurd makes
 
 unready_makes : (t : Task) (phase : Phase) (image : List ℕ) (fault : ReadFault) → KeepsFiles t.command t.files t.files → Arranges {T = Marked} t.shape t.state phase t.held image (Err fault) → MakesStep t phase image t.files (Err (fault_of_reading fault))
 unready_makes t phase image ReadDisk keeps is = record { stands = inl is; beside = keeps }
@@ -183,59 +182,61 @@ module _ (disk files : Type 0) (command : Command) (before : Scene) (mid : Found
   refusal = attempt command (Err (fault_of_reading fault)) before failed
 
   module _ (is : IsMadeReady disk before failed (Err fault)) where
-    refusal_reads : (c : Command) → MakesReady before.store.found c → ReadsByCommand refusal c
-    refusal_reads (Backup name) may = unready_reads before.store.found before.disk h1 fault
-    refusal_reads Expire may = λ no. not_both may no
-    refusal_reads Reorganise may = λ settled. rests_not before.store.found may settled
-    refusal_reads (Restore v name) may = absurd may
-    refusal_reads Scrub may = absurd may
-    refusal_reads Listing may = absurd may
+    refusal_reads : ReadsByCommand refusal command
+    refusal_reads = by_ready (λ c. ReadsByCommand refusal c) (record {
+      backup = λ name not_full. unready_reads before.store.found before.disk h1 fault;
+      expiry = λ first no. not_both first no;
+      arranging = λ waiting settled. rests_not before.store.found waiting settled;
+    }) command makes
 
-    refusal_looks : disk → (c : Command) → MakesReady before.store.found c → LooksByCommand refusal c
-    refusal_looks told (Backup name) may = (is.told told).looks
-    refusal_looks told Expire may = (is.told told).looks
-    refusal_looks told Reorganise may = (is.told told).looks
-    refusal_looks told (Restore v name) may = absurd may
-    refusal_looks told Scrub may = absurd may
-    refusal_looks told Listing may = absurd may
+    refusal_looks : disk → (deed : Deed) → ReadiesFor before.store.found deed → LooksOnlyAt (MayLook before.store.found deed) before.disk h1
+    refusal_looks told (TakesIn source) may = (is.told told).looks
+    refusal_looks told (GivesBack v target) may = absurd may
+    refusal_looks told (GivesUp count) may = (is.told told).looks
+    refusal_looks told Settles may = (is.told told).looks
+    refusal_looks told Checks may = absurd may
+    refusal_looks told Tells may = absurd may
 
-    refusal_names : disk → NamesArranging before.store.found before.disk h1 (Err (fault_of_reading fault))
-    refusal_names told = unready_names before.store.held before.store.found mid before.disk h1 fault (is.told told).readies.answer
+    names_due : disk → NamesArranging before.store.found before.disk h1 (Err (fault_of_reading fault))
+    names_due told = unready_names before.store.held before.store.found mid before.disk h1 fault (is.told told).readies.answer
 
-    refusal_damage : disk → (c : Command) → MakesReady before.store.found c → DamageByCommand refusal c
-    refusal_damage told (Backup name) may = refusal_names told
-    refusal_damage told Expire may = refusal_names told
-    refusal_damage told Reorganise may = refusal_names told
-    refusal_damage told (Restore v name) may = absurd may
-    refusal_damage told Scrub may = absurd may
-    refusal_damage told Listing may = absurd may
+    refusal_names : disk → (deed : Deed) → ReadiesFor before.store.found deed → NamesFor refusal deed
+    refusal_names told (TakesIn source) may = names_due told
+    refusal_names told (GivesBack v target) may = absurd may
+    refusal_names told (GivesUp count) may = names_due told
+    refusal_names told Settles may = names_due told
+    refusal_names told Checks may = absurd may
+    refusal_names told Tells may = absurd may
 
     refusal_newest : disk → NewestEnds refusal
     refusal_newest told met some broken = unready_ends met fault ((is.told told).readies.damage met some broken)
 
-    refusal_recipe : disk → (c : Command) → MakesReady before.store.found c → RecipeByCommand refusal c
-    refusal_recipe told (Backup name) may = refusal_newest told
-    refusal_recipe told Expire may = λ first. refusal_newest told
-    refusal_recipe told Reorganise may = λ waiting. refusal_newest told
-    refusal_recipe told (Restore v name) may = absurd may
-    refusal_recipe told Scrub may = absurd may
-    refusal_recipe told Listing may = absurd may
+    refusal_recipe : disk → (deed : Deed) → ReadiesFor before.store.found deed → EndsFor refusal deed
+    refusal_recipe told (TakesIn source) may = refusal_newest told
+    refusal_recipe told (GivesBack v target) may = absurd may
+    refusal_recipe told (GivesUp count) may = λ first. refusal_newest told
+    refusal_recipe told Settles may = λ waiting. refusal_newest told
+    refusal_recipe told Checks may = absurd may
+    refusal_recipe told Tells may = absurd may
 
-    refusal_finishes : (c : Command) → MakesReady before.store.found c → FinishesByCommand c (Err (fault_of_reading fault)) before.unfinished
-    refusal_finishes (Backup name) may = tt
-    refusal_finishes Expire may = tt
-    refusal_finishes Reorganise may = tt
-    refusal_finishes (Restore v name) may = absurd may
-    refusal_finishes Scrub may = absurd may
-    refusal_finishes Listing may = absurd may
+    given_nothing : {P : Type 0} → WhereRestored (Err (fault_of_reading fault)) P
+    given_nothing {P} = by fault where
+      by : (f : ReadFault) → WhereRestored (Err (fault_of_reading f)) P
+      by ReadDisk = tt
+      by (ReadDamaged damage) = tt
+      by ReadMemory = tt
 
-    refusal_transfers : (c : Command) → MakesReady before.store.found c → TransfersByCommand refusal c (Err (fault_of_reading fault))
-    refusal_transfers (Backup name) may = takes_nothing (λ s. tt) tt
-    refusal_transfers Expire may = tt
-    refusal_transfers Reorganise may = tt
-    refusal_transfers (Restore v name) may = absurd may
-    refusal_transfers Scrub may = absurd may
-    refusal_transfers Listing may = absurd may
+    refusal_finishes : (target : Option (List ℕ)) → Finishes target (Err (fault_of_reading fault)) before.unfinished
+    refusal_finishes None = tt
+    refusal_finishes (Some target) = given_nothing
+
+    refusal_transfers : (deed : Deed) → ReadiesFor before.store.found deed → TransfersFor refusal deed (Err (fault_of_reading fault))
+    refusal_transfers (TakesIn source) may = takes_nothing (λ s. tt) tt
+    refusal_transfers (GivesBack v target) may = absurd may
+    refusal_transfers (GivesUp count) may = tt
+    refusal_transfers Settles may = tt
+    refusal_transfers Checks may = absurd may
+    refusal_transfers Tells may = absurd may
 
     refusal_meets : Meets disk files refusal
     refusal_meets = record {
@@ -250,24 +251,24 @@ module _ (disk files : Type 0) (command : Command) (before : Scene) (mid : Found
         settles = unready_settles failed.store fault;
         figures = unready_figures failed.store fault;
       };
-      untouched = λ refused. absurd (refused);
+      untouched = λ refused. absurd refused;
       on_disk = λ told. record {
         agrees = unready_agrees fault worn (Agrees mid h1) is.worn (is.told told).readies.agrees;
         opens = λ sure. opens_kept ((is.told told).readies.states.opens.each before.store.found sure);
         writes = unready_writes before.store.held command before.store failed.store before.disk h1 fault makes is.store (is.told told).readies.quiet (is.told told).writes;
-        reads = refusal_reads command makes;
-        looks = refusal_looks told command makes;
-        damage = refusal_damage told command makes;
-        recipe = refusal_recipe told command makes;
+        reads = refusal_reads;
+        looks = refusal_looks told (deed_of before.store.found command) makes;
+        damage = refusal_names told (deed_of before.store.found command) makes;
+        recipe = refusal_recipe told (deed_of before.store.found command) makes;
       };
       on_files = λ told. record {
-        beside = files_stay_ready before.store.found command before.files makes;
+        beside = files_stay (target_of command) before.files;
         strays = record { later = omega arith; missing = inl refl };
-        finished = refusal_finishes command makes;
+        finished = refusal_finishes (target_of command);
       };
       on_both = λ told files_tell. record {
-        transfers = refusal_transfers command makes;
-        step = unready_step command before.store.held before.disk h1 before.files fault (is.told told).readies.states (files_stay_ready before.store.found command before.files makes);
+        transfers = refusal_transfers (deed_of before.store.found command) makes;
+        step = unready_step command before.store.held before.disk h1 before.files fault (is.told told).readies.states (files_stay (target_of command) before.files);
         stops = unready_stops command before.store.held before.disk h1 before.files fault (is.told told).readies.states;
       };
     }

@@ -1,5 +1,5 @@
 -- A command on a store, what came of it, and all that is promised of that.
-use Rattle.std.specs.Prelude.{◌≡◌, ◌↔◌, ◌≤◌, ℕ, ◌+◌, true, false, List, [], ◌∷◌, ◌++◌, length, Result, Ok, Err}
+use Rattle.std.specs.Prelude.{◌≡◌, ◌↔◌, ◌≤◌, ℕ, ◌+◌, true, false, List, [], ◌∷◌, ◌++◌, length, Option, Some, None, Result, Ok, Err}
 use Rattle.std.specs.FinMap as map
 use Rattle.bd_disk.specs.History.{History, contents}
 use Rattle.bd_disk.specs.Looks.{LooksOnlyAt}
@@ -9,7 +9,7 @@ use Rattle.bd_files.specs.Files.{Holds, IsFinished, Lacks}
 use Rattle.bd_files.specs.declared.files.Files.{Ghosts as FilesGhosts}
 use Rattle.bd_model.specs.FileMap.{FileMap}
 use Rattle.bd_model.specs.declared.answer.Answer.{Answer}
-use Rattle.bd_model.specs.declared.answer.Answer.TheVariants.{Arranged, BackedUp, Expired, FullExtents, Restored, Listed}
+use Rattle.bd_model.specs.declared.answer.Answer.TheVariants.{Listed}
 use Rattle.bd_model.specs.declared.command.Command.{Command}
 use Rattle.bd_model.specs.declared.command.Command.TheVariants.{Backup, Restore, Expire, Reorganise, Scrub, List as Listing}
 use Rattle.bd_model.specs.declared.damage.Damage.{Damage}
@@ -27,17 +27,19 @@ use Rattle.bd_recipe.specs.Reading.{recipe_found}
 use Rattle.bd_restore.specs.Target.{held, HasChunks}
 use Rattle.bd_volume.specs.Headers.{HasGoodHeaders}
 use Rattle.bd_store.specs.Causes.{Counts, counts, FailsOnlyByCount, StraysOnlyBy}
+use Rattle.bd_store.specs.Deeds.{Deed, TakesIn, GivesBack, GivesUp, Settles, Checks, Tells, deed_of, target_of}
 use Rattle.bd_store.specs.Naming.{NamesArranging, NamesDamage}
 use Rattle.bd_store.specs.Newest.{IsNewestRecipe}
 use Rattle.bd_store.specs.Opens.{KeepsOpening}
+use Rattle.bd_store.specs.Kinds.{Kind, Gained, Lost, Given, Figures, NoRoom, ByNumbers, Shows, Elsewhere, kind_of}
 use Rattle.bd_store.specs.Shown.{HasFree, SameVersions, Shown}
 use Rattle.bd_store.specs.Steps.{IsOneStep, KeepsFiles}
 use Rattle.bd_store.specs.Stops.{IsSafeAtStops}
 use Rattle.bd_store.specs.Taken.{TakesNothing, TakesStream}
-use Rattle.bd_store.specs.Touches.{AnswersArranging, AnswersByNumbers, AnswersByVersion, AnswersExpiry, ArrangingReads, BackupReads, ExpiryReads, InArranging, InRestore, IsByNumbers, WalksTo, arranges_first, is_waiting}
-use Rattle.bd_store.specs.Writes.{WritesByCommand}
+use Rattle.bd_store.specs.Touches.{AnswersArranging, AnswersByNumbers, AnswersByVersion, AnswersExpiry, ArrangingReads, BackupReads, ExpiryReads, InArranging, InRestore, InStored, IsByNumbers, IsNumbers, WalksTo, arranges_first, is_waiting}
+use Rattle.bd_store.specs.Writes.{WritesByCommand, arranges_for}
 use Rattle.bd_store.specs.declared.fault.StoreFault.{StoreFault}
-use Rattle.bd_store.specs.declared.fault.StoreFault.TheVariants.{DiskFault, Damaged, OutOfMemory, SourceFault}
+use Rattle.bd_store.specs.declared.fault.StoreFault.TheVariants.{DiskFault, Damaged, OutOfMemory, SourceFault, TargetFault}
 
 -- ---- what is seen of a command
 
@@ -127,24 +129,61 @@ pub record LosesOldest (old new : Shown) (extents : ℕ) : Type 0 where
   pub freed : extents ≡ length (expired catalogue)
 
 -- the versions stay at every answer but that of a backup, of an expiry, and of a disk that failed
+abbrev pub VersionsOf : Kind → Shown → Shown → Type 0
+VersionsOf (Gained bytes chunks fresh) old new = GainsVersion old new bytes chunks fresh
+VersionsOf (Lost extents) old new = LosesOldest old new extents
+VersionsOf Given old new = SameVersions old new
+VersionsOf (Figures owned free) old new = SameVersions old new
+VersionsOf (NoRoom counted free held) old new = SameVersions old new
+VersionsOf ByNumbers old new = SameVersions old new
+VersionsOf Shows old new = SameVersions old new
+VersionsOf Elsewhere old new = SameVersions old new
+
 abbrev pub KeepsVersions : Shown → Shown → Result Answer StoreFault → Type 0
-KeepsVersions old new (Ok (BackedUp version bytes chunks fresh need)) = GainsVersion old new bytes chunks fresh
-KeepsVersions old new (Ok (Expired version extents)) = LosesOldest old new extents
+KeepsVersions old new (Ok answer) = VersionsOf (kind_of answer) old new
+KeepsVersions old new (Err SourceFault) = SameVersions old new
+KeepsVersions old new (Err TargetFault) = SameVersions old new
 KeepsVersions old new (Err DiskFault) = Unit {0}
-KeepsVersions old new result = SameVersions old new
+KeepsVersions old new (Err (Damaged damage)) = SameVersions old new
+KeepsVersions old new (Err OutOfMemory) = SameVersions old new
 
 -- the answers that come only once the store is arranged
+abbrev pub SettlesAs : Kind → Shown → Type 0
+SettlesAs (Gained bytes chunks fresh) new = Unit {0}
+SettlesAs (Lost extents) new = Unit {0}
+SettlesAs Given new = Unit {0}
+SettlesAs (Figures owned free) new = new.found.catalogue.phase ≡ Settled
+SettlesAs (NoRoom counted free held) new = new.found.catalogue.phase ≡ Settled
+SettlesAs ByNumbers new = Unit {0}
+SettlesAs Shows new = Unit {0}
+SettlesAs Elsewhere new = Unit {0}
+
 abbrev pub SettlesBy : Shown → Result Answer StoreFault → Type 0
-SettlesBy new (Ok (Arranged owned free)) = new.found.catalogue.phase ≡ Settled
-SettlesBy new (Ok (FullExtents counted free held)) = new.found.catalogue.phase ≡ Settled
+SettlesBy new (Ok answer) = SettlesAs (kind_of answer) new
 SettlesBy new (Err SourceFault) = new.found.catalogue.phase ≡ Settled
-SettlesBy new result = Unit {0}
+SettlesBy new (Err TargetFault) = Unit {0}
+SettlesBy new (Err DiskFault) = Unit {0}
+SettlesBy new (Err (Damaged damage)) = Unit {0}
+SettlesBy new (Err OutOfMemory) = Unit {0}
 
 -- figures that are answered are those of the store afterwards
+abbrev pub TellsAs : Kind → Shown → Type 0
+TellsAs (Gained bytes chunks fresh) new = Unit {0}
+TellsAs (Lost extents) new = Unit {0}
+TellsAs Given new = Unit {0}
+TellsAs (Figures owned free) new = (owned ≡ length (all_extents new.found.catalogue)) × HasFree new free
+TellsAs (NoRoom counted free held) new = HasFree new free × (held ≡ new.held)
+TellsAs ByNumbers new = Unit {0}
+TellsAs Shows new = Unit {0}
+TellsAs Elsewhere new = Unit {0}
+
 abbrev pub TellsFigures : Shown → Result Answer StoreFault → Type 0
-TellsFigures new (Ok (Arranged owned free)) = (owned ≡ length (all_extents new.found.catalogue)) × HasFree new free
-TellsFigures new (Ok (FullExtents counted free held)) = HasFree new free × (held ≡ new.held)
-TellsFigures new result = Unit {0}
+TellsFigures new (Ok answer) = TellsAs (kind_of answer) new
+TellsFigures new (Err SourceFault) = Unit {0}
+TellsFigures new (Err TargetFault) = Unit {0}
+TellsFigures new (Err DiskFault) = Unit {0}
+TellsFigures new (Err (Damaged damage)) = Unit {0}
+TellsFigures new (Err OutOfMemory) = Unit {0}
 
 -- the store in memory goes on, unless the disk failed: it is worn then, and its disk is opened anew
 pub record KeepsStore (a : Attempt) : Type 0 where
@@ -158,10 +197,23 @@ pub record KeepsStore (a : Attempt) : Type 0 where
 -- ---- where the disk tells
 
 -- A restore that was answered reads its walk. One that is refused touches nothing.
+abbrev pub WalksAs : Kind → Attempt → ℕ → Type 0
+WalksAs (Gained bytes chunks fresh) a v = TouchesNothing a.before.disk a.after.disk
+WalksAs (Lost extents) a v = TouchesNothing a.before.disk a.after.disk
+WalksAs Given a v = WalksTo a.before.store.held a.before.store.found v a.before.disk a.after.disk
+WalksAs (Figures owned free) a v = TouchesNothing a.before.disk a.after.disk
+WalksAs (NoRoom counted free held) a v = TouchesNothing a.before.disk a.after.disk
+WalksAs ByNumbers a v = TouchesNothing a.before.disk a.after.disk
+WalksAs Shows a v = TouchesNothing a.before.disk a.after.disk
+WalksAs Elsewhere a v = TouchesNothing a.before.disk a.after.disk
+
 abbrev pub RestoreReads : Attempt → ℕ → Result Answer StoreFault → Type 0
-RestoreReads a v (Ok (Restored given bytes)) = WalksTo a.before.store.held a.before.store.found v a.before.disk a.after.disk
-RestoreReads a v (Ok answer) = TouchesNothing a.before.disk a.after.disk
-RestoreReads a v (Err fault) = Unit {0}
+RestoreReads a v (Ok answer) = WalksAs (kind_of answer) a v
+RestoreReads a v (Err SourceFault) = Unit {0}
+RestoreReads a v (Err TargetFault) = Unit {0}
+RestoreReads a v (Err DiskFault) = Unit {0}
+RestoreReads a v (Err (Damaged damage)) = Unit {0}
+RestoreReads a v (Err OutOfMemory) = Unit {0}
 
 -- which places are read, at every answer
 abbrev pub ReadsByCommand : Attempt → Command → Type 0
@@ -169,24 +221,42 @@ ReadsByCommand a (Backup name) = BackupReads a.before.store.found a.before.disk 
 ReadsByCommand a (Restore v name) = RestoreReads a v a.result
 ReadsByCommand a Expire = ExpiryReads a.before.store.found a.after.store.found a.before.disk a.after.disk a.result
 ReadsByCommand a Reorganise = ArrangingReads a.before.store.found a.before.disk a.after.disk
-ReadsByCommand a command = TouchesNothing a.before.disk a.after.disk
+ReadsByCommand a Scrub = TouchesNothing a.before.disk a.after.disk
+ReadsByCommand a Listing = TouchesNothing a.before.disk a.after.disk
 
--- whatever image it is, and at every answer: a backup, an arranging and an expiry read the newest recipe and the open
--- categories that are due, and a restore its recipe and the rows on its walk
+-- a place that a command may read, whatever image it is and at every answer: to make the store ready the newest recipe and the
+-- open categories that are due, and to give a version back its recipe and the rows on its walk
+abbrev pub MayLook : Found → Deed → ℕ → Type 0
+MayLook found (TakesIn source) = InArranging found
+MayLook found (GivesBack v target) = InRestore found v
+MayLook found (GivesUp count) = InArranging found
+MayLook found Settles = InArranging found
+MayLook found Checks = InStored found
+MayLook found Tells = λ place. ⊥
+
 abbrev pub LooksByCommand : Attempt → Command → Type 0
-LooksByCommand a (Backup name) = LooksOnlyAt (InArranging a.before.store.found) a.before.disk a.after.disk
-LooksByCommand a Expire = LooksOnlyAt (InArranging a.before.store.found) a.before.disk a.after.disk
-LooksByCommand a Reorganise = LooksOnlyAt (InArranging a.before.store.found) a.before.disk a.after.disk
-LooksByCommand a (Restore v name) = LooksOnlyAt (InRestore a.before.store.found v) a.before.disk a.after.disk
-LooksByCommand a command = Unit {0}
+LooksByCommand a command = LooksOnlyAt (MayLook a.before.store.found (deed_of a.before.store.found command)) a.before.disk a.after.disk
+
+-- no damage is named
+abbrev pub NamesNone : Result Answer StoreFault → Type 0
+NamesNone (Ok answer) = Unit {0}
+NamesNone (Err SourceFault) = Unit {0}
+NamesNone (Err TargetFault) = Unit {0}
+NamesNone (Err DiskFault) = Unit {0}
+NamesNone (Err (Damaged damage)) = ⊥
+NamesNone (Err OutOfMemory) = Unit {0}
 
 -- A damage is one that the command looks for, its bytes were read, and they break its rule.
+abbrev pub NamesFor : Attempt → Deed → Type 0
+NamesFor a (TakesIn source) = NamesArranging a.before.store.found a.before.disk a.after.disk a.result
+NamesFor a (GivesBack v target) = NamesDamage a.before.store.found v a.before.disk a.after.disk a.result
+NamesFor a (GivesUp count) = NamesArranging a.before.store.found a.before.disk a.after.disk a.result
+NamesFor a Settles = NamesArranging a.before.store.found a.before.disk a.after.disk a.result
+NamesFor a Checks = NamesNone a.result
+NamesFor a Tells = NamesNone a.result
+
 abbrev pub DamageByCommand : Attempt → Command → Type 0
-DamageByCommand a (Backup name) = NamesArranging a.before.store.found a.before.disk a.after.disk a.result
-DamageByCommand a Expire = NamesArranging a.before.store.found a.before.disk a.after.disk a.result
-DamageByCommand a Reorganise = NamesArranging a.before.store.found a.before.disk a.after.disk a.result
-DamageByCommand a (Restore v name) = NamesDamage a.before.store.found v a.before.disk a.after.disk a.result
-DamageByCommand a command = Unit {0}
+DamageByCommand a command = NamesFor a (deed_of a.before.store.found command)
 
 -- what the recipe of a version is found to be
 abbrev pub recipe_before : Attempt → ℕ → Result (List RecipeEntry) Damage
@@ -195,22 +265,28 @@ recipe_before a v = recipe_found a.before.store.found.sizes a.before.store.found
 -- a recipe that doesn't hold ends in its damage, but for a fault of the disk and want of memory before it, and where the
 -- catalogue refuses alone
 abbrev pub EndsInDamage : Damage → Result Answer StoreFault → Type 0
-EndsInDamage damage (Err (Damaged found)) = found ≡ damage
+EndsInDamage damage (Ok answer) = IsNumbers (kind_of answer)
+EndsInDamage damage (Err SourceFault) = ⊥
+EndsInDamage damage (Err TargetFault) = ⊥
 EndsInDamage damage (Err DiskFault) = Unit {0}
+EndsInDamage damage (Err (Damaged found)) = found ≡ damage
 EndsInDamage damage (Err OutOfMemory) = Unit {0}
-EndsInDamage damage result = IsByNumbers result
 
 -- and so does the newest one, where there is one
 abbrev pub NewestEnds : Attempt → Type 0
 NewestEnds a = (damage : Damage) → 1 ≤ retained_in a.before.store.found.catalogue → recipe_before a a.before.store.found.catalogue.newest ≡ Err damage → EndsInDamage damage a.result
 
 -- of a store that waits, an arranging reads the newest recipe, and an expiry that arranges first
+abbrev pub EndsFor : Attempt → Deed → Type 0
+EndsFor a (TakesIn source) = NewestEnds a
+EndsFor a (GivesBack v target) = (damage : Damage) → recipe_before a v ≡ Err damage → EndsInDamage damage a.result
+EndsFor a (GivesUp count) = arranges_for a.before.store.found (GivesUp count) ≡ true → NewestEnds a
+EndsFor a Settles = is_waiting a.before.store.found ≡ true → NewestEnds a
+EndsFor a Checks = Unit {0}
+EndsFor a Tells = Unit {0}
+
 abbrev pub RecipeByCommand : Attempt → Command → Type 0
-RecipeByCommand a (Backup name) = NewestEnds a
-RecipeByCommand a (Restore v name) = (damage : Damage) → recipe_before a v ≡ Err damage → EndsInDamage damage a.result
-RecipeByCommand a Expire = arranges_first a.before.store.found ≡ true → NewestEnds a
-RecipeByCommand a Reorganise = is_waiting a.before.store.found ≡ true → NewestEnds a
-RecipeByCommand a command = Unit {0}
+RecipeByCommand a command = EndsFor a (deed_of a.before.store.found command)
 
 -- over every image
 pub record MeetsOnDisk (a : Attempt) : Type 0 where
@@ -225,10 +301,32 @@ pub record MeetsOnDisk (a : Attempt) : Type 0 where
 
 -- ---- where the files tell
 
+-- where a version was given back
+abbrev pub WhereGiven : Kind → Type 0 → Type 0
+WhereGiven (Gained bytes chunks fresh) P = Unit {0}
+WhereGiven (Lost extents) P = Unit {0}
+WhereGiven Given P = P
+WhereGiven (Figures owned free) P = Unit {0}
+WhereGiven (NoRoom counted free held) P = Unit {0}
+WhereGiven ByNumbers P = Unit {0}
+WhereGiven Shows P = Unit {0}
+WhereGiven Elsewhere P = Unit {0}
+
+abbrev pub WhereRestored : Result Answer StoreFault → Type 0 → Type 0
+WhereRestored (Ok answer) P = WhereGiven (kind_of answer) P
+WhereRestored (Err SourceFault) P = Unit {0}
+WhereRestored (Err TargetFault) P = Unit {0}
+WhereRestored (Err DiskFault) P = Unit {0}
+WhereRestored (Err (Damaged damage)) P = Unit {0}
+WhereRestored (Err OutOfMemory) P = Unit {0}
+
 -- the target of a restore that was answered is finished
+abbrev pub Finishes : Option (List ℕ) → Result Answer StoreFault → List (List ℕ) → Type 0
+Finishes None result unfinished = Unit {0}
+Finishes (Some target) result unfinished = WhereRestored result (IsFinished target unfinished)
+
 abbrev pub FinishesByCommand : Command → Result Answer StoreFault → List (List ℕ) → Type 0
-FinishesByCommand (Restore v name) (Ok (Restored given bytes)) unfinished = IsFinished name unfinished
-FinishesByCommand command result unfinished = Unit {0}
+FinishesByCommand command result unfinished = Finishes (target_of command) result unfinished
 
 pub record MeetsOnFiles (a : Attempt) : Type 0 where
   pub beside : KeepsFiles a.command a.before.files a.after.files
@@ -239,7 +337,7 @@ pub record MeetsOnFiles (a : Attempt) : Type 0 where
 
 -- whatever image it is: the target has what the recipe's entries find there, each chunk in it has the mark of its entry, and
 -- the header of each record on the walk holds
-pub record GivesBack (found : Found) (v : ℕ) (name image : List ℕ) (old new : FileMap) : Type 0 where
+pub record GivesContent (found : Found) (v : ℕ) (name image : List ℕ) (old new : FileMap) : Type 0 where
   pub file : new ≡ map.insert old name (content found image v)
   pub checked : HasChunks (recipe_of found.sizes found.catalogue image v) (held new name)
   pub headers : HasGoodHeaders found.sizes image (walk found.catalogue v)
@@ -252,10 +350,16 @@ pub record TakesSource (a : Attempt) (name : List ℕ) (result : Result Answer S
   pub missing : Lacks a.before.files name → TakesNothing result
 
 -- what goes from the disk to the target, and from the source to the disk
+abbrev pub TransfersFor : Attempt → Deed → Result Answer StoreFault → Type 0
+TransfersFor a (TakesIn source) result = TakesSource a source result
+TransfersFor a (GivesBack v target) result = WhereRestored result (GivesContent a.before.store.found v target (contents a.before.disk) a.before.files a.after.files)
+TransfersFor a (GivesUp count) result = Unit {0}
+TransfersFor a Settles result = Unit {0}
+TransfersFor a Checks result = Unit {0}
+TransfersFor a Tells result = Unit {0}
+
 abbrev pub TransfersByCommand : Attempt → Command → Result Answer StoreFault → Type 0
-TransfersByCommand a (Restore v name) (Ok (Restored given bytes)) = GivesBack a.before.store.found v name (contents a.before.disk) a.before.files a.after.files
-TransfersByCommand a (Backup name) result = TakesSource a name result
-TransfersByCommand a command result = Unit {0}
+TransfersByCommand a command result = TransfersFor a (deed_of a.before.store.found command) result
 
 pub record MeetsOnBoth (a : Attempt) : Type 0 where
   pub transfers : TransfersByCommand a a.command a.result

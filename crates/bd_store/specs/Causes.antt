@@ -1,11 +1,11 @@
 -- Each fault comes only by the count of its object.
-use Rattle.std.specs.Prelude.{◌≡◌, ◌⊎◌, ℕ, ◌≤◌, List, Result, Ok, Err}
+use Rattle.std.specs.Prelude.{◌≡◌, ◌⊎◌, ℕ, ◌≤◌, List, Some, Result, Ok, Err}
 use Rattle.bd_disk.specs.Calls.{Rose}
 use Rattle.bd_model.specs.FileMap.{FileMap}
 use Rattle.bd_model.specs.declared.answer.Answer.{Answer}
 use Rattle.bd_model.specs.declared.command.Command.{Command}
-use Rattle.bd_model.specs.declared.command.Command.TheVariants.{Backup}
 use Rattle.bd_files.specs.Files.{Lacks}
+use Rattle.bd_store.specs.Deeds.{source_of}
 use Rattle.bd_store.specs.declared.fault.StoreFault.{StoreFault}
 use Rattle.bd_store.specs.declared.fault.StoreFault.TheVariants.{SourceFault, TargetFault, DiskFault, Damaged, OutOfMemory}
 
@@ -40,7 +40,7 @@ pub record FailsOnlyByCount (before now : Counts) (result : Result Answer StoreF
   pub later : NoneFell before now
   pub cause : ByCount result before now
 
--- The count of missing sources rises only where this command is a backup of one.
+-- The count of missing sources rises only where this command reads one that isn't there.
 pub record StraysOnlyBy (command : Command) (files : FileMap) (before now : ℕ) : Type 0 where
   pub later : before ≤ now
-  pub missing : (now ≡ before) ⊎ ((name : List ℕ) × (command ≡ Backup name) × Lacks files name)
+  pub missing : (now ≡ before) ⊎ ((name : List ℕ) × (source_of command ≡ Some name) × Lacks files name)

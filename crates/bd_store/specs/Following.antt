@@ -5,9 +5,7 @@ use Rattle.bd_disk.specs.Looks.{LooksOnlyAt}
 use Rattle.bd_disk.specs.Made.{WritesOnly}
 use Rattle.bd_disk.specs.Trace.{ReadsOnly}
 use Rattle.bd_model.specs.declared.answer.Answer.{Answer}
-use Rattle.bd_model.specs.declared.answer.Answer.TheVariants.{Arranged, BackedUp, Expired, FullExtents}
 use Rattle.bd_model.specs.declared.command.Command.{Command}
-use Rattle.bd_model.specs.declared.command.Command.TheVariants.{Backup, Expire, Reorganise}
 use Rattle.bd_catalog.specs.Agreement.{Agrees}
 use Rattle.bd_catalog.specs.Opening.{Found}
 use Rattle.bd_recipe.specs.Marked.{Marked}
@@ -17,21 +15,28 @@ use Rattle.bd_recipe.specs.declared.fault.ReadFault.TheVariants.{DiskFault as Re
 use Rattle.bd_volume.specs.Named.{IsBeside}
 use Rattle.bd_store.specs.Attempts.{Attempt, IsAnswerOf, KeepsStore, MeetsOnFiles, Scene, TransfersByCommand}
 use Rattle.bd_store.specs.Causes.{FailsOnlyByCount}
+use Rattle.bd_store.specs.Deeds.{Deed, TakesIn, GivesBack, GivesUp, Settles, Checks, Tells, deed_of}
 use Rattle.bd_store.specs.Opens.{KeepsOpening}
 use Rattle.bd_store.specs.Readying.{Readies, ReadiesOn}
+use Rattle.bd_store.specs.Kinds.{Kind, Gained, Lost, Given, Figures, NoRoom, ByNumbers, Shows, Elsewhere, kind_of}
 use Rattle.bd_store.specs.Steps.{IsOneStep}
 use Rattle.bd_store.specs.Stops.{IsSafeAtStops}
-use Rattle.bd_store.specs.Touches.{InArranging, arranges_first, is_full, is_waiting}
-use Rattle.bd_store.specs.Writes.{StepsTo, WritesReady}
+use Rattle.bd_store.specs.Touches.{InArranging, is_full, is_waiting}
+use Rattle.bd_store.specs.Writes.{StepsTo, WritesReady, arranges_for}
 use Rattle.bd_store.specs.declared.fault.StoreFault.{StoreFault}
-use Rattle.bd_store.specs.declared.fault.StoreFault.TheVariants.{DiskFault, OutOfMemory, SourceFault}
+use Rattle.bd_store.specs.declared.fault.StoreFault.TheVariants.{Damaged, DiskFault, OutOfMemory, SourceFault, TargetFault}
 
 -- the commands that make the store ready, and where
+abbrev pub ReadiesFor : Found → Deed → Type 0
+ReadiesFor found (TakesIn source) = is_full found ≡ false
+ReadiesFor found (GivesBack v target) = ⊥
+ReadiesFor found (GivesUp count) = arranges_for found (GivesUp count) ≡ true
+ReadiesFor found Settles = is_waiting found ≡ true
+ReadiesFor found Checks = ⊥
+ReadiesFor found Tells = ⊥
+
 abbrev pub MakesReady : Found → Command → Type 0
-MakesReady found (Backup name) = is_full found ≡ false
-MakesReady found Expire = arranges_first found ≡ true
-MakesReady found Reorganise = is_waiting found ≡ true
-MakesReady found command = ⊥
+MakesReady found command = ReadiesFor found (deed_of found command)
 
 -- what is round the store stays
 pub record StaysBeside (before after : Scene) : Type 0 where
@@ -58,16 +63,23 @@ pub record IsMadeReady (disk : Type 0) (before after : Scene) (result : Result M
   pub told : disk → IsMadeReadyOn before after result
 
 -- how a command may end once the store is ready: it meets no damage
+abbrev pub IsOfReady : Kind → Type 0
+IsOfReady (Gained bytes chunks fresh) = Unit {0}
+IsOfReady (Lost extents) = Unit {0}
+IsOfReady Given = ⊥
+IsOfReady (Figures owned free) = Unit {0}
+IsOfReady (NoRoom counted free held) = Unit {0}
+IsOfReady ByNumbers = ⊥
+IsOfReady Shows = ⊥
+IsOfReady Elsewhere = ⊥
+
 abbrev pub EndsReady : Result Answer StoreFault → Type 0
-EndsReady (Ok (BackedUp version bytes chunks fresh need)) = Unit {0}
-EndsReady (Ok (FullExtents counted free held)) = Unit {0}
-EndsReady (Ok (Expired version extents)) = Unit {0}
-EndsReady (Ok (Arranged owned free)) = Unit {0}
-EndsReady (Ok answer) = ⊥
+EndsReady (Ok answer) = IsOfReady (kind_of answer)
 EndsReady (Err SourceFault) = Unit {0}
+EndsReady (Err TargetFault) = ⊥
 EndsReady (Err DiskFault) = Unit {0}
+EndsReady (Err (Damaged damage)) = ⊥
 EndsReady (Err OutOfMemory) = Unit {0}
-EndsReady (Err fault) = ⊥
 
 pub record FollowsOnDisk (a : Attempt) : Type 0 where
   pub agrees : a.after.store.worn ≡ false → Agrees a.after.store.found a.after.disk

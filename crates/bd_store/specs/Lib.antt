@@ -1,5 +1,6 @@
 pub mod Attempts
 pub mod Causes
+pub mod Deeds
 pub mod Following
 pub mod Kept
 pub mod Naming
@@ -7,6 +8,7 @@ pub mod Newest
 pub mod Openings
 pub mod Opens
 pub mod Readying
+pub mod Kinds
 pub mod Shown
 pub mod Steps
 pub mod Stops

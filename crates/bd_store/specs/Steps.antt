@@ -1,5 +1,5 @@
 -- One command on a store is one step of the version machine.
-use Rattle.std.specs.Prelude.{◌≡◌, ◌⊎◌, ℕ, Bool, ◌==◌, ◌||◌, List, [], ◌++◌, map as each_of, Some, Result, Ok, Err, option_to_list, if◌then◌else◌}
+use Rattle.std.specs.Prelude.{◌≡◌, ◌⊎◌, ℕ, Bool, ◌==◌, ◌||◌, List, [], ◌++◌, map as each_of, Option, Some, None, Result, Ok, Err, option_to_list, if◌then◌else◌}
 use Rattle.std.specs.FinMap as map
 use Rattle.bd_disk.specs.History.{History, contents}
 use Rattle.bd_model.specs.FileMap.{FileMap}
@@ -8,13 +8,14 @@ use Rattle.bd_model.specs.declared.layout.Phase.{Phase}
 use Rattle.bd_model.specs.declared.layout.Phase.TheVariants.{Settled}
 use Rattle.bd_model.specs.declared.answer.Answer.{Answer}
 use Rattle.bd_model.specs.declared.command.Command.{Command}
-use Rattle.bd_model.specs.declared.command.Command.TheVariants.{Backup, Restore}
+use Rattle.bd_model.specs.declared.command.Command.TheVariants.{Backup, Restore, Expire, Reorganise, Scrub, List as Listing}
 use Rattle.bd_model.specs.History.{newest, retained}
 use Rattle.bd_model.specs.Marks.{Near}
 use Rattle.bd_model.specs.State.{VersionState, history, last_number}
 use Rattle.bd_model.specs.Step.{Outcome, step, phase_after, without_room}
 use Rattle.bd_files.specs.Files.{ChangesOnly}
 use Rattle.bd_catalog.specs.Standing.{StandsFor, Stands}
+use Rattle.bd_store.specs.Deeds.{target_of}
 use Rattle.bd_store.specs.declared.fault.StoreFault.{StoreFault}
 use Rattle.bd_store.specs.declared.fault.StoreFault.TheVariants.{SourceFault, TargetFault, DiskFault, Damaged, OutOfMemory}
 
@@ -36,7 +37,11 @@ is_full t = newest (history t.shape t.state) == last_number || retained (history
 abbrev pub versions_with : Task → Command → VersionState
 versions_with t (Backup name) =
     record t.state { versions = t.state.versions ++ (if is_full t then [] else each_of (λ bytes. record { stream = bytes }) (option_to_list (map.get t.files name))) }
-versions_with t _ = t.state
+versions_with t (Restore v name) = t.state
+versions_with t Expire = t.state
+versions_with t Reorganise = t.state
+versions_with t Scrub = t.state
+versions_with t Listing = t.state
 
 -- marks tell chunks apart in each of these versions, and in each two in a row
 abbrev pub IsNear : Task → Type 0
@@ -54,10 +59,13 @@ pub record Answered (t : Task) (phase : Phase) (answer : Answer) (image : List �
   pub stands : StandsFor t.shape outcome.state (phase_after outcome.state phase answer) t.held image
   pub beside : files ≡ outcome.files
 
--- each file has what it had, but for the target of a restore
+-- each file has what it had, but for a target
+abbrev pub KeepsBut : Option (List ℕ) → FileMap → FileMap → Type 0
+KeepsBut None old new = new ≡ old
+KeepsBut (Some target) old new = ChangesOnly target old new
+
 abbrev pub KeepsFiles : Command → FileMap → FileMap → Type 0
-KeepsFiles (Restore v name) old new = ChangesOnly name old new
-KeepsFiles _ old new = new ≡ old
+KeepsFiles command old new = KeepsBut (target_of command) old new
 
 -- the contents stand for the state as before
 pub record Kept (t : Task) (image : List ℕ) (files : FileMap) : Type 0 where

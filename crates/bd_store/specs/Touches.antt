@@ -21,8 +21,9 @@ use Rattle.bd_recipe.specs.Reading.{length_in, InRecipe}
 use Rattle.bd_arrange.specs.Arranged.{InDue}
 use Rattle.bd_restore.specs.Walk.{InRows}
 use Rattle.bd_store.specs.Newest.{newest_places}
+use Rattle.bd_store.specs.Kinds.{Kind, Gained, Lost, Given, Figures, NoRoom, ByNumbers, Shows, Elsewhere, kind_of}
 use Rattle.bd_store.specs.declared.fault.StoreFault.{StoreFault}
-use Rattle.bd_store.specs.declared.fault.StoreFault.TheVariants.{Damaged, DiskFault, SourceFault, TargetFault}
+use Rattle.bd_store.specs.declared.fault.StoreFault.TheVariants.{Damaged, DiskFault, OutOfMemory, SourceFault, TargetFault}
 
 abbrev pub numbers_used_up : Found → Bool
 numbers_used_up found = found.catalogue.newest == last_number
@@ -91,12 +92,19 @@ AnswersByVersion found v (Err SourceFault) = ⊥
 AnswersByVersion found v (Err fault) = is_retained found v ≡ true
 
 -- the answers that go by the numbers alone
+abbrev pub IsNumbers : Kind → Type 0
+IsNumbers (Gained bytes chunks fresh) = ⊥
+IsNumbers (Lost extents) = ⊥
+IsNumbers Given = ⊥
+IsNumbers (Figures owned free) = ⊥
+IsNumbers (NoRoom counted free held) = ⊥
+IsNumbers ByNumbers = Unit {0}
+IsNumbers Shows = ⊥
+IsNumbers Elsewhere = ⊥
+
 abbrev pub IsByNumbers : Result Answer StoreFault → Type 0
-IsByNumbers (Ok FullNumbers) = Unit {0}
-IsByNumbers (Ok (FullVersions retained)) = Unit {0}
-IsByNumbers (Ok (NothingRetained asked)) = Unit {0}
-IsByNumbers (Ok (NoVersion asked oldest newest)) = Unit {0}
-IsByNumbers result = ⊥
+IsByNumbers (Ok answer) = IsNumbers (kind_of answer)
+IsByNumbers (Err fault) = ⊥
 
 -- Whatever state the contents stood for: the walk of version v through the layout of that moment was read, and it is lean.
 pub record WalksTo (held : ℕ) (found : Found) (v : ℕ) (old new : History) : Type 0 where
@@ -111,17 +119,34 @@ pub record InNewest (found : Found) (place : ℕ) : Type 0 where
 pub record InRestore (found : Found) (v place : ℕ) : Type 0 where
   pub so : InRecipe found.sizes found.catalogue v place ⊎ InRows found.sizes (walk found.catalogue v) place
 
+-- a place of the recipe of a retained version, or of a row on its walk
+pub record InStored (found : Found) (place : ℕ) : Type 0 where
+  pub version : ℕ
+  pub retained : is_retained found version ≡ true
+  pub so : InRestore found version place
+
 -- a place of the newest recipe, or of an open category that is due
 pub record InArranging (found : Found) (place : ℕ) : Type 0 where
   pub so : InNewest found place ⊎ InDue found place
 
 -- A backup of a settled store reads the newest recipe and nothing else. One that is refused for a number touches nothing.
+abbrev pub BackupReadsFor : Kind → Found → History → History → Type 0
+BackupReadsFor (Gained bytes chunks fresh) found old new = found.catalogue.phase ≡ Settled → ReadsOnly (newest_places found) old new
+BackupReadsFor (Lost extents) found old new = found.catalogue.phase ≡ Settled → ReadsOnly (newest_places found) old new
+BackupReadsFor Given found old new = found.catalogue.phase ≡ Settled → ReadsOnly (newest_places found) old new
+BackupReadsFor (Figures owned free) found old new = found.catalogue.phase ≡ Settled → ReadsOnly (newest_places found) old new
+BackupReadsFor (NoRoom counted free held) found old new = found.catalogue.phase ≡ Settled → ReadsOnly (newest_places found) old new
+BackupReadsFor ByNumbers found old new = TouchesNothing old new
+BackupReadsFor Shows found old new = found.catalogue.phase ≡ Settled → ReadsOnly (newest_places found) old new
+BackupReadsFor Elsewhere found old new = found.catalogue.phase ≡ Settled → ReadsOnly (newest_places found) old new
+
 abbrev pub BackupReads : Found → History → History → Result Answer StoreFault → Type 0
-BackupReads found old new (Ok FullNumbers) = TouchesNothing old new
-BackupReads found old new (Ok (FullVersions retained)) = TouchesNothing old new
-BackupReads found old new (Ok answer) = found.catalogue.phase ≡ Settled → ReadsOnly (newest_places found) old new
+BackupReads found old new (Ok answer) = BackupReadsFor (kind_of answer) found old new
 BackupReads found old new (Err SourceFault) = found.catalogue.phase ≡ Settled → ReadsOnly (newest_places found) old new
-BackupReads found old new (Err fault) = Unit {0}
+BackupReads found old new (Err TargetFault) = Unit {0}
+BackupReads found old new (Err DiskFault) = Unit {0}
+BackupReads found old new (Err (Damaged damage)) = Unit {0}
+BackupReads found old new (Err OutOfMemory) = Unit {0}
 
 -- An arranging of a settled store touches nothing.
 abbrev pub ArrangingReads : Found → History → History → Type 0
@@ -133,7 +158,20 @@ pub record IsLeanExpiry (found after : Found) (old new : History) : Type 0 where
   pub made : IsMade found after old new
 
 -- It reads nothing, at any answer; where nothing is retained it touches nothing.
+abbrev pub ExpiryReadsFor : Kind → Found → Found → History → History → Type 0
+ExpiryReadsFor (Gained bytes chunks fresh) found after old new = arranges_first found ≡ false → IsLeanExpiry found after old new × ReadsOnly [] old new
+ExpiryReadsFor (Lost extents) found after old new = arranges_first found ≡ false → IsLeanExpiry found after old new × ReadsOnly [] old new
+ExpiryReadsFor Given found after old new = arranges_first found ≡ false → IsLeanExpiry found after old new × ReadsOnly [] old new
+ExpiryReadsFor (Figures owned free) found after old new = arranges_first found ≡ false → IsLeanExpiry found after old new × ReadsOnly [] old new
+ExpiryReadsFor (NoRoom counted free held) found after old new = arranges_first found ≡ false → IsLeanExpiry found after old new × ReadsOnly [] old new
+ExpiryReadsFor ByNumbers found after old new = TouchesNothing old new
+ExpiryReadsFor Shows found after old new = arranges_first found ≡ false → IsLeanExpiry found after old new × ReadsOnly [] old new
+ExpiryReadsFor Elsewhere found after old new = arranges_first found ≡ false → IsLeanExpiry found after old new × ReadsOnly [] old new
+
 abbrev pub ExpiryReads : Found → Found → History → History → Result Answer StoreFault → Type 0
-ExpiryReads found after old new (Ok (NothingRetained asked)) = TouchesNothing old new
-ExpiryReads found after old new (Ok answer) = arranges_first found ≡ false → IsLeanExpiry found after old new × ReadsOnly [] old new
-ExpiryReads found after old new (Err fault) = arranges_first found ≡ false → ReadsOnly [] old new
+ExpiryReads found after old new (Ok answer) = ExpiryReadsFor (kind_of answer) found after old new
+ExpiryReads found after old new (Err SourceFault) = arranges_first found ≡ false → ReadsOnly [] old new
+ExpiryReads found after old new (Err TargetFault) = arranges_first found ≡ false → ReadsOnly [] old new
+ExpiryReads found after old new (Err DiskFault) = arranges_first found ≡ false → ReadsOnly [] old new
+ExpiryReads found after old new (Err (Damaged damage)) = arranges_first found ≡ false → ReadsOnly [] old new
+ExpiryReads found after old new (Err OutOfMemory) = arranges_first found ≡ false → ReadsOnly [] old new
