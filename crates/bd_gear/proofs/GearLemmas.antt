@@ -1,8 +1,25 @@
 -- A gear from its digest, and the hash after one more byte.
-use Rattle.std.proofs.Common.{◌≡◌, ◌≢◌, ℕ, suc, ◌+◌, ◌-◌, ◌*◌, ◌/◌, ◌^◌, ◌<◌, ◌≤◌, List, sym, ◌∙◌, ap, arith, length, get_or, set, ⊎_elim, get_or-set_other, get_or-set_same}
+use Rattle.std.proofs.Common.{◌≡◌, ◌≢◌, ℕ, suc, ◌+◌, ◌-◌, ◌*◌, ◌/◌, ◌^◌, ◌<◌, ◌≤◌, List, [], ◌∷◌, ◌++◌, refl, sym, ◌∙◌, ap, arith, take, length, get_or, set, ⊎_elim, get_or-set_other, get_or-set_same}
 use Rattle.std.proofs.lemmas.Bool.{cases_lt}
+use Rattle.std.proofs.lemmas.List.{take_more}
 use Rattle.std.proofs.lemmas.Nat.{div-mul-add, pow_pos, pow-add}
 use Rattle.bd_model.specs.Chunks.{gear}
+
+one_more : (n : ℕ) (bytes front : List ℕ) → n < length bytes → take n bytes ≡ front → take (n + 1) bytes ≡ front ++ get_or bytes n 0 ∷ []
+one_more n bytes front lt is = take_more bytes n 0 lt ∙ ap (λ xs. xs ++ get_or bytes n 0 ∷ []) is
+
+-- the first eight of some bytes, one by one
+pub take_eight : (bytes : List ℕ) → 8 ≤ length bytes → take 8 bytes ≡
+    get_or bytes 0 0 ∷ get_or bytes 1 0 ∷ get_or bytes 2 0 ∷ get_or bytes 3 0 ∷ get_or bytes 4 0 ∷ get_or bytes 5 0 ∷ get_or bytes 6 0 ∷ get_or bytes 7 0 ∷ []
+take_eight bytes le =
+    one_more 7 bytes _ (omega arith)
+    (one_more 6 bytes _ (omega arith)
+    (one_more 5 bytes _ (omega arith)
+    (one_more 4 bytes _ (omega arith)
+    (one_more 3 bytes _ (omega arith)
+    (one_more 2 bytes _ (omega arith)
+    (one_more 1 bytes _ (omega arith)
+    (one_more 0 bytes [] (omega arith) refl)))))))
 
 -- one more entry of the table
 pub gears_more : (table : List ℕ) (byte at value : ℕ) → at ≡ byte → byte < length table → value ≡ gear byte →

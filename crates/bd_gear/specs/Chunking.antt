@@ -1,6 +1,10 @@
 -- A chunker, as contracts see it.
-use Rattle.std.specs.Prelude.{ℕ, Bool, ◌||◌, ◌&&◌, List, length, Option, Some, None, nat_lt, if◌then◌else◌}
+use Rattle.std.specs.Prelude.{ℕ, Bool, ◌||◌, ◌&&◌, List, map, length, Vec, Option, Some, None, nat_lt, if◌then◌else◌}
 use Rattle.bd_model.specs.Chunks.{Cut, chunk_len, is_decided}
+
+-- chunks as lists of bytes
+abbrev pub as_chunks : {Z : Type 0} → List (Vec ℕ Z) → List (List ℕ)
+as_chunks chunks = map (λ c. c.items) chunks
 
 pub record Chunking : Type 0 where
   -- the sizes that say where chunks end

@@ -1,8 +1,8 @@
 //! Streams cut in pieces of many lengths.
 ghost use Rattle.std.specs.Prelude.{◌≡◌, ℕ, ◌<◌, ◌≤◌, List, OnOk, IfOk, IsTrue, IsFalse, length};
 ghost use Rattle.bd_model.specs.Chunks.{Cut, chunks};
-ghost use Rattle.bd_plain.specs.Seen.{as_chunks};
 ghost use Rattle.bd_model.specs.State.{cut_of};
+ghost use Rattle.bd_gear.specs.Chunking.{as_chunks};
 ghost use Rattle.bd_gear.specs.Feeding.{HasFed};
 
 use crate::{Chunker, Gear};
@@ -78,15 +78,48 @@ fn gears_are_those_of_sha_256(rt: HostRuntime) -> Result<(), Fail> {
     Ok(())
 }
 
+// The lengths come from a second chunker: twenty lines of Python over its hashlib, which sum the window of each position
+// by the definition.
+#[test]
+fn a_stream_is_cut_where_the_hash_is_small(rt: HostRuntime) -> Result<(), Fail> {
+    let stream = mixed(rt.alloc(), 300)?;
+    let cases: [(u32, u32, &[usize]); 3] = [
+        (8, 4, &[21, 33, 11, 21, 9, 34, 11, 53, 22, 27, 31, 16, 11]),
+        (
+            1,
+            4,
+            &[
+                7, 14, 33, 11, 6, 15, 9, 1, 33, 11, 7, 46, 22, 27, 4, 27, 16, 11,
+            ],
+        ),
+        (8, 12, &[64, 64, 64, 64, 44]),
+    ];
+    for (min, bits, wanted) in cases.iter() {
+        let shape = Shape::new(64, 16, 4, *min, *bits, 64)?;
+        let mut lengths = Vec::new(rt.alloc());
+        for chunk in &cut_in_pieces(rt.alloc(), shape, &stream, 7)? {
+            lengths.push(chunk.len())?;
+        }
+        assert!(rt; lengths.as_slice() == *wanted);
+    }
+    Ok(())
+}
+
+// The counts come from the same program.
 #[test]
 fn pieces_make_no_difference(rt: HostRuntime) -> Result<(), Fail> {
     let stream = mixed(rt.alloc(), 300_000)?;
-    for (min, bits, max) in [(100, 0, 1_000), (5, 4, 40), (2_048, 13, 65_536)] {
+    for (min, bits, max, count) in [
+        (100, 0, 1_000, 3_000),
+        (5, 4, 40, 16_440),
+        (2_048, 13, 65_536, 35),
+    ] {
         let shape = Shape::new(4_096, 16, 4, min, bits, max)?;
-        let plain = bd_plain::chunks(rt.alloc(), &shape, &stream)?;
-        for piece in [1, 7, 4_096, 131_072] {
+        let whole = cut_in_pieces(rt.alloc(), shape, &stream, 131_072)?;
+        assert_eq!(rt; whole.len(), count, "at bits {bits}");
+        for piece in [1, 7, 4_096] {
             let found = cut_in_pieces(rt.alloc(), shape, &stream, piece)?;
-            assert!(rt; found == plain, "at bits {bits}, pieces of {piece}");
+            assert!(rt; found == whole, "at bits {bits}, pieces of {piece}");
         }
     }
     Ok(())

@@ -1,7 +1,7 @@
 use Rattle.std.proofs.Common.{arith, take, sym, ◌∙◌, ap, w64, ◌≤◌, length}
 use Rattle.std.specs.Int.{from_be_bytes}
 use Rattle.bd_model.specs.Chunks.{gear}
-use Rattle.bd_plain.proofs.PlainCutLemmas.{take_eight}
+use Rattle.bd_gear.proofs.GearLemmas.{take_eight}
 use Rattle.bd_gear.proofs.gear.gear_of.Goals as goal
 
 pub returns : goal.returns

@@ -1,6 +1,6 @@
 use Rattle.std.proofs.Common.{◌≡◌, ℕ, List, length}
 use Rattle.bd_model.specs.Chunks.{Cut}
-use Rattle.bd_plain.specs.Seen.{as_chunks}
+use Rattle.bd_gear.specs.Chunking.{as_chunks}
 use Rattle.bd_gear.specs.Feeding.{HasFed}
 use Rattle.bd_gear.proofs.tests.take_chunks.Given as goal
 

@@ -1,4 +1,0 @@
-pub mod PlainCutLemmas
-mod PlainLemmas
-mod PlainRoomLemmas
-mod PlainStateLemmas

@@ -1,3 +1,0 @@
-//! Worked examples of the definitions.
-mod chunks;
-mod worked;
