@@ -36,7 +36,7 @@ pub record CountsStrays (files : FileMap) (name : List ℕ) (before now : ℕ) :
 abbrev pub without : List ℕ → List (List ℕ) → List (List ℕ)
 without name names = filter (λ other. not (bytes_eq other name)) names
 
--- how the unfinished names go on where this one is begun; where that failed it may be among them
+-- how the unfinished names go on where this one is begun or filled; where that failed it may be among them
 pub record Begins {T E : Type 0} (name : List ℕ) (old new : List (List ℕ)) (result : Result T E) : Type 0 where
   pub ok : OnOk result (new ≡ name ∷ old)
   pub failed : OnErr result ((new ≡ old) ⊎ (new ≡ name ∷ old))

@@ -22,7 +22,7 @@ pub trait Files {
     /// What is under each name, where they tell.
     ghost files: { Self → FileMap };
 
-    /// Which names were begun and aren't finished, where they tell.
+    /// Which names were begun or filled and aren't finished since, where they tell.
     ghost unfinished: { Self → List (List ℕ) };
 
     /// How often a fetch has failed, up to 2^64 - 1.
@@ -56,7 +56,8 @@ pub trait Files {
         ensures others { tells → ChangesOnly name.now (files self.old) (files self.new) }
         ensures unfinished { tells → Begins name.now (unfinished self.old) (unfinished self.new) result };
 
-    /// Writes over bytes of a file that is there, from place `at` on. What is under the name after `Failed` is unknown.
+    /// Writes over bytes of a file that is there, from place `at` on, and makes it unfinished again. What is under the name
+    /// after `Failed` is unknown.
     fn put(&mut self, name: &Name, at: u64, bytes: &[u8]) -> Result<(), Failed>
         requires there { tells → (old : List ℕ) × Holds (files self.old) name.now old × (at + length bytes.now ≤ length old) }
         ensures cause { HasCause (target_faults self.old) (target_faults self.new) result }
@@ -64,7 +65,7 @@ pub trait Files {
         ensures strays { tells → strays self.new ≡ strays self.old }
         ensures ok { OnOk result (tells → (old : List ℕ) → Holds (files self.old) name.now old → files self.new ≡ map.insert (files self.old) name.now (overwritten old at bytes.now)) }
         ensures others { tells → ChangesOnly name.now (files self.old) (files self.new) }
-        ensures unfinished { tells → unfinished self.new ≡ unfinished self.old };
+        ensures unfinished { tells → Begins name.now (unfinished self.old) (unfinished self.new) result };
 
     /// Makes sure of a file that was begun and filled. After `Failed` it is as unfinished as before.
     fn finish(&mut self, name: &Name) -> Result<(), Failed>

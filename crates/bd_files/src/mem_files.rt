@@ -210,15 +210,24 @@ impl Files for MemFiles {
         ensures strays { self.new.strays ≡ self.old.strays }
         ensures ok { OnOk result ((old : List ℕ) → Holds self.old.files name.now old → self.new.files ≡ map.insert self.old.files name.now (overwritten old at bytes.now)) }
         ensures others { ChangesOnly name.now self.old.files self.new.files }
-        ensures unfinished { self.new.unfinished ≡ self.old.unfinished }
+        ensures unfinished { Begins name.now self.old.unfinished self.new.unfinished result }
 
-        // It fails where it was set to, or where no room can be counted as refused, and then changes no file.
+        // It fails where it was set to, or where no room is given, and then changes no file.
         ensures fails { IsErr result ↔ (FailsNext self.old.targets ⊎ Rose self.old.refused self.new.refused) }
         ensures err { OnErr result (self.new.files ≡ self.old.files) }
         ensures counts { Counts self.old.targets self.new.targets result }
-        ensures stays { self.new ≡ record self.old { files = self.new.files; targets = self.new.targets } }
+        ensures refused { CountsRefused self.old.targets self.old.refused self.new.refused result }
+        ensures stays { self.new ≡ record self.old { files = self.new.files; unfinished = self.new.unfinished; targets = self.new.targets; refused = self.new.refused } }
     {
         if self.targets.count() || self.refused == u64::MAX {
+            return Err(self.targets.fail());
+        }
+        if self
+            .unfinished
+            .add(self.alloc, name.text().as_bytes())
+            .is_err()
+        {
+            self.refused += 1;
             return Err(self.targets.fail());
         }
         self.table
