@@ -21,14 +21,14 @@ use Rattle.bd_model.proofs.ArrangeLemmas.{one_step_of_arranging}
 use Rattle.bd_model.proofs.ListLemmas.{left_and}
 use Rattle.bd_model.proofs.RowLemmas.{no_chunks, rows_over}
 use Rattle.bd_category.specs.Laws.{written_records}
-use Rattle.bd_catalog.specs.Catalogue.{Catalogue, OpenEntry, bytes_of_rows, oldest_in}
+use Rattle.bd_roll.specs.Catalogue.{Catalogue, OpenEntry, bytes_of_rows, oldest_in}
 use Rattle.bd_catalog.specs.Rows.{open_row}
-use Rattle.bd_catalog.specs.Rules.{active_holds, ascends}
-use Rattle.bd_catalog.specs.Splitting.{MaySplit, MaySplits, SplitEntry, after_split, after_splits, last_rows}
+use Rattle.bd_roll.specs.Rules.{active_holds, ascends}
+use Rattle.bd_roll.specs.Splitting.{MaySplit, MaySplits, SplitEntry, after_split, after_splits, last_rows}
 use Rattle.bd_catalog.specs.Standing.{BeginWith, HasActives}
-use Rattle.bd_catalog.proofs.Expiring.{ascends_cons, ascends_first}
-use Rattle.bd_catalog.proofs.InPlace.{Named}
-use Rattle.bd_catalog.proofs.Obeying.{open_row_of, row_of as row_rule, IsBounded}
+use Rattle.bd_roll.proofs.Expiring.{ascends_cons, ascends_first}
+use Rattle.bd_roll.proofs.InPlace.{Named}
+use Rattle.bd_roll.proofs.Obeying.{open_row_of, row_of as row_rule, IsBounded}
 use Rattle.bd_volume.specs.Holding.{HoldsRow, HoldsRows, group_at, groups_over}
 use Rattle.bd_volume.proofs.StoredChunks.{Bounded, stored_of}
 use Rattle.bd_arrange.specs.Cuts.{archived_records, bytes_in, kept_records, records_in}

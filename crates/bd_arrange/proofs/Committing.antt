@@ -21,16 +21,16 @@ use Rattle.bd_space.specs.Allotment.{Allotment, free_count, held_count}
 use Rattle.bd_space.proofs.Exact.{taken_count-exact}
 use Rattle.bd_space.proofs.Uses.{counts-all}
 use Rattle.bd_catalog.specs.Agreement.{Agrees, InExtents}
-use Rattle.bd_catalog.specs.Catalogue.{Catalogue, OpenEntry, all_extents, bytes_of_rows}
+use Rattle.bd_roll.specs.Catalogue.{Catalogue, OpenEntry, all_extents, bytes_of_rows}
 use Rattle.bd_catalog.specs.Opening.{Found}
-use Rattle.bd_catalog.specs.Rules.{ascends, obeys}
-use Rattle.bd_catalog.specs.Splitting.{FitsArrange, KeptEntry, MaySplits, SplitEntry, after_arrange, after_splits, kept_of, last_extents, last_rows}
+use Rattle.bd_roll.specs.Rules.{ascends, obeys}
+use Rattle.bd_roll.specs.Splitting.{FitsArrange, KeptEntry, MaySplits, SplitEntry, after_arrange, after_splits, kept_of, last_extents, last_rows}
 use Rattle.bd_catalog.specs.Standing.{BeginWith, StandsFor, Stands}
 use Rattle.bd_catalog.specs.Steps.{HasCommitted, IsMade, LeavesEither, committed}
 use Rattle.bd_catalog.proofs.Agreeing.{begin_with_agrees}
 use Rattle.bd_catalog.proofs.Committing.{number-small}
-use Rattle.bd_catalog.proofs.Obeying.{IsBounded}
-use Rattle.bd_catalog.proofs.OneArranging.{arrange_fits}
+use Rattle.bd_roll.proofs.Obeying.{IsBounded}
+use Rattle.bd_roll.proofs.OneArranging.{arrange_fits}
 use Rattle.bd_catalog.proofs.Staged.{AreUnnamed, agrees_staged, either_stands, staged_commit, staged_stands, staging}
 use Rattle.bd_catalog.proofs.Standing.{found_once, halves_agree}
 use Rattle.bd_catalog.proofs.StandingNamed.{stands_settled}

@@ -9,7 +9,7 @@ use Rattle.bd_model.specs.Sizes.{Sizes}
 use Rattle.bd_model.specs.declared.layout.CategoryRow.{CategoryRow}
 use Rattle.bd_model.specs.declared.layout.Phase.TheVariants.{Waiting}
 use Rattle.bd_model.proofs.ListLemmas.{and-false, filter-all, filter-numbers, filter-numbers_none, numbers-split}
-use Rattle.bd_catalog.specs.Catalogue.{OpenEntry}
+use Rattle.bd_roll.specs.Catalogue.{OpenEntry}
 use Rattle.bd_catalog.specs.Rows.{open_row}
 use Rattle.bd_volume.specs.Holding.{Group, HoldsRows, group_at, groups_over}
 use Rattle.bd_arrange.specs.Turns.{is_due}

@@ -9,7 +9,7 @@ use Rattle.bd_extio.specs.Ranges.{InOwner}
 use Rattle.bd_extio.proofs.Within.{in_wider}
 use Rattle.bd_space.specs.Allotment.{Allotment, IsFree}
 use Rattle.bd_space.proofs.Kept.{still_free}
-use Rattle.bd_catalog.specs.Catalogue.{bytes_of_rows}
+use Rattle.bd_roll.specs.Catalogue.{bytes_of_rows}
 use Rattle.bd_catalog.specs.Agreement.{InFree}
 use Rattle.bd_volume.specs.Filled.{Filled}
 use Rattle.bd_volume.specs.Growing.{AddsExtents, CanGrow, Takes}

@@ -35,19 +35,19 @@ use Rattle.bd_space.specs.Allotment.{Allotment, free_count, IsTaken, TakenExactl
 use Rattle.bd_space.specs.declared.space.Use.TheVariants.{Taken}
 use Rattle.bd_space.proofs.Distinct.{IsDistinct-append, distinct_apart, distinct_left, distinct_right}
 use Rattle.bd_catalog.specs.Agreement.{Agrees}
-use Rattle.bd_catalog.specs.Catalogue.{Catalogue, OpenEntry, VersionEntry, VolumeEntry, all_extents, bytes_of_rows, oldest_in, starts_of}
+use Rattle.bd_roll.specs.Catalogue.{Catalogue, OpenEntry, VersionEntry, VolumeEntry, all_extents, bytes_of_rows, oldest_in, starts_of}
 use Rattle.bd_catalog.specs.Damages.{BreaksRule, header_holds, header_places}
 use Rattle.bd_catalog.specs.Opening.{Found}
 use Rattle.bd_catalog.specs.Rows.{RowPlace, Spot, open_row, row_spots}
-use Rattle.bd_catalog.specs.Rules.{active_holds, all_differ, ascends, fits_eight, obeys, row_holds, starts_hold, volume_holds}
-use Rattle.bd_catalog.specs.Splitting.{KeptEntry, MaySplit, MaySplits, SplitEntry, after_split, after_splits, kept_extents, kept_of, last_extents, last_rows}
+use Rattle.bd_roll.specs.Rules.{active_holds, all_differ, ascends, fits_eight, obeys, row_holds, starts_hold, volume_holds}
+use Rattle.bd_roll.specs.Splitting.{KeptEntry, MaySplit, MaySplits, SplitEntry, after_split, after_splits, kept_extents, kept_of, last_extents, last_rows}
 use Rattle.bd_catalog.specs.Standing.{BeginWith}
-use Rattle.bd_catalog.proofs.Expiring.{AscendsFrom, ascends_first}
-use Rattle.bd_catalog.proofs.Fitting.{all_differ-once}
-use Rattle.bd_catalog.proofs.InPlace.{starts}
-use Rattle.bd_catalog.proofs.Obeying.{IsBounded, count_in_volume, distinct_of, open_ascend, rules_of}
-use Rattle.bd_catalog.proofs.OneArranging.{splits_rules}
-use Rattle.bd_catalog.proofs.Owning.{distinct_ascending, in_categories, waiting_volume}
+use Rattle.bd_roll.proofs.Expiring.{AscendsFrom, ascends_first}
+use Rattle.bd_roll.proofs.Fitting.{all_differ-once}
+use Rattle.bd_roll.proofs.InPlace.{starts}
+use Rattle.bd_roll.proofs.Obeying.{IsBounded, count_in_volume, distinct_of, open_ascend, rules_of}
+use Rattle.bd_roll.proofs.OneArranging.{splits_rules}
+use Rattle.bd_roll.proofs.Owning.{distinct_ascending, in_categories, waiting_volume}
 use Rattle.bd_catalog.proofs.StandingFound.{Obeys, obeys-each, opened-found}
 use Rattle.bd_recipe.specs.Reading.{IfDamaged}
 use Rattle.bd_recipe.specs.declared.fault.ReadFault.{ReadFault}

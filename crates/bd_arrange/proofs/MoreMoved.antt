@@ -14,7 +14,7 @@ use Rattle.bd_extio.specs.Ranges.{InOwner}
 use Rattle.bd_extio.proofs.Within.{in_wider}
 use Rattle.bd_space.specs.Allotment.{Allotment, IsTaken}
 use Rattle.bd_space.proofs.Uses.{taken_still}
-use Rattle.bd_catalog.specs.Catalogue.{bytes_of_rows}
+use Rattle.bd_roll.specs.Catalogue.{bytes_of_rows}
 use Rattle.bd_volume.specs.Copies.{InSection}
 use Rattle.bd_volume.specs.Filled.{Filled}
 use Rattle.bd_volume.specs.Growing.{AddsExtents, AreCounted, CanGrow, HasFree, IsSource, NoneLater, records_on}

@@ -22,13 +22,13 @@ use Rattle.bd_model.specs.declared.shape.Shape.{Shape}
 use Rattle.bd_model.proofs.ChunkListLemmas.{in_some}
 use Rattle.bd_model.proofs.ListLemmas.{left_and, right_and}
 use Rattle.bd_model.proofs.PlaceLemmas.{a_version_uses_a_front}
-use Rattle.bd_catalog.specs.Catalogue.{Catalogue, OpenEntry}
+use Rattle.bd_roll.specs.Catalogue.{Catalogue, OpenEntry}
 use Rattle.bd_catalog.specs.Damages.{BreaksRule, header_holds}
 use Rattle.bd_catalog.specs.Opening.{Found, opened}
 use Rattle.bd_catalog.specs.Rows.{RowPlace, Spot, open_row, records_at, row_bytes, row_end, row_spots, spots_from}
 use Rattle.bd_catalog.specs.Sound.{length_holds, part_holds, part_records, stored_holds}
 use Rattle.bd_catalog.specs.Standing.{StandsFor}
-use Rattle.bd_catalog.proofs.Obeying.{bounded_of}
+use Rattle.bd_roll.proofs.Obeying.{bounded_of}
 use Rattle.bd_catalog.proofs.Standing.{Shows, stands-shows}
 use Rattle.bd_recipe.proofs.Standing.{version-bounded}
 use Rattle.bd_volume.specs.Holding.{Group, HoldsLayout, chunks_in, groups_over}

@@ -13,7 +13,7 @@ use Rattle.bd_extio.specs.Owned.{Overwrites}
 use Rattle.bd_extio.specs.Ranges.{InOwner}
 use Rattle.bd_extio.proofs.Places.{length-owner_bytes}
 use Rattle.bd_space.specs.Allotment.{Allotment}
-use Rattle.bd_catalog.specs.Catalogue.{bytes_of_rows}
+use Rattle.bd_roll.specs.Catalogue.{bytes_of_rows}
 use Rattle.bd_catalog.specs.Standing.{BeginWith}
 use Rattle.bd_catalog.proofs.Agreeing.{begin_with_more}
 use Rattle.bd_volume.specs.Copies.{AreApart, bytes_on, InSection}

@@ -19,13 +19,13 @@ use Rattle.bd_model.proofs.HistoryLemmas.{newest-grown}
 use Rattle.bd_model.proofs.LawLemmas.{a_backup_leaves_its_reserve, a_new_version_splits_the_categories}
 use Rattle.bd_model.proofs.ListLemmas.{left_and, not_nil}
 use Rattle.bd_model.proofs.RowLemmas.{rows_describe_the_volume, rows_over, rows_over-same}
-use Rattle.bd_catalog.specs.Catalogue.{Catalogue, OpenEntry, VolumeEntry, active_extents, bytes_of_rows, oldest_in}
-use Rattle.bd_catalog.specs.Rules.{active_holds}
-use Rattle.bd_catalog.specs.Splitting.{MaySplit, SplitEntry, after_split, extents_at, last_extents, last_rows, put_in_place}
+use Rattle.bd_roll.specs.Catalogue.{Catalogue, OpenEntry, VolumeEntry, active_extents, bytes_of_rows, oldest_in}
+use Rattle.bd_roll.specs.Rules.{active_holds}
+use Rattle.bd_roll.specs.Splitting.{MaySplit, SplitEntry, after_split, extents_at, last_extents, last_rows, put_in_place}
 use Rattle.bd_catalog.specs.Standing.{BeginWith, HasActives}
-use Rattle.bd_catalog.proofs.InPlace.{at_other, put_differ, same_or_not, starts}
+use Rattle.bd_roll.proofs.InPlace.{at_other, put_differ, same_or_not, starts}
 use Rattle.bd_catalog.proofs.StandingLists.{map-range_with_len}
-use Rattle.bd_catalog.proofs.Obeying.{count_in_category}
+use Rattle.bd_roll.proofs.Obeying.{count_in_category}
 use Rattle.bd_arrange.specs.Turns.{taken_by}
 use Rattle.bd_arrange.proofs.LastVolume.{extents-grown, last_rows-are, rows-grown, rows_of}
 use Rattle.bd_arrange.proofs.OpenRows.{at_put, put_rows}

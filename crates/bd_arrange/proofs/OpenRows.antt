@@ -10,9 +10,9 @@ use Rattle.bd_model.specs.declared.layout.CategoryRow.{CategoryRow}
 use Rattle.bd_model.proofs.RowLemmas.{rows_over}
 use Rattle.bd_model.proofs.ListLemmas.{not_nil}
 use Rattle.bd_space.proofs.Distinct.{distinct_head, distinct_tail}
-use Rattle.bd_catalog.specs.Catalogue.{OpenEntry}
-use Rattle.bd_catalog.specs.Splitting.{extents_at, put_in_place}
-use Rattle.bd_catalog.proofs.InPlace.{Named, among, at_head, at_later, at_none, put_head, put_later, same_or_not, starts}
+use Rattle.bd_roll.specs.Catalogue.{OpenEntry}
+use Rattle.bd_roll.specs.Splitting.{extents_at, put_in_place}
+use Rattle.bd_roll.proofs.InPlace.{Named, among, at_head, at_later, at_none, put_head, put_later, same_or_not, starts}
 use Rattle.bd_volume.proofs.Held.{one_entry}
 use Rattle.bd_arrange.proofs.Splits.{one_starting, starting}
 

@@ -21,13 +21,13 @@ use Rattle.bd_model.proofs.LawLemmas.{closed_volumes_grow, from_start, owned-sam
 use Rattle.bd_model.proofs.ListLemmas.{left_and, right_and}
 use Rattle.bd_model.proofs.RecordLemmas.{length-records}
 use Rattle.bd_model.proofs.RowLemmas.{rows_describe_the_volume, rows_over-same}
-use Rattle.bd_catalog.specs.Catalogue.{Catalogue, VolumeEntry, active_extents, bytes_of_rows, oldest_in, volume_extents}
-use Rattle.bd_catalog.specs.Rules.{obeys, volume_holds}
-use Rattle.bd_catalog.specs.Splitting.{SplitEntry, after_splits, last_extents, last_rows}
+use Rattle.bd_roll.specs.Catalogue.{Catalogue, VolumeEntry, active_extents, bytes_of_rows, oldest_in, volume_extents}
+use Rattle.bd_roll.specs.Rules.{obeys, volume_holds}
+use Rattle.bd_roll.specs.Splitting.{SplitEntry, after_splits, last_extents, last_rows}
 use Rattle.bd_catalog.specs.Standing.{BeginWith, HasActives, HasNumbers, HasReserve, HasVolumes}
-use Rattle.bd_catalog.proofs.InPlace.{same_or_not, starts}
-use Rattle.bd_catalog.proofs.Obeying.{count_in_volume, open_ascend, rules_of}
-use Rattle.bd_catalog.proofs.Owning.{distinct_ascending}
+use Rattle.bd_roll.proofs.InPlace.{same_or_not, starts}
+use Rattle.bd_roll.proofs.Obeying.{count_in_volume, open_ascend, rules_of}
+use Rattle.bd_roll.proofs.Owning.{distinct_ascending}
 use Rattle.bd_catalog.proofs.StandingFound.{obeys-each}
 use Rattle.bd_catalog.proofs.StandingLists.{map-range_with_len}
 use Rattle.bd_catalog.specs.Rows.{open_row}

@@ -8,7 +8,7 @@ use Rattle.bd_space.specs.Allotment.{Allotment, IsTaken, Marks, TakenExactly, fr
 use Rattle.bd_space.specs.declared.space.Use.TheVariants.{Free}
 use Rattle.bd_space.proofs.Exact.{TakenExactly-left, TakenExactly-permutation}
 use Rattle.bd_space.proofs.Uses.{taken_still}
-use Rattle.bd_catalog.specs.Splitting.{KeptEntry, kept_extents}
+use Rattle.bd_roll.specs.Splitting.{KeptEntry, kept_extents}
 use Rattle.bd_volume.specs.Growing.{Takes}
 use Rattle.bd_volume.proofs.Taking.{takes_exactly}
 use Rattle.bd_arrange.specs.Desks.{KeepsExtents, OnDesk, new_extents}

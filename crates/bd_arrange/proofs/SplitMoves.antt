@@ -22,8 +22,8 @@ use Rattle.bd_space.specs.Allotment.{Allotment, IsFree, IsTaken}
 use Rattle.bd_space.specs.declared.space.Use.TheVariants.{Free}
 use Rattle.bd_space.proofs.Uses.{taken_still}
 use Rattle.bd_catalog.specs.Agreement.{InExtents, InFree}
-use Rattle.bd_catalog.specs.Catalogue.{OpenEntry}
-use Rattle.bd_catalog.specs.Rules.{active_holds, row_holds}
+use Rattle.bd_roll.specs.Catalogue.{OpenEntry}
+use Rattle.bd_roll.specs.Rules.{active_holds, row_holds}
 use Rattle.bd_catalog.proofs.Agreeing.{in_extents}
 use Rattle.bd_volume.specs.Filled.{Filled}
 use Rattle.bd_volume.specs.Growing.{AddsExtents, AreCounted, CanGrow, Takes}

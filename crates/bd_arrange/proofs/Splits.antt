@@ -11,11 +11,11 @@ use Rattle.bd_model.specs.Sizes.{Sizes}
 use Rattle.bd_model.specs.declared.layout.CategoryRow.{CategoryRow}
 use Rattle.bd_model.proofs.ListLemmas.{left_and, right_and}
 use Rattle.bd_space.proofs.Distinct.{distinct_head, distinct_tail}
-use Rattle.bd_catalog.specs.Catalogue.{Catalogue, OpenEntry, VersionEntry, VolumeEntry, all_extents, bytes_of_rows, oldest_in}
-use Rattle.bd_catalog.specs.Rules.{ascends}
-use Rattle.bd_catalog.specs.Splitting.{MaySplit, MaySplits, SplitEntry, after_split, after_splits, last_extents, last_grown, last_rows, put_in_place}
-use Rattle.bd_catalog.proofs.InPlace.{first, later, put_keeps, starts}
-use Rattle.bd_catalog.proofs.Owning.{in_categories}
+use Rattle.bd_roll.specs.Catalogue.{Catalogue, OpenEntry, VersionEntry, VolumeEntry, all_extents, bytes_of_rows, oldest_in}
+use Rattle.bd_roll.specs.Rules.{ascends}
+use Rattle.bd_roll.specs.Splitting.{MaySplit, MaySplits, SplitEntry, after_split, after_splits, last_extents, last_grown, last_rows, put_in_place}
+use Rattle.bd_roll.proofs.InPlace.{first, later, put_keeps, starts}
+use Rattle.bd_roll.proofs.Owning.{in_categories}
 use Rattle.bd_volume.proofs.RowsMore.{bytes-rows_more}
 
 -- ---- one more

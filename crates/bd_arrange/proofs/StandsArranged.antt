@@ -25,15 +25,15 @@ use Rattle.bd_model.proofs.LawLemmas.{closed_volumes_grow}
 use Rattle.bd_model.proofs.ListLemmas.{left_and, right_and}
 use Rattle.bd_model.proofs.MarkLemmas.{marks_tell_chunks_apart}
 use Rattle.bd_model.proofs.StepLemmas.{backups_grow_the_history}
-use Rattle.bd_catalog.specs.Catalogue.{Catalogue, all_extents}
+use Rattle.bd_roll.specs.Catalogue.{Catalogue, all_extents}
 use Rattle.bd_catalog.specs.Opening.{Found, opened}
 use Rattle.bd_catalog.specs.Rows.{open_row}
-use Rattle.bd_catalog.specs.Rules.{ascends, obeys, phase_holds}
-use Rattle.bd_catalog.specs.Splitting.{AreSplits, SplitEntry, after_splits, kept_of, last_rows}
+use Rattle.bd_roll.specs.Rules.{ascends, obeys, phase_holds}
+use Rattle.bd_roll.specs.Splitting.{AreSplits, SplitEntry, after_splits, kept_of, last_rows}
 use Rattle.bd_catalog.specs.Standing.{HasActives, HasNumbers, HasReserve, HasVolumes, StandsFor}
-use Rattle.bd_catalog.proofs.Obeying.{bounded_of}
-use Rattle.bd_catalog.proofs.OneArranging.{added_by, arrange_fits, one_arranging}
-use Rattle.bd_catalog.proofs.Owning.{fit_splits}
+use Rattle.bd_roll.proofs.Obeying.{bounded_of}
+use Rattle.bd_roll.proofs.OneArranging.{added_by, arrange_fits, one_arranging}
+use Rattle.bd_roll.proofs.Owning.{fit_splits}
 use Rattle.bd_catalog.proofs.Standing.{Shows, stands-shows, stands_by_parts}
 use Rattle.bd_catalog.proofs.StandingFound.{numbers-each, obeys-each, opened-found}
 use Rattle.bd_catalog.proofs.StandingOwned.{owned-stands}

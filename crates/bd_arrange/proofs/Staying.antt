@@ -15,12 +15,12 @@ use Rattle.bd_space.specs.declared.space.Use.TheVariants.{Free}
 use Rattle.std.proofs.lemmas.Option.{slice_get_within}
 use Rattle.bd_space.proofs.Distinct.{distinct_apart, distinct_left, distinct_right}
 use Rattle.bd_catalog.specs.Agreement.{InExtents}
-use Rattle.bd_catalog.specs.Catalogue.{Catalogue, OpenEntry, VersionEntry, VolumeEntry, all_extents, bytes_of_rows}
+use Rattle.bd_roll.specs.Catalogue.{Catalogue, OpenEntry, VersionEntry, VolumeEntry, all_extents, bytes_of_rows}
 use Rattle.bd_catalog.specs.Damages.{header_holds}
 use Rattle.bd_catalog.specs.Opening.{Found}
 use Rattle.bd_catalog.specs.Rows.{open_row, records_at, row_bytes, row_end, row_spots, spots_from}
-use Rattle.bd_catalog.specs.Rules.{obeys}
-use Rattle.bd_catalog.specs.Splitting.{kept_extents, last_extents, last_rows}
+use Rattle.bd_roll.specs.Rules.{obeys}
+use Rattle.bd_roll.specs.Splitting.{kept_extents, last_extents, last_rows}
 use Rattle.bd_catalog.specs.Standing.{BeginWith}
 use Rattle.bd_catalog.proofs.Agreeing.{begin_with_agrees, in_extents, one_extent, owners_apart}
 use Rattle.bd_volume.specs.Filled.{Filled}

@@ -7,10 +7,10 @@ use Rattle.std.proofs.lemmas.List.Concat.{flat_map-append}
 use Rattle.bd_model.specs.Extents.{owner_bytes}
 use Rattle.bd_model.specs.Room.{up}
 use Rattle.bd_category.specs.Laws.{written_records}
-use Rattle.bd_catalog.specs.Catalogue.{Catalogue, OpenEntry, bytes_of_rows, oldest_in}
-use Rattle.bd_catalog.specs.Splitting.{SplitEntry, after_split, after_splits, last_extents, last_rows}
+use Rattle.bd_roll.specs.Catalogue.{Catalogue, OpenEntry, bytes_of_rows, oldest_in}
+use Rattle.bd_roll.specs.Splitting.{SplitEntry, after_split, after_splits, last_extents, last_rows}
 use Rattle.bd_catalog.specs.Standing.{BeginWith}
-use Rattle.bd_catalog.proofs.InPlace.{starts}
+use Rattle.bd_roll.proofs.InPlace.{starts}
 use Rattle.bd_arrange.specs.Cuts.{bytes_in}
 use Rattle.bd_arrange.specs.Desks.{IsToMove, OnDesk}
 use Rattle.bd_arrange.specs.Turns.{Ground, IsKeptOf, IsLeft, IsSplit, IsToSplit, Turns, archived_bytes, archived_on, grown_bytes, kept_on, taken_by}

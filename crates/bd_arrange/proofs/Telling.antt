@@ -16,7 +16,7 @@ use Rattle.bd_model.specs.declared.damage.Damage.{Damage}
 use Rattle.bd_model.specs.declared.damage.Damage.TheVariants.{Row}
 use Rattle.bd_model.specs.declared.damage.Owner.TheVariants.{Active}
 use Rattle.bd_model.specs.declared.layout.RecipeEntry.{RecipeEntry}
-use Rattle.bd_catalog.specs.Catalogue.{Catalogue, OpenEntry}
+use Rattle.bd_roll.specs.Catalogue.{Catalogue, OpenEntry}
 use Rattle.bd_catalog.specs.Damages.{IsRecordOf, header_holds, header_places}
 use Rattle.bd_catalog.specs.Rows.{RowPlace, Spot, first_spots, open_row, past, records_at, row_bytes, row_spots, spot_in}
 use Rattle.bd_volume.specs.Headers.{IsRefused}

@@ -12,7 +12,7 @@ use Rattle.bd_model.specs.Sizes.{Sizes}
 use Rattle.bd_model.specs.declared.layout.RecipeEntry.{RecipeEntry}
 use Rattle.bd_model.proofs.ChunkListLemmas.{filter-within}
 use Rattle.bd_category.specs.Laws.{written_records}
-use Rattle.bd_catalog.specs.Catalogue.{OpenEntry}
+use Rattle.bd_roll.specs.Catalogue.{OpenEntry}
 use Rattle.bd_catalog.specs.Rows.{open_row}
 use Rattle.bd_volume.specs.Holding.{Group, HoldsRow}
 use Rattle.bd_volume.proofs.MappedLists.{filter_mapped}

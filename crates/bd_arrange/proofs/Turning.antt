@@ -12,10 +12,10 @@ use Rattle.bd_model.proofs.ListLemmas.{right_and}
 use Rattle.bd_model.proofs.RoomLemmas.{up-enough}
 use Rattle.bd_extio.specs.Ranges.{AreExtents}
 use Rattle.bd_extio.proofs.Places.{length-owner_bytes}
-use Rattle.bd_catalog.specs.Rules.{active_holds, row_holds}
+use Rattle.bd_roll.specs.Rules.{active_holds, row_holds}
 use Rattle.bd_volume.specs.Filled.{Filled}
 use Rattle.bd_model.specs.declared.layout.RecipeEntry.{RecipeEntry}
-use Rattle.bd_catalog.specs.Catalogue.{OpenEntry, bytes_of_rows}
+use Rattle.bd_roll.specs.Catalogue.{OpenEntry, bytes_of_rows}
 use Rattle.bd_category.specs.Laws.{written_records}
 use Rattle.bd_volume.specs.Growing.{records_on}
 use Rattle.bd_arrange.specs.Cuts.{TellsApart, bytes_in}

@@ -13,7 +13,7 @@ use Rattle.bd_model.specs.declared.layout.RecipeEntry.{RecipeEntry}
 use Rattle.bd_model.proofs.ListLemmas.{left_and, right_and}
 use Rattle.bd_category.specs.Laws.{written_records}
 use Rattle.bd_category.specs.Records.{record_with}
-use Rattle.bd_catalog.specs.Catalogue.{OpenEntry}
+use Rattle.bd_roll.specs.Catalogue.{OpenEntry}
 use Rattle.bd_catalog.specs.Damages.{header_holds}
 use Rattle.bd_catalog.specs.Rows.{RowPlace, open_row, records_at, row_bytes, row_end, row_spots, spots_from}
 use Rattle.bd_catalog.specs.Sound.{length_holds}

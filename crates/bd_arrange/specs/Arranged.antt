@@ -11,10 +11,10 @@ use Rattle.bd_model.specs.declared.layout.Phase.TheVariants.{Settled}
 use Rattle.bd_model.specs.declared.layout.RecipeEntry.{RecipeEntry}
 use Rattle.bd_model.specs.declared.shape.Shape.{Shape}
 use Rattle.bd_space.specs.Allotment.{Allotment, extent_count, TakenExactly}
-use Rattle.bd_catalog.specs.Catalogue.{Catalogue, OpenEntry, all_extents}
+use Rattle.bd_roll.specs.Catalogue.{Catalogue, OpenEntry, all_extents}
 use Rattle.bd_catalog.specs.Opening.{Found, opened}
 use Rattle.bd_catalog.specs.Rows.{open_row}
-use Rattle.bd_catalog.specs.Splitting.{SplitEntry, after_arrange, after_splits, kept_of, last_rows}
+use Rattle.bd_roll.specs.Splitting.{SplitEntry, after_arrange, after_splits, kept_of, last_rows}
 use Rattle.bd_catalog.specs.Standing.{Stands, StandsFor}
 use Rattle.bd_recipe.specs.Reading.{recipe_found}
 use Rattle.bd_recipe.specs.declared.fault.ReadFault.{ReadFault}

@@ -14,7 +14,7 @@ use Rattle.bd_category.specs.declared.fault.CategoryFault.{CategoryFault}
 use Rattle.bd_category.specs.declared.fault.CategoryFault.TheVariants.{DiskFault as RecordFault, Damaged as BadRecord}
 use Rattle.bd_recipe.specs.declared.fault.ReadFault.{ReadFault}
 use Rattle.bd_recipe.specs.declared.fault.ReadFault.TheVariants.{DiskFault, Damaged}
-use Rattle.bd_catalog.specs.Catalogue.{Catalogue, OpenEntry}
+use Rattle.bd_roll.specs.Catalogue.{Catalogue, OpenEntry}
 use Rattle.bd_catalog.specs.Damages.{IsSeen, header_places}
 use Rattle.bd_catalog.specs.Rows.{RowPlace, open_row, records_at, row_spots, spot_in}
 use Rattle.bd_volume.specs.Growing.{AreCounted}

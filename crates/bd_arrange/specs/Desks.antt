@@ -9,9 +9,9 @@ use Rattle.bd_model.specs.declared.layout.RecipeEntry.{RecipeEntry}
 use Rattle.bd_category.specs.Laws.{written_records}
 use Rattle.bd_extio.specs.Ranges.{AreExtents, InOwner}
 use Rattle.bd_space.specs.Allotment.{Allotment, extent_count, IsTaken, free_count, held_count, TakenExactly}
-use Rattle.bd_catalog.specs.Catalogue.{OpenEntry, bytes_of_rows}
-use Rattle.bd_catalog.specs.Rules.{active_holds}
-use Rattle.bd_catalog.specs.Splitting.{KeptEntry, SplitEntry, kept_extents, kept_of}
+use Rattle.bd_roll.specs.Catalogue.{OpenEntry, bytes_of_rows}
+use Rattle.bd_roll.specs.Rules.{active_holds}
+use Rattle.bd_roll.specs.Splitting.{KeptEntry, SplitEntry, kept_extents, kept_of}
 use Rattle.bd_catalog.specs.Agreement.{InFree}
 use Rattle.bd_volume.specs.Copies.{AreApart}
 use Rattle.bd_volume.specs.Filled.{Filled}

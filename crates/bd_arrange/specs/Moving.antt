@@ -7,8 +7,8 @@ use Rattle.bd_model.specs.declared.layout.CategoryRow.{CategoryRow}
 use Rattle.bd_extio.specs.Owned.{owned_on}
 use Rattle.bd_extio.specs.Ranges.{AreExtents, InOwner, IsWithin}
 use Rattle.bd_space.specs.Allotment.{Allotment, IsTaken}
-use Rattle.bd_catalog.specs.Catalogue.{OpenEntry, bytes_of_rows}
-use Rattle.bd_catalog.specs.Splitting.{SplitEntry}
+use Rattle.bd_roll.specs.Catalogue.{OpenEntry, bytes_of_rows}
+use Rattle.bd_roll.specs.Splitting.{SplitEntry}
 use Rattle.bd_catalog.specs.Agreement.{InFree}
 use Rattle.bd_recipe.specs.declared.fault.ReadFault.{ReadFault}
 use Rattle.bd_recipe.specs.declared.fault.ReadFault.TheVariants.{DiskFault as ReadDiskFault, OutOfMemory as ReadOutOfMemory}

@@ -8,8 +8,8 @@ use Rattle.bd_model.specs.declared.layout.Phase.{Phase}
 use Rattle.bd_model.specs.declared.layout.Phase.TheVariants.{Settled, Waiting}
 use Rattle.bd_model.specs.declared.layout.RecipeEntry.{RecipeEntry}
 use Rattle.bd_category.specs.Laws.{written_records}
-use Rattle.bd_catalog.specs.Catalogue.{Catalogue, OpenEntry, bytes_of_rows, oldest_in}
-use Rattle.bd_catalog.specs.Splitting.{MaySplits, SplitEntry, after_split, after_splits, last_extents, last_rows}
+use Rattle.bd_roll.specs.Catalogue.{Catalogue, OpenEntry, bytes_of_rows, oldest_in}
+use Rattle.bd_roll.specs.Splitting.{MaySplits, SplitEntry, after_split, after_splits, last_extents, last_rows}
 use Rattle.bd_catalog.specs.Standing.{BeginWith}
 use Rattle.bd_arrange.specs.Cuts.{IsWhole, archived_records, bytes_in, kept_records, records_in}
 

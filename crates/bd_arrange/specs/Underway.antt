@@ -6,10 +6,10 @@ use Rattle.bd_model.specs.Extents.{owner_bytes}
 use Rattle.bd_model.specs.Sizes.{disk_bytes}
 use Rattle.bd_model.specs.declared.layout.RecipeEntry.{RecipeEntry}
 use Rattle.bd_space.specs.Allotment.{Allotment, extent_count, held_count, TakenExactly}
-use Rattle.bd_catalog.specs.Catalogue.{Catalogue, OpenEntry, all_extents, bytes_of_rows, oldest_in}
+use Rattle.bd_roll.specs.Catalogue.{Catalogue, OpenEntry, all_extents, bytes_of_rows, oldest_in}
 use Rattle.bd_catalog.specs.Opening.{Found}
-use Rattle.bd_catalog.specs.Rules.{ascends}
-use Rattle.bd_catalog.specs.Splitting.{MaySplits, SplitEntry, after_arrange, after_splits, kept_of, last_extents, last_rows}
+use Rattle.bd_roll.specs.Rules.{ascends}
+use Rattle.bd_roll.specs.Splitting.{MaySplits, SplitEntry, after_arrange, after_splits, kept_of, last_extents, last_rows}
 use Rattle.bd_catalog.specs.Steps.{IsMade, LeavesEither, committed}
 use Rattle.bd_recipe.specs.declared.fault.ReadFault.{ReadFault}
 use Rattle.bd_recipe.specs.declared.fault.ReadFault.TheVariants.{DiskFault}

@@ -6,10 +6,10 @@ ghost use Rattle.bd_disk.specs.Runs.{Works};
 ghost use Rattle.bd_model.specs.Room.{up};
 ghost use Rattle.bd_model.specs.Sizes.{sizes_of, disk_bytes};
 ghost use Rattle.bd_space.specs.Allotment.{extent_count, free_count};
-ghost use Rattle.bd_catalog.specs.Catalogue.{Catalogue, bytes_of_rows};
+ghost use Rattle.bd_roll.specs.Catalogue.{Catalogue, bytes_of_rows};
 ghost use Rattle.bd_catalog.specs.Rows.{open_row};
-ghost use Rattle.bd_catalog.specs.Shown.{open_entry};
-ghost use Rattle.bd_catalog.specs.Steps.{fresh_entries};
+ghost use Rattle.bd_roll.specs.Shown.{open_entry};
+ghost use Rattle.bd_roll.specs.Steps.{fresh_entries};
 ghost use Rattle.bd_recipe.specs.Reading.{IfDamaged, is_disk_fault};
 ghost use Rattle.bd_volume.specs.Growing.{CanGrow, Takes, is_disk_fault as is_append_fault};
 ghost use Rattle.bd_arrange.specs.Cuts.{InCategory, IsCut, IsDamageIn};
@@ -42,7 +42,7 @@ pub(crate) struct Desk {
 
 impl Model for Desk {
     ghost use Rattle.std.specs.Prelude.{◌≡◌, ◌≤◌, length, map};
-    ghost use Rattle.bd_catalog.specs.Steps.{kept_entry};
+    ghost use Rattle.bd_roll.specs.Steps.{kept_entry};
     ghost use Rattle.bd_arrange.specs.Desks.{OnDesk};
 
     ghost Value = { OnDesk };

@@ -1,9 +1,9 @@
 //! How the work at a desk ends.
 ghost use Rattle.std.specs.Prelude.{◌≡◌, map};
 ghost use Rattle.std.specs.List.{flat_map};
-ghost use Rattle.bd_catalog.specs.Giving.{AreOwned, GivesUp};
-ghost use Rattle.bd_catalog.specs.Splitting.{kept_extents};
-ghost use Rattle.bd_catalog.specs.Steps.{fresh_entries, kept_entry};
+ghost use Rattle.bd_roll.specs.Giving.{AreOwned, GivesUp};
+ghost use Rattle.bd_roll.specs.Splitting.{kept_extents};
+ghost use Rattle.bd_roll.specs.Steps.{fresh_entries, kept_entry};
 ghost use Rattle.bd_arrange.specs.Desks.{new_extents};
 
 use crate::desk::Desk;

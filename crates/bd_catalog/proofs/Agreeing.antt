@@ -17,8 +17,8 @@ use Rattle.bd_gate.specs.Superblock.{open_gate, byte_at, four_at, sizes_at}
 use Rattle.bd_gate.specs.Standing.{Standing, SameStanding, behind}
 use Rattle.bd_gate.specs.Halves.{Half, half_at, newest_half, newest_by, is_open, turn_at, payload_of, log_place}
 use Rattle.bd_catalog.specs.Agreement.{InExtents}
-use Rattle.bd_catalog.specs.Catalogue.{Catalogue}
-use Rattle.bd_catalog.specs.Rules.{catalogue_of}
+use Rattle.bd_roll.specs.Catalogue.{Catalogue}
+use Rattle.bd_roll.specs.Rules.{catalogue_of}
 use Rattle.bd_catalog.specs.Opening.{Found, opened, opened_half, opened_payload}
 use Rattle.bd_catalog.specs.Standing.{BeginWith}
 use Rattle.std.proofs.lemmas.Grind.{same_number_lists}

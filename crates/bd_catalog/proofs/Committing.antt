@@ -15,15 +15,15 @@ use Rattle.bd_gate.proofs.Newest.{other_below}
 use Rattle.bd_gate.proofs.Kept.{beside_newest, turn_after, standing_of_halves, within_halves, superblock_apart}
 use Rattle.bd_gate.proofs.Committed.{FindsPayload, committed_payload}
 use Rattle.bd_catalog.specs.Agreement.{Agrees}
-use Rattle.bd_catalog.specs.Catalogue.{Catalogue}
+use Rattle.bd_roll.specs.Catalogue.{Catalogue}
 use Rattle.bd_catalog.specs.Opening.{Found, opened}
-use Rattle.bd_catalog.specs.Rules.{obeys, catalogue_of}
-use Rattle.bd_catalog.specs.Spelling.{spelled}
+use Rattle.bd_roll.specs.Rules.{obeys, catalogue_of}
+use Rattle.bd_roll.specs.Spelling.{spelled}
 use Rattle.bd_catalog.specs.Steps.{catalogue_calls, committed, frame_beside, InOtherHalf, IsKeptOrCommitted, IsMade, IsOldOrCommitted, HasCommitted, KeepsCatalogue, LeavesBeside, LeavesEither, StopsBeside}
 use Rattle.bd_catalog.proofs.Agreeing.{InSuperblock, opens_with, same_standing_opens}
-use Rattle.bd_catalog.proofs.Decoding.{catalogue_of-spelled}
-use Rattle.bd_catalog.proofs.Lengths.{length-spelled, payload_room-small}
-use Rattle.bd_catalog.proofs.Obeying.{IsBounded}
+use Rattle.bd_roll.proofs.Decoding.{catalogue_of-spelled}
+use Rattle.bd_roll.proofs.Lengths.{length-spelled, payload_room-small}
+use Rattle.bd_roll.proofs.Obeying.{IsBounded}
 use Rattle.bd_catalog.proofs.StandingFound.{IsFound, newest_by-small, opened-found}
 
 -- ---- the half that isn't the newest

@@ -5,9 +5,9 @@ use Rattle.bd_model.specs.History.{History}
 use Rattle.bd_model.specs.Sizes.{Sizes, payload_room, half_bytes, disk_bytes, extent_place}
 use Rattle.bd_model.specs.declared.layout.Phase.TheVariants.{Settled, Waiting}
 use Rattle.bd_gate.specs.Superblock.{superblock}
-use Rattle.bd_catalog.specs.Catalogue.{Catalogue, empty_catalogue}
-use Rattle.bd_catalog.specs.Spelling.{spelled}
-use Rattle.bd_catalog.specs.Rules.{catalogue_of}
+use Rattle.bd_roll.specs.Catalogue.{Catalogue, empty_catalogue}
+use Rattle.bd_roll.specs.Spelling.{spelled}
+use Rattle.bd_roll.specs.Rules.{catalogue_of}
 use Rattle.bd_catalog.specs.Walks.{restore_reads, bodies_read}
 
 -- a small shape: 16 extents of 64 bytes, four versions

@@ -11,8 +11,8 @@ use Rattle.bd_model.specs.Sizes.{Sizes, payload_room}
 use Rattle.bd_gate.specs.Finding.{IsFound}
 use Rattle.bd_gate.specs.Halves.{Half, half_at, log_place, newest_half, payload_of, InFronts, InHalves, InPayload}
 use Rattle.bd_gate.proofs.Fronts.{fronts_in_halves, half_number, in_halves}
-use Rattle.bd_catalog.specs.Catalogue.{Catalogue}
-use Rattle.bd_catalog.specs.Rules.{catalogue_of}
+use Rattle.bd_roll.specs.Catalogue.{Catalogue}
+use Rattle.bd_roll.specs.Rules.{catalogue_of}
 use Rattle.bd_catalog.specs.Loading.{InLoad}
 use Rattle.bd_catalog.specs.Opening.{Found, opened_half, opened_payload, with_log}
 

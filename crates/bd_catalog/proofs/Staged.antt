@@ -17,9 +17,9 @@ use Rattle.bd_space.specs.declared.space.Use.TheVariants.{Free, Taken}
 use Rattle.bd_gate.specs.Halves.{Half, InHalves, half_at, newest_half, payload_of}
 use Rattle.bd_gate.proofs.Kept.{SameHalf, half_of_standing, standing_of_halves, within_halves}
 use Rattle.bd_catalog.specs.Agreement.{Agrees, InExtents}
-use Rattle.bd_catalog.specs.Catalogue.{Catalogue, all_extents}
+use Rattle.bd_roll.specs.Catalogue.{Catalogue, all_extents}
 use Rattle.bd_catalog.specs.Opening.{Found, opened}
-use Rattle.bd_catalog.specs.Rules.{catalogue_of}
+use Rattle.bd_roll.specs.Rules.{catalogue_of}
 use Rattle.bd_catalog.specs.Standing.{StandsFor, Stands}
 use Rattle.bd_catalog.specs.Steps.{HasCommitted, IsKeptOrCommitted, IsOldOrCommitted, KeepsCatalogue}
 use Rattle.bd_catalog.proofs.Agreeing.{InFront, one_extent, opens_again}

@@ -9,7 +9,7 @@ use Rattle.bd_model.specs.declared.layout.Phase.{Phase}
 use Rattle.bd_model.specs.Sizes.{Sizes, sizes_of}
 use Rattle.bd_model.specs.State.{VersionState, IsState, history}
 use Rattle.bd_gate.specs.Halves.{InHalves}
-use Rattle.bd_catalog.specs.Catalogue.{Catalogue, recipe_extents, volume_extents, active_extents, all_extents}
+use Rattle.bd_roll.specs.Catalogue.{Catalogue, recipe_extents, volume_extents, active_extents, all_extents}
 use Rattle.bd_catalog.specs.Opening.{Found, opened}
 use Rattle.bd_catalog.specs.Standing.{BeginWith, HasNumbers, HasVersions, HasVolumes, HasActives, HasReserve, StandsFor, Stands}
 use Rattle.bd_catalog.specs.Agreement.{InExtents}

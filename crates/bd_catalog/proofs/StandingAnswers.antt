@@ -22,7 +22,7 @@ use Rattle.bd_model.specs.State.{VersionState, history, cut_of, last_number}
 use Rattle.bd_model.specs.Step.{Outcome, unchanged, backup, step, with_version, free_extents, phase_after, without_room}
 use Rattle.bd_model.specs.Records.{records_of, spelled_recipe}
 use Rattle.bd_model.proofs.LawLemmas.{refusal_is_exact}
-use Rattle.bd_catalog.specs.Catalogue.{all_extents}
+use Rattle.bd_roll.specs.Catalogue.{all_extents}
 use Rattle.bd_catalog.specs.Opening.{Found, opened}
 use Rattle.bd_catalog.specs.Standing.{BeginWith, StandsFor}
 use Rattle.bd_catalog.specs.Agreement.{InExtents}

@@ -20,13 +20,13 @@ use Rattle.bd_model.specs.Records.{records_of, spelled_recipe}
 use Rattle.bd_model.proofs.ListLemmas.{numbers-none}
 use Rattle.bd_model.proofs.LawLemmas.{a_backup_leaves_its_reserve, closed_volumes_grow}
 use Rattle.bd_model.proofs.StepLemmas.{length-history, history-grown}
-use Rattle.bd_catalog.specs.Catalogue.{Catalogue, VersionEntry, OpenEntry, oldest_in, retained_in, recipe_extents, all_extents}
+use Rattle.bd_roll.specs.Catalogue.{Catalogue, VersionEntry, OpenEntry, oldest_in, retained_in, recipe_extents, all_extents}
 use Rattle.bd_catalog.specs.Opening.{Found, opened}
 use Rattle.bd_catalog.specs.Standing.{BeginWith, HasNumbers, HasVolumes, HasActives, HasReserve, StandsFor, lines_from}
 use Rattle.bd_catalog.specs.Agreement.{InExtents}
 use Rattle.bd_catalog.proofs.Standing.{Shows, stands-shows, shows_agrees, stands_by_parts}
 use Rattle.bd_catalog.proofs.StandingEmpty.{nothing_from, nothing-state, catalogue_from, nothing-numbers, nothing-lines, nothing-actives}
-use Rattle.bd_catalog.specs.Growing.{with_entries, entry_for, empty_volume, own_category}
+use Rattle.bd_roll.specs.Growing.{with_entries, entry_for, empty_volume, own_category}
 use Rattle.bd_catalog.proofs.StandingGrown.{numbers-more, recipes-more, actives-more, volumes-more, lines-more}
 
 -- a version more is a legal state where a number is left

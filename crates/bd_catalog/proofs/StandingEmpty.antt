@@ -13,13 +13,12 @@ use Rattle.bd_model.specs.Step.{version_line, version_lines}
 use Rattle.bd_model.proofs.ListLemmas.{numbers-none}
 use Rattle.bd_model.proofs.RowLemmas.{rows_over}
 use Rattle.bd_model.proofs.StepLemmas.{length-history}
-use Rattle.bd_catalog.specs.Catalogue.{Catalogue}
+use Rattle.bd_roll.specs.Catalogue.{Catalogue, retained_in, empty_catalogue}
 use Rattle.bd_catalog.specs.Opening.{Found, opened}
 use Rattle.bd_catalog.specs.Standing.{HasNumbers, HasVersions, HasVolumes, HasActives, StandsFor}
 use Rattle.bd_catalog.proofs.Standing.{Shows, stands-shows, stands_by_parts}
 use Rattle.bd_model.proofs.ExpiryLemmas.{nothing_owned}
 use Rattle.bd_model.specs.State.{empty}
-use Rattle.bd_catalog.specs.Catalogue.{retained_in, empty_catalogue}
 
 -- the state where nothing is retained and the last number was `base`
 abbrev pub nothing_from : ℕ → VersionState

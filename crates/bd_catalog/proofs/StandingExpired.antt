@@ -29,20 +29,21 @@ use Rattle.bd_model.proofs.ListLemmas.{not_nil, numbers-cons}
 use Rattle.bd_model.proofs.StepLemmas.{length-history}
 use Rattle.bd_gate.specs.Halves.{InHalves}
 use Rattle.bd_gate.proofs.Kept.{within_halves}
-use Rattle.bd_catalog.specs.Catalogue.{Catalogue, VersionEntry, VolumeEntry, all_extents, empty_catalogue, oldest_in, recipe_extents, retained_in, volume_extents}
+use Rattle.bd_roll.specs.Catalogue.{Catalogue, VersionEntry, VolumeEntry, all_extents, empty_catalogue, oldest_in, recipe_extents, retained_in, volume_extents}
 use Rattle.bd_catalog.specs.Opening.{Found, opened}
-use Rattle.bd_catalog.specs.Splitting.{FitsExpire, after_expire, begun_from, expired}
+use Rattle.bd_roll.specs.Splitting.{FitsExpire, after_expire, begun_from, expired}
 use Rattle.bd_catalog.specs.Standing.{BeginWith, HasNumbers, HasVersions, HasVolumes, StandsFor, lines_from}
 use Rattle.bd_catalog.specs.Steps.{HasCommitted}
 use Rattle.bd_catalog.proofs.Agreeing.{begin_with_agrees}
-use Rattle.bd_catalog.proofs.GivenUp.{same_tail}
-use Rattle.bd_catalog.proofs.Owning.{own-expire}
+use Rattle.bd_roll.proofs.GivenUp.{same_tail}
+use Rattle.bd_roll.proofs.Owning.{own-expire}
 use Rattle.bd_catalog.proofs.Standing.{Shows, halves_agree, stands-shows, stands_by_parts}
 use Rattle.bd_catalog.proofs.StandingAnswers.{IsAnswered}
 use Rattle.bd_catalog.proofs.StandingEmpty.{nothing_stands}
 use Rattle.bd_catalog.proofs.StandingFound.{opened-found}
 use Rattle.bd_catalog.proofs.StandingLists.{map-numbers}
-use Rattle.bd_catalog.proofs.StandingNamed.{settled_with_few, stands_settled}
+use Rattle.bd_roll.proofs.Obeying.{settled_with_few}
+use Rattle.bd_catalog.proofs.StandingNamed.{stands_settled}
 use Rattle.bd_catalog.proofs.StandingOwned.{owned-stands}
 
 -- ---- lists without their first

@@ -11,9 +11,9 @@ use Rattle.bd_model.proofs.ListLemmas.{left_and, right_and}
 use Rattle.bd_model.proofs.ChunkListLemmas.{bytes_eq-same}
 use Rattle.bd_gate.specs.Superblock.{open_gate, magic, byte_at, four_at, sizes_at}
 use Rattle.bd_gate.specs.Halves.{half_at, newest_half, newest_by, newer, payload_of, log_place}
-use Rattle.bd_catalog.specs.Catalogue.{Catalogue, oldest_in, retained_in}
-use Rattle.bd_catalog.specs.Spelling.{spelled, read_catalogue}
-use Rattle.bd_catalog.specs.Rules.{ascends, obeys, catalogue_of, numbers_hold, phase_holds, version_holds, starts_hold, actives_hold, volume_holds, active_holds, extents_hold}
+use Rattle.bd_roll.specs.Catalogue.{Catalogue, oldest_in, retained_in}
+use Rattle.bd_roll.specs.Spelling.{spelled, read_catalogue}
+use Rattle.bd_roll.specs.Rules.{ascends, obeys, catalogue_of, numbers_hold, phase_holds, version_holds, starts_hold, actives_hold, volume_holds, active_holds, extents_hold}
 use Rattle.std.specs.List.{list_all}
 use Rattle.bd_model.specs.declared.layout.Phase.{Phase}
 use Rattle.bd_model.specs.declared.layout.Phase.TheVariants.{Settled, Waiting}

@@ -9,7 +9,7 @@ use Rattle.bd_model.specs.Chunks.{numbers}
 use Rattle.bd_model.specs.History.{History, newest, oldest, version}
 use Rattle.bd_model.specs.State.{VersionState, history, stream_of}
 use Rattle.bd_model.specs.Step.{version_line, version_lines}
-use Rattle.bd_catalog.specs.Catalogue.{Catalogue, VersionEntry, oldest_in}
+use Rattle.bd_roll.specs.Catalogue.{Catalogue, VersionEntry, oldest_in}
 use Rattle.bd_catalog.specs.Standing.{HasNumbers, HasVersions, lines_from}
 
 -- a function's value at a number of a range

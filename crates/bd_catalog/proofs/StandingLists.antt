@@ -20,7 +20,7 @@ use Rattle.bd_model.proofs.ListLemmas.{filter-all, filter-numbers_none, flat_map
 use Rattle.bd_model.proofs.CategoryLemmas.{category-earlier}
 use Rattle.bd_model.proofs.LawLemmas.{closed_volumes_grow}
 use Rattle.bd_model.proofs.RowLemmas.{rows_over, rows_over-same, recorded_as-numbers, rows_describe_the_volume}
-use Rattle.bd_catalog.specs.Catalogue.{VersionEntry}
+use Rattle.bd_roll.specs.Catalogue.{VersionEntry}
 use Rattle.bd_catalog.specs.Standing.{lines_from}
 
 -- an entry as a line of this version

@@ -1,15 +1,15 @@
 -- A backup into a settled store, whatever it retains: written beside all that is named, and then named by a commit.
-use Rattle.std.proofs.Common.{◌≡◌, ⊎_elim, ℕ, ◌+◌, ◌-◌, ◌<◌, ◌≤◌, true, false, cond, ◌&&◌, List, [], length, refl, sym, ◌∙◌, ap, subst, arith, nat_le, nat_lt, nat_eq, eq-eqb, Some}
+use Rattle.std.proofs.Common.{◌≡◌, ⊎_elim, ℕ, ◌+◌, ◌-◌, ◌<◌, ◌≤◌, false, cond, List, [], length, sym, ◌∙◌, ap, subst, arith, nat_eq, eq-eqb, Some}
 use Rattle.std.specs.Prelude.{Ok, IsTrue}
 use Rattle.std.specs.FinMap as map
-use Rattle.std.proofs.lemmas.Bool.{cases_lt, leb-true, ne_eqb}
+use Rattle.std.proofs.lemmas.Bool.{cases_lt, ne_eqb}
 use Rattle.bd_disk.specs.Images.{AgreeBut}
 use Rattle.bd_disk.proofs.Agreeing.{agree_fewer}
 use Rattle.bd_model.specs.FileMap.{FileMap}
 use Rattle.bd_model.specs.declared.answer.Answer.TheVariants.{BackedUp}
 use Rattle.bd_model.specs.declared.command.Command.TheVariants.{Backup}
 use Rattle.bd_model.specs.declared.layout.Phase.{Phase}
-use Rattle.bd_model.specs.declared.layout.Phase.TheVariants.{Settled, Waiting}
+use Rattle.bd_model.specs.declared.layout.Phase.TheVariants.{Settled}
 use Rattle.bd_model.specs.declared.shape.Shape.{Shape}
 use Rattle.bd_model.specs.Chunks.{chunks}
 use Rattle.bd_model.specs.History.{History, newest, retained}
@@ -20,13 +20,12 @@ use Rattle.bd_model.specs.Room.{counted, fresh, need}
 use Rattle.bd_model.specs.Sizes.{Sizes, sizes_of}
 use Rattle.bd_model.specs.State.{VersionState, cut_of, history, last_number}
 use Rattle.bd_model.specs.Step.{free_extents}
-use Rattle.bd_model.proofs.ListLemmas.{left_and}
 use Rattle.bd_gate.specs.Halves.{InHalves}
 use Rattle.bd_gate.proofs.Kept.{within_halves}
-use Rattle.bd_catalog.specs.Catalogue.{Catalogue, VersionEntry, OpenEntry, all_extents, retained_in}
-use Rattle.bd_catalog.specs.Growing.{after_backup, entry_for, own_category, with_entries}
+use Rattle.bd_roll.specs.Catalogue.{Catalogue, VersionEntry, OpenEntry, all_extents, retained_in}
+use Rattle.bd_roll.specs.Growing.{after_backup, entry_for, own_category, with_entries}
 use Rattle.bd_catalog.specs.Opening.{Found, opened}
-use Rattle.bd_catalog.specs.Rules.{obeys, phase_holds}
+use Rattle.bd_roll.specs.Rules.{obeys}
 use Rattle.bd_catalog.specs.Standing.{BeginWith, StandsFor}
 use Rattle.bd_catalog.specs.Steps.{HasCommitted}
 use Rattle.bd_catalog.proofs.Agreeing.{begin_with_agrees}
@@ -37,19 +36,7 @@ use Rattle.bd_catalog.proofs.StandingFound.{nothing-else, obeys-each, opened-fou
 
 -- ---- when a store is settled
 
-waits_for_two : (c : Catalogue) (phase : Phase) → phase_holds c phase ≡ true → retained_in c ≤ 1 → phase ≡ Settled
-waits_for_two c Settled holds few = refl
-waits_for_two c (Waiting cursor) holds few =
-    let two = nat_le 2 (retained_in c) in
-    let low = nat_lt c.base cursor in
-    let more : 2 ≤ retained_in c = leb-true 2 (retained_in c) (left_and two low (left_and (two && low) (nat_le cursor c.newest) holds)) in
-    absurd (omega (arith, more, few))
-
--- with one version or none a catalogue is settled
-pub settled_with_few : (s : Sizes) (c : Catalogue) → IsTrue (obeys s c) → retained_in c ≤ 1 → c.phase ≡ Settled
-settled_with_few s c rules few = waits_for_two c c.phase (obeys-each s c rules).phase few
-
--- and an image stands at the phase of its catalogue
+-- an image stands at the phase of its catalogue
 pub stands_settled : {shape : Shape} {st : VersionState} {phase : Phase} {held : ℕ} {image : List ℕ} {found : Found} → StandsFor shape st phase held image → opened image ≡ Ok found → found.catalogue.phase ≡ Settled →
     StandsFor shape st Settled held image
 stands_settled {shape} {st} {phase} {held} {image} stands opens settled = subst (λ p. StandsFor shape st p held image) (sym (stands-shows stands opens).at_phase ∙ settled) stands

@@ -23,11 +23,11 @@ use Rattle.bd_model.specs.declared.layout.Phase.TheVariants.{Settled}
 use Rattle.bd_space.specs.Allotment.{Allotment, extent_count, free_count, held_count, TakenExactly}
 use Rattle.bd_space.proofs.Exact.{taken_count-exact}
 use Rattle.bd_space.proofs.Uses.{counts-all}
-use Rattle.bd_catalog.specs.Catalogue.{Catalogue, VersionEntry, VolumeEntry, OpenEntry, all_extents, bytes_of_rows, oldest_in}
+use Rattle.bd_roll.specs.Catalogue.{Catalogue, VersionEntry, VolumeEntry, OpenEntry, all_extents, bytes_of_rows, oldest_in}
 use Rattle.bd_catalog.specs.Opening.{Found, opened}
-use Rattle.bd_catalog.specs.Rules.{active_holds, version_holds, volume_holds}
+use Rattle.bd_roll.specs.Rules.{active_holds, version_holds, volume_holds}
 use Rattle.bd_catalog.specs.Standing.{StandsFor, lines_from}
-use Rattle.bd_catalog.proofs.Obeying.{bounded_of, count_in_category, count_in_volume, version_of}
+use Rattle.bd_roll.proofs.Obeying.{bounded_of, count_in_category, count_in_volume, version_of}
 use Rattle.bd_catalog.proofs.Standing.{Shows, stands-shows}
 use Rattle.bd_catalog.proofs.StandingLists.{line_of}
 use Rattle.bd_catalog.proofs.StandingFound.{Obeys, obeys-each, opened-found}

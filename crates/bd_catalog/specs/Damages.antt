@@ -11,7 +11,7 @@ use Rattle.bd_model.specs.declared.damage.Damage.TheVariants.{Entry, Sum, Header
 use Rattle.bd_model.specs.declared.damage.Owner.{Owner}
 use Rattle.bd_model.specs.declared.layout.RecipeEntry.{RecipeEntry}
 use Rattle.bd_model.specs.declared.mark.Mark.{Mark}
-use Rattle.bd_catalog.specs.Catalogue.{Catalogue, oldest_in, recipe_extents}
+use Rattle.bd_roll.specs.Catalogue.{Catalogue, oldest_in, recipe_extents}
 use Rattle.bd_catalog.specs.Rows.{RowPlace, Spot, row_end, row_spots, spots_in, walk}
 use Rattle.bd_catalog.specs.Sound.{recipe_of, entry_holds, length_holds, records_for, with_mark}
 

@@ -6,8 +6,8 @@ use Rattle.bd_model.specs.declared.place.Place.TheVariants.{Short, Gate, Magic, 
 use Rattle.bd_model.specs.Sizes.{Sizes, is_shape, payload_room, disk_bytes}
 use Rattle.bd_gate.specs.Superblock.{open_gate, magic, byte_at, four_at, sizes_at}
 use Rattle.bd_gate.specs.Halves.{Half, half_at, newest_half, payload_of, log_place}
-use Rattle.bd_catalog.specs.Catalogue.{Catalogue}
-use Rattle.bd_catalog.specs.Rules.{catalogue_of}
+use Rattle.bd_roll.specs.Catalogue.{Catalogue}
+use Rattle.bd_roll.specs.Rules.{catalogue_of}
 
 -- the newest half with its catalogue, and the place of the gate that ends its log
 pub record Found : Type 0 where

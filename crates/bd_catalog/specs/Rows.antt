@@ -7,7 +7,7 @@ use Rattle.bd_model.specs.Records.{Stored, stored_at}
 use Rattle.bd_model.specs.declared.damage.Owner.{Owner}
 use Rattle.bd_model.specs.declared.damage.Owner.TheVariants.{Volume, Active}
 use Rattle.bd_model.specs.declared.layout.CategoryRow.{CategoryRow}
-use Rattle.bd_catalog.specs.Catalogue.{Catalogue, OpenEntry, oldest_in, volume_extents}
+use Rattle.bd_roll.specs.Catalogue.{Catalogue, OpenEntry, oldest_in, volume_extents}
 
 -- ---- rows
 

@@ -6,7 +6,7 @@ use Rattle.bd_model.specs.Marks.{mark}
 use Rattle.bd_model.specs.Chunks.{numbers}
 use Rattle.bd_model.specs.declared.layout.CategoryRow.{CategoryRow}
 use Rattle.bd_model.specs.declared.layout.RecipeEntry.{RecipeEntry}
-use Rattle.bd_catalog.specs.Catalogue.{Catalogue, oldest_in, recipe_extents, volume_extents}
+use Rattle.bd_roll.specs.Catalogue.{Catalogue, oldest_in, recipe_extents, volume_extents}
 use Rattle.bd_catalog.specs.Opening.{Found, opened}
 use Rattle.bd_model.specs.Extents.{owner_bytes}
 use Rattle.bd_model.specs.Records.{Stored, stored_in, entries_in}

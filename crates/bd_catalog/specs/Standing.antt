@@ -12,7 +12,7 @@ use Rattle.bd_model.specs.Recipe.{recipe}
 use Rattle.bd_model.specs.Room.{owned, reserve_left}
 use Rattle.bd_model.specs.State.{VersionState, IsState, history}
 use Rattle.bd_model.specs.Step.{version_lines}
-use Rattle.bd_catalog.specs.Catalogue.{Catalogue, VersionEntry, retained_in, oldest_in, recipe_extents, volume_extents, active_extents}
+use Rattle.bd_roll.specs.Catalogue.{Catalogue, VersionEntry, retained_in, oldest_in, recipe_extents, volume_extents, active_extents}
 use Rattle.bd_catalog.specs.Opening.{Found, opened}
 use Rattle.bd_model.specs.Extents.{owner_bytes}
 use Rattle.bd_model.specs.Records.{records_of, spelled_recipe}

@@ -7,7 +7,7 @@ use Rattle.bd_model.specs.Chunks.{numbers}
 use Rattle.bd_model.specs.History.{History, version, newest, oldest, contains, distinct}
 use Rattle.bd_model.specs.Layout.{closed_volume, open_category, row_chunks}
 use Rattle.bd_model.specs.Room.{recipe_bytes}
-use Rattle.bd_catalog.specs.Catalogue.{Catalogue, recipe_extents, volume_extents, active_extents}
+use Rattle.bd_roll.specs.Catalogue.{Catalogue, recipe_extents, volume_extents, active_extents}
 use Rattle.bd_model.specs.Extents.{places_at}
 
 -- whether version v uses the chunk

@@ -6,23 +6,21 @@ ghost use Rattle.bd_model.specs.Sizes.{sizes_of, disk_bytes, payload_room};
 ghost use Rattle.bd_gate.specs.Halves.{log_place};
 ghost use Rattle.bd_space.specs.Allotment.{extent_count, held_count, TakenExactly};
 ghost use Rattle.bd_catalog.specs.Agreement.{Agrees};
-ghost use Rattle.bd_catalog.specs.Catalogue.{all_extents, empty_catalogue, oldest_in, retained_in};
+ghost use Rattle.bd_roll.specs.Catalogue.{all_extents, empty_catalogue, oldest_in, retained_in};
 ghost use Rattle.bd_catalog.specs.Ledger.{found_alone, found_in, IsPlaced, HasRoom};
-ghost use Rattle.bd_catalog.specs.Rules.{obeys, catalogue_of};
-ghost use Rattle.bd_catalog.specs.Spelling.{spelled};
-ghost use Rattle.bd_catalog.specs.Shown.{catalogue_of_contents, version_entry, volume_entry, open_entry};
-ghost use Rattle.bd_catalog.specs.Steps.{after_step, brought, stepped, with_catalogue, Fits, InOtherHalf, IsMade, LeavesEither, NeedsRoom};
+ghost use Rattle.bd_roll.specs.Rules.{obeys, catalogue_of};
+ghost use Rattle.bd_roll.specs.Spelling.{spelled};
+ghost use Rattle.bd_roll.specs.Shown.{catalogue_of_contents, version_entry, volume_entry, open_entry};
+ghost use Rattle.bd_roll.specs.Steps.{brought, stepped, Fits, NeedsRoom};
+ghost use Rattle.bd_catalog.specs.Steps.{after_step, with_catalogue, InOtherHalf, IsMade, LeavesEither};
 
-use crate::contents::Contents;
-use crate::decode::take_contents;
-use crate::encode::put_contents;
 use crate::frame::{log_place, write_beside};
-use crate::rows::{Actives, ClosedVolume, VersionRow};
-use crate::rules::obeys;
-use crate::step::Step;
 use bd_disk::{Disk, Failed};
 use bd_gate::Half;
 use bd_model::{Phase, Shape};
+use bd_roll::{
+    Actives, ClosedVolume, Contents, Step, VersionRow, obeys, put_contents, take_contents,
+};
 use bd_space::Space;
 use bd_wire::Cursor;
 use std::alloc::{AllocError as OutOfMemory, Global};
@@ -44,8 +42,9 @@ pub struct Catalog {
 impl Model for Catalog {
     ghost use Rattle.std.specs.Prelude.{length};
     ghost use Rattle.bd_model.specs.Sizes.{sizes_of};
-    ghost use Rattle.bd_catalog.specs.Shown.{catalogue_of_contents};
-    ghost use Rattle.bd_catalog.specs.Ledger.{Ledger, IsKept, room_of};
+    ghost use Rattle.bd_roll.specs.Shown.{catalogue_of_contents};
+    ghost use Rattle.bd_roll.specs.Capacity.{room_of};
+    ghost use Rattle.bd_catalog.specs.Ledger.{Ledger, IsKept};
 
     ghost Value = { Ledger };
 

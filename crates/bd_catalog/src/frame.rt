@@ -8,17 +8,16 @@ ghost use Rattle.bd_model.specs.Sizes.{sizes_of, disk_bytes, payload_room};
 ghost use Rattle.bd_gate.specs.Commits.{frame_of};
 ghost use Rattle.bd_gate.specs.Halves.{InHalf, log_place};
 ghost use Rattle.bd_gate.specs.Standing.{IsOlderHalf, next_turn};
-ghost use Rattle.bd_catalog.specs.Rules.{obeys};
-ghost use Rattle.bd_catalog.specs.Shown.{catalogue_of_contents};
-ghost use Rattle.bd_catalog.specs.Spelling.{spelled};
+ghost use Rattle.bd_roll.specs.Rules.{obeys};
+ghost use Rattle.bd_roll.specs.Shown.{catalogue_of_contents};
+ghost use Rattle.bd_roll.specs.Spelling.{spelled};
 ghost use Rattle.bd_catalog.specs.Steps.{calls_beside, next_half, LeavesBeside, StopsBeside};
-ghost use Rattle.bd_catalog.specs.Widths.{IsSpellable};
+ghost use Rattle.bd_roll.specs.Widths.{IsSpellable};
 
-use crate::contents::Contents;
-use crate::encode::put_contents;
 use bd_disk::{Disk, Failed};
 use bd_gate::{CLOSED_GATE, Half, commit_frame};
 use bd_model::Shape;
+use bd_roll::{Contents, put_contents};
 use bd_wire::{put_u8, put_u64};
 
 // Writes a frame to the front, and answers its length: the turn, the length of the spelling, the spelling and a closed gate.

@@ -19,12 +19,12 @@ use Rattle.bd_model.specs.Room.{up}
 use Rattle.bd_model.proofs.RoomLemmas.{up-zero}
 use Rattle.bd_model.proofs.ChunkLemmas.{concat-chunks}
 use Rattle.bd_space.specs.Allotment.{Allotment, extent_count, free_count, TakenExactly, IsFree}
-use Rattle.bd_catalog.specs.declared.rows.ActiveCategory.{ActiveCategory}
-use Rattle.bd_catalog.specs.Catalogue.{Catalogue, VersionEntry, OpenEntry, all_extents, retained_in}
-use Rattle.bd_catalog.specs.Rules.{obeys}
-use Rattle.bd_catalog.specs.Shown.{version_entry}
+use Rattle.bd_roll.specs.declared.rows.ActiveCategory.{ActiveCategory}
+use Rattle.bd_roll.specs.Catalogue.{Catalogue, VersionEntry, OpenEntry, all_extents, retained_in}
+use Rattle.bd_roll.specs.Rules.{obeys}
+use Rattle.bd_roll.specs.Shown.{version_entry}
 use Rattle.bd_catalog.specs.Standing.{BeginWith}
-use Rattle.bd_catalog.specs.Steps.{FitsBackup, fresh_entries}
+use Rattle.bd_roll.specs.Steps.{FitsBackup, fresh_entries}
 use Rattle.bd_catalog.specs.Agreement.{InExtents, InFree}
 use Rattle.bd_intake.specs.declared.staged.Staged.{Staged}
 use Rattle.std.proofs.lemmas.List.{append-nil, nil_from_length}
@@ -50,7 +50,7 @@ use Rattle.bd_intake.specs.Spaces.{Owns}
 use Rattle.bd_intake.specs.Staging.{Goes, HasPut, HasTaken, HasExtents, HasWritten, IsStaging}
 use Rattle.bd_intake.proofs.Draining.{fits_so_far}
 use Rattle.bd_intake.proofs.Firsts.{counted-whole}
-use Rattle.bd_catalog.proofs.Fitting.{VersionFacts, FreshFacts, no_category, one_category, fits_backup}
+use Rattle.bd_roll.proofs.Fitting.{VersionFacts, FreshFacts, no_category, one_category, fits_backup}
 use Rattle.bd_intake.proofs.Growing.{IsShort, IsSmall, staging_is_small, stream-low, stream-high}
 use Rattle.bd_intake.proofs.Owning.{owns_last, owns_nothing, taken_below}
 

@@ -8,10 +8,10 @@ use Rattle.bd_model.specs.Sizes.{sizes_of}
 use Rattle.bd_model.specs.declared.layout.RecipeEntry.{RecipeEntry}
 use Rattle.bd_model.specs.declared.shape.Shape.{Shape}
 use Rattle.bd_model.proofs.ListLemmas.{left_and, right_and}
-use Rattle.bd_catalog.specs.Catalogue.{Catalogue, VersionEntry, oldest_in, retained_in}
-use Rattle.bd_catalog.specs.Rules.{obeys}
+use Rattle.bd_roll.specs.Catalogue.{Catalogue, VersionEntry, oldest_in, retained_in}
+use Rattle.bd_roll.specs.Rules.{obeys}
 use Rattle.bd_catalog.specs.Sound.{entry_holds, length_holds}
-use Rattle.bd_catalog.proofs.Obeying.{NumbersHold, numbers_of, rules_of}
+use Rattle.bd_roll.proofs.Obeying.{NumbersHold, numbers_of, rules_of}
 use Rattle.bd_extio.proofs.Places.{range_small}
 use Rattle.bd_recipe.specs.Reading.{IsRecipe, chunks_in}
 use Rattle.bd_recipe.proofs.Versions.{VersionIs, version_is}

@@ -11,14 +11,14 @@ use Rattle.bd_model.specs.Room.{need_of, counted_of}
 use Rattle.bd_model.specs.Sizes.{Sizes}
 use Rattle.bd_model.specs.declared.layout.RecipeEntry.{RecipeEntry}
 use Rattle.bd_space.specs.Allotment.{Allotment, extent_count, free_count, held_count, TakenExactly}
-use Rattle.bd_catalog.specs.Catalogue.{Catalogue, all_extents, retained_in}
+use Rattle.bd_roll.specs.Catalogue.{Catalogue, all_extents, retained_in}
 use Rattle.bd_catalog.specs.Opening.{Found}
-use Rattle.bd_catalog.specs.declared.rows.ActiveCategory.{ActiveCategory}
-use Rattle.bd_catalog.specs.declared.step.Step.TheVariants.{Backup}
-use Rattle.bd_catalog.specs.Growing.{entry_for, own_category}
-use Rattle.bd_catalog.specs.Shown.{version_entry}
+use Rattle.bd_roll.specs.declared.rows.ActiveCategory.{ActiveCategory}
+use Rattle.bd_roll.specs.declared.step.Step.TheVariants.{Backup}
+use Rattle.bd_roll.specs.Growing.{entry_for, own_category}
+use Rattle.bd_roll.specs.Shown.{version_entry}
 use Rattle.bd_catalog.specs.Standing.{BeginWith}
-use Rattle.bd_catalog.specs.Steps.{Fits, brought, fresh_entries}
+use Rattle.bd_roll.specs.Steps.{Fits, brought, fresh_entries}
 use Rattle.bd_intake.specs.declared.fault.IntakeFault.{IntakeFault}
 use Rattle.bd_intake.specs.declared.fault.IntakeFault.TheVariants.{Full, SourceFault, DiskFault, OutOfMemory}
 use Rattle.bd_intake.specs.declared.staged.Staged.{Staged}

@@ -2,7 +2,7 @@
 use Rattle.std.specs.Prelude.{◌≡◌, ℕ, ◌^◌, ◌≤◌, List, [], length, All}
 use Rattle.bd_model.specs.Sizes.{Sizes, sizes_of}
 use Rattle.bd_model.specs.declared.layout.RecipeEntry.{RecipeEntry}
-use Rattle.bd_catalog.specs.Catalogue.{Catalogue, retained_in}
+use Rattle.bd_roll.specs.Catalogue.{Catalogue, retained_in}
 use Rattle.bd_recipe.specs.Reading.{IsRecipe}
 use Rattle.bd_intake.specs.declared.terms.Terms.{Terms}
 

@@ -1,7 +1,7 @@
 //! The ends of what is staged: a version, or nothing.
 ghost use Rattle.std.specs.Prelude.{◌≡◌, ℕ, ◌+◌, ◌<◌, ◌^◌, List, [], ◌∷◌, ◌++◌, length, nat_lt, IfOk, if◌then◌else◌};
-ghost use Rattle.bd_catalog.specs.Shown.{version_entry};
-ghost use Rattle.bd_catalog.specs.Steps.{fresh_entries};
+ghost use Rattle.bd_roll.specs.Shown.{version_entry};
+ghost use Rattle.bd_roll.specs.Steps.{fresh_entries};
 ghost use Rattle.bd_space.specs.Allotment.{extent_count, held_count, TakenExactly};
 ghost use Rattle.bd_intake.specs.Answers.{fresh_extents};
 ghost use Rattle.bd_intake.specs.Given.{Given};

@@ -4,7 +4,7 @@ ghost use Rattle.bd_disk.specs.Runs.{Writes};
 ghost use Rattle.bd_model.specs.Sizes.{sizes_of, disk_bytes};
 ghost use Rattle.bd_model.specs.declared.layout.Phase.TheVariants.{Settled};
 ghost use Rattle.bd_space.specs.Allotment.{extent_count, held_count, TakenExactly};
-ghost use Rattle.bd_catalog.specs.Catalogue.{all_extents};
+ghost use Rattle.bd_roll.specs.Catalogue.{all_extents};
 ghost use Rattle.bd_catalog.specs.Agreement.{InExtents, InFree};
 ghost use Rattle.bd_intake.specs.Answers.{CountsSource, FitsStaged, LeavesSpace, StoresSource};
 ghost use Rattle.bd_intake.specs.Causes.{FailsByCount};

@@ -15,7 +15,7 @@ use Rattle.bd_model.specs.Records.{entries_in}
 use Rattle.bd_model.specs.declared.layout.RecipeEntry.{RecipeEntry}
 use Rattle.bd_model.specs.declared.damage.Damage.{Damage}
 use Rattle.bd_model.specs.declared.damage.Damage.TheVariants.{Entry, Sum}
-use Rattle.bd_catalog.specs.Catalogue.{Catalogue, recipe_extents}
+use Rattle.bd_roll.specs.Catalogue.{Catalogue, recipe_extents}
 use Rattle.bd_catalog.specs.Damages.{IsSeen, entry_places}
 use Rattle.bd_catalog.specs.Sound.{recipe_of, entry_holds}
 use Rattle.bd_recipe.specs.Entries.{first_bad, limits_for}

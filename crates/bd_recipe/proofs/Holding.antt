@@ -6,7 +6,7 @@ use Rattle.bd_model.specs.Sizes.{Sizes}
 use Rattle.bd_model.specs.declared.damage.Damage.{Damage}
 use Rattle.bd_model.specs.declared.damage.Damage.TheVariants.{Entry, Sum}
 use Rattle.bd_model.specs.declared.layout.RecipeEntry.{RecipeEntry}
-use Rattle.bd_catalog.specs.Catalogue.{Catalogue}
+use Rattle.bd_roll.specs.Catalogue.{Catalogue}
 use Rattle.bd_catalog.specs.Damages.{IsOfVersion}
 use Rattle.bd_catalog.specs.Sound.{recipe_of, recipe_holds, entry_holds}
 use Rattle.bd_recipe.specs.Entries.{first_bad}

@@ -15,12 +15,12 @@ use Rattle.bd_model.specs.declared.damage.Damage.TheVariants.{Sum}
 use Rattle.bd_model.specs.declared.layout.RecipeEntry.{RecipeEntry}
 use Rattle.bd_model.specs.declared.shape.Shape.{Shape}
 use Rattle.bd_extio.specs.Ranges.{AreExtents, IsWithin}
-use Rattle.bd_catalog.specs.Catalogue.{Catalogue, oldest_in, recipe_extents}
+use Rattle.bd_roll.specs.Catalogue.{Catalogue, oldest_in, recipe_extents}
 use Rattle.bd_catalog.specs.Damages.{IsSeen}
-use Rattle.bd_catalog.specs.Rules.{obeys}
-use Rattle.bd_catalog.specs.Shown.{version_entry}
+use Rattle.bd_roll.specs.Rules.{obeys}
+use Rattle.bd_roll.specs.Shown.{version_entry}
 use Rattle.bd_catalog.specs.Sound.{recipe_of, entry_holds}
-use Rattle.bd_catalog.specs.declared.rows.VersionRow.{VersionRow}
+use Rattle.bd_roll.specs.declared.rows.VersionRow.{VersionRow}
 use Rattle.bd_recipe.specs.Entries.{is_within, limits_for}
 use Rattle.bd_recipe.specs.Located.{IsLocated}
 use Rattle.bd_recipe.specs.Pieces.{InEntries}

@@ -19,7 +19,7 @@ use Rattle.bd_model.specs.Sizes.{sizes_of}
 use Rattle.bd_model.specs.State.{VersionState, cut_of, history, streams, stream_of}
 use Rattle.bd_model.proofs.ChunkLemmas.{chunks_are_within_bounds, concat-chunks}
 use Rattle.bd_model.proofs.RecipeLemmas.{start_of-le, start_of-low}
-use Rattle.bd_catalog.specs.Catalogue.{Catalogue, recipe_extents}
+use Rattle.bd_roll.specs.Catalogue.{Catalogue, recipe_extents}
 use Rattle.bd_catalog.specs.Sound.{recipe_of, entry_holds}
 use Rattle.bd_catalog.specs.Standing.{HasNumbers, HasVersions}
 use Rattle.bd_catalog.proofs.StandingLines.{bytes_recorded, chunks_recorded}

@@ -4,7 +4,7 @@ use Rattle.bd_model.specs.Sizes.{Sizes}
 use Rattle.bd_model.specs.declared.layout.RecipeEntry.{RecipeEntry}
 use Rattle.bd_model.specs.declared.damage.Damage.{Damage}
 use Rattle.bd_model.specs.declared.damage.Damage.TheVariants.{Entry}
-use Rattle.bd_catalog.specs.Catalogue.{Catalogue}
+use Rattle.bd_roll.specs.Catalogue.{Catalogue}
 use Rattle.bd_recipe.specs.declared.limits.Limits.{Limits}
 
 -- `entry_holds`, with what it takes of the sizes and of the catalogue in one place

@@ -2,7 +2,7 @@
 use Rattle.std.specs.Prelude.{◌≡◌, ℕ, ◌*◌, List}
 use Rattle.bd_model.specs.Sizes.{Sizes}
 use Rattle.bd_extio.specs.Ranges.{AreExtents, IsWithin}
-use Rattle.bd_catalog.specs.Catalogue.{Catalogue, recipe_extents}
+use Rattle.bd_roll.specs.Catalogue.{Catalogue, recipe_extents}
 use Rattle.bd_recipe.specs.Entries.{limits_for}
 use Rattle.bd_recipe.specs.Reading.{chunks_in, length_in}
 use Rattle.bd_recipe.specs.declared.limits.Limits.{Limits}

@@ -10,7 +10,7 @@ use Rattle.bd_model.specs.Sizes.{Sizes}
 use Rattle.bd_model.specs.declared.layout.RecipeEntry.{RecipeEntry}
 use Rattle.bd_model.specs.declared.damage.Damage.{Damage}
 use Rattle.bd_model.specs.declared.damage.Damage.TheVariants.{Sum}
-use Rattle.bd_catalog.specs.Catalogue.{Catalogue, oldest_in, recipe_extents}
+use Rattle.bd_roll.specs.Catalogue.{Catalogue, oldest_in, recipe_extents}
 use Rattle.bd_catalog.specs.Sound.{recipe_of, entry_holds}
 use Rattle.bd_extio.specs.Owned.{owned_on}
 use Rattle.bd_recipe.specs.Entries.{first_bad, is_within}

@@ -1,7 +1,7 @@
 //! Where the recipe of a version lies.
 ghost use Rattle.std.specs.Prelude.{◌≤◌};
 ghost use Rattle.bd_model.specs.Sizes.{sizes_of};
-ghost use Rattle.bd_catalog.specs.Catalogue.{oldest_in};
+ghost use Rattle.bd_roll.specs.Catalogue.{oldest_in};
 ghost use Rattle.bd_recipe.specs.Located.{IsLocated};
 
 use crate::limits::Limits;

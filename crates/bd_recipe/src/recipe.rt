@@ -9,7 +9,7 @@ ghost use Rattle.bd_model.specs.Sizes.{sizes_of, disk_bytes};
 ghost use Rattle.bd_model.specs.Records.{entries_in};
 ghost use Rattle.bd_extio.specs.Owned.{owned_on};
 ghost use Rattle.bd_extio.specs.Ranges.{AreExtents, IsWithin};
-ghost use Rattle.bd_catalog.specs.Catalogue.{oldest_in};
+ghost use Rattle.bd_roll.specs.Catalogue.{oldest_in};
 ghost use Rattle.bd_catalog.specs.Damages.{IsSeen};
 ghost use Rattle.bd_recipe.specs.Entries.{first_bad, is_within};
 ghost use Rattle.bd_recipe.specs.Pieces.{InEntries, entries_on, entry_places};

@@ -11,9 +11,9 @@ use Rattle.bd_space.proofs.InTurn.{marks_both, free_behind, free_front}
 use Rattle.bd_space.proofs.Exact.{TakenExactly-new, TakenExactly-append}
 use Rattle.bd_model.specs.Sizes.{Sizes, sizes_of}
 use Rattle.bd_model.specs.declared.shape.Shape.{Shape}
-use Rattle.bd_catalog.specs.Catalogue.{Catalogue, VersionEntry, VolumeEntry, OpenEntry, all_extents}
-use Rattle.bd_catalog.specs.Rules.{obeys, all_differ}
-use Rattle.bd_catalog.proofs.Obeying.{rules_of, distinct_of}
+use Rattle.bd_roll.specs.Catalogue.{Catalogue, VersionEntry, VolumeEntry, OpenEntry, all_extents}
+use Rattle.bd_roll.specs.Rules.{obeys, all_differ}
+use Rattle.bd_roll.proofs.Obeying.{rules_of, distinct_of}
 
 free_of : (k n : ℕ) → n < k → slice_get (replicate k Free) n ≡ Some Free
 free_of zero n below = absurd (omega arith)

@@ -13,8 +13,8 @@ use Rattle.bd_model.specs.declared.place.Place.{Place}
 use Rattle.bd_model.specs.declared.place.Place.TheVariants.{Short, Gate, Magic, Number, Shape, Padding, Room, Payload}
 use Rattle.bd_gate.specs.Superblock.{byte_at, four_at, open_gate, magic, sizes_at, is_marked}
 use Rattle.bd_gate.specs.Halves.{newest_by, newest_half, half_at, payload_of}
-use Rattle.bd_catalog.specs.Catalogue.{empty_catalogue}
-use Rattle.bd_catalog.specs.Rules.{catalogue_of}
+use Rattle.bd_roll.specs.Catalogue.{empty_catalogue}
+use Rattle.bd_roll.specs.Rules.{catalogue_of}
 use Rattle.bd_catalog.specs.Opening.{Found, opened, opened_half, opened_payload}
 use Rattle.bd_catalog.proofs.StandingFound.{opened-is, opened_by}
 use Rattle.bd_recover.specs.Fresh.{HoldsFresh, fresh_found, fresh_half, superblock_body}

@@ -7,7 +7,7 @@ use Rattle.bd_model.specs.Records.{four, eight}
 use Rattle.bd_model.specs.Sizes.{Sizes, disk_bytes, extent_place}
 use Rattle.bd_gate.specs.Superblock.{open_gate, magic, is_marked}
 use Rattle.bd_gate.specs.Halves.{Half, log_place, is_open}
-use Rattle.bd_catalog.specs.Catalogue.{empty_catalogue}
+use Rattle.bd_roll.specs.Catalogue.{empty_catalogue}
 use Rattle.bd_catalog.specs.Opening.{Found, opened}
 
 -- the bytes of a superblock behind its gate

@@ -10,7 +10,7 @@ use Rattle.bd_model.specs.Sizes.{sizes_of, is_shape}
 use Rattle.bd_space.specs.Allotment.{TakenExactly, extent_count, held_count}
 use Rattle.bd_gate.specs.Superblock.{open_gate, magic, byte_at, four_at, sizes_at}
 use Rattle.bd_catalog.specs.Agreement.{Agrees}
-use Rattle.bd_catalog.specs.Catalogue.{all_extents}
+use Rattle.bd_roll.specs.Catalogue.{all_extents}
 use Rattle.bd_catalog.specs.Opening.{Found, opened, opened_newest}
 use Rattle.bd_recover.specs.declared.fault.OpenFault.{OpenFault}
 use Rattle.bd_recover.specs.declared.fault.OpenFault.TheVariants.{NotAStore, DiskFault, OutOfMemory}

@@ -2,7 +2,7 @@
 ghost use Rattle.std.specs.Prelude.{◌≡◌, All, IfOk, nat_eq};
 ghost use Rattle.std.specs.List.{flat_map, IsDistinct};
 ghost use Rattle.bd_space.specs.Allotment.{IsFree, Marks, TakenExactly, extent_count, held_count};
-ghost use Rattle.bd_catalog.specs.Catalogue.{all_extents};
+ghost use Rattle.bd_roll.specs.Catalogue.{all_extents};
 
 use bd_catalog::{Catalog, OwnsExtents};
 use bd_space::{Space, Use};

@@ -9,7 +9,7 @@ use Rattle.bd_model.specs.declared.damage.Damage.TheVariants.{Missing}
 use Rattle.bd_model.specs.declared.layout.RecipeEntry.{RecipeEntry}
 use Rattle.bd_model.specs.declared.mark.Mark.{Mark}
 use Rattle.bd_files.specs.Files.{ChangesOnly}
-use Rattle.bd_catalog.specs.Catalogue.{Catalogue}
+use Rattle.bd_roll.specs.Catalogue.{Catalogue}
 use Rattle.bd_catalog.specs.Opening.{Found}
 use Rattle.bd_catalog.specs.Rows.{Spot, spots_in, walk}
 use Rattle.bd_catalog.specs.Sound.{records_for}

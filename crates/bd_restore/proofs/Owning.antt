@@ -16,9 +16,9 @@ use Rattle.bd_model.specs.declared.layout.CategoryRow.{CategoryRow}
 use Rattle.bd_model.proofs.ListLemmas.{left_and, right_and}
 use Rattle.bd_model.proofs.RoomLemmas.{up-enough}
 use Rattle.bd_extio.specs.Ranges.{AreExtents}
-use Rattle.bd_catalog.specs.Catalogue.{Catalogue, OpenEntry, VolumeEntry, bytes_of_rows, oldest_in}
+use Rattle.bd_roll.specs.Catalogue.{Catalogue, OpenEntry, VolumeEntry, bytes_of_rows, oldest_in}
 use Rattle.bd_catalog.specs.Rows.{RowPlace, open_row, row_place, rows_from, volume_rows, walk}
-use Rattle.bd_catalog.specs.Rules.{active_holds, ascends, fits_eight, obeys, row_holds, volume_holds}
+use Rattle.bd_roll.specs.Rules.{active_holds, ascends, fits_eight, obeys, row_holds, volume_holds}
 use Rattle.bd_catalog.proofs.StandingFound.{numbers-each, obeys-each}
 use Rattle.bd_recipe.proofs.Versions.{are_all, are_left, are_right}
 use Rattle.bd_volume.specs.Pieces.{extents_of}

@@ -22,7 +22,7 @@ use Rattle.bd_model.specs.declared.damage.Owner.{Owner}
 use Rattle.bd_model.specs.declared.layout.RecipeEntry.{RecipeEntry}
 use Rattle.bd_model.specs.declared.mark.Mark.{Mark}
 use Rattle.bd_model.proofs.ListLemmas.{left_and, right_and}
-use Rattle.bd_catalog.specs.Catalogue.{Catalogue, recipe_extents}
+use Rattle.bd_roll.specs.Catalogue.{Catalogue, recipe_extents}
 use Rattle.bd_catalog.specs.Damages.{BreaksRule, IsBadHeader, IsOfVersion, IsRecordOf, entry_places, header_holds, unlike}
 use Rattle.bd_catalog.specs.Rows.{RowPlace, Spot, records_at, row_bytes, row_end, row_spots, spots_in, walk}
 use Rattle.bd_catalog.specs.Sound.{is_stored, part_holds, part_records, recipe_of, records_for, stored_holds, length_holds, with_mark}

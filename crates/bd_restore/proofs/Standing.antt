@@ -19,10 +19,10 @@ use Rattle.bd_model.proofs.ChunkListLemmas.{contains-append, in_some}
 use Rattle.bd_model.proofs.ListLemmas.{flat_map-numbers}
 use Rattle.bd_model.proofs.NeedLemmas.{TellsApart}
 use Rattle.bd_model.proofs.PlaceLemmas.{a_version_uses_a_front}
-use Rattle.bd_catalog.specs.Catalogue.{Catalogue, active_extents, recipe_extents, volume_extents}
+use Rattle.bd_roll.specs.Catalogue.{Catalogue, active_extents, recipe_extents, volume_extents}
 use Rattle.bd_catalog.specs.Opening.{Found, opened}
 use Rattle.bd_catalog.specs.Rows.{spots_in, walk}
-use Rattle.bd_catalog.specs.Rules.{obeys}
+use Rattle.bd_roll.specs.Rules.{obeys}
 use Rattle.bd_catalog.specs.Sound.{is_stored, records_for}
 use Rattle.bd_catalog.specs.Standing.{StandsFor}
 use Rattle.bd_catalog.specs.Walks.{IsLean, front, is_used, recipe_reads, record_reads, restore_reads}

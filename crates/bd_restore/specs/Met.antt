@@ -10,7 +10,7 @@ use Rattle.bd_model.specs.Records.{Stored}
 use Rattle.bd_model.specs.declared.damage.Damage.{Damage}
 use Rattle.bd_model.specs.declared.damage.Damage.TheVariants.{Entry, Sum, Header, Row, Body, Length, Missing}
 use Rattle.bd_model.specs.declared.layout.RecipeEntry.{RecipeEntry}
-use Rattle.bd_catalog.specs.Catalogue.{Catalogue}
+use Rattle.bd_roll.specs.Catalogue.{Catalogue}
 use Rattle.bd_catalog.specs.Damages.{BreaksRule, IsBadBody, IsBadHeader, header_holds, record_places}
 use Rattle.bd_catalog.specs.Rows.{RowPlace, Spot, records_at, row_spots, spot_in, spots_in, walk}
 use Rattle.bd_catalog.specs.Sound.{is_stored, part_holds, parts_for, recipe_of, records_for}

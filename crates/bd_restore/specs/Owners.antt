@@ -3,7 +3,7 @@ use Rattle.std.specs.Prelude.{ℕ, ◌<◌, ◌≤◌, List, length, map, slice_
 use Rattle.bd_model.specs.declared.damage.Owner.{Owner}
 use Rattle.bd_model.specs.declared.damage.Owner.TheVariants.{Volume, Active}
 use Rattle.bd_model.specs.Sizes.{Sizes}
-use Rattle.bd_catalog.specs.Catalogue.{Catalogue, OpenEntry, oldest_in}
+use Rattle.bd_roll.specs.Catalogue.{Catalogue, OpenEntry, oldest_in}
 use Rattle.bd_catalog.specs.Rows.{RowPlace}
 use Rattle.bd_restore.specs.Walk.{IsInRoom}
 

@@ -3,7 +3,7 @@ use Rattle.std.specs.Prelude.{◌≡◌, ℕ, ◌≤◌, Bool, false, List, leng
 use Rattle.bd_model.specs.Sizes.{Sizes}
 use Rattle.bd_model.specs.declared.layout.RecipeEntry.{RecipeEntry}
 use Rattle.bd_model.specs.declared.damage.Damage.{Damage}
-use Rattle.bd_catalog.specs.Catalogue.{Catalogue, oldest_in}
+use Rattle.bd_roll.specs.Catalogue.{Catalogue, oldest_in}
 use Rattle.bd_catalog.specs.Rows.{walk}
 use Rattle.bd_recipe.specs.Reading.{total}
 use Rattle.bd_recipe.specs.declared.fault.ReadFault.{ReadFault}

@@ -1,7 +1,7 @@
 //! The extents of an owner.
 ghost use Rattle.std.specs.Prelude.{◌≡◌, ℕ, ◌<◌, ◌≤◌, length, map, nat_lt, IsTrue, slice_index};
-ghost use Rattle.bd_catalog.specs.Rules.{obeys};
-ghost use Rattle.bd_catalog.specs.Shown.{open_entry};
+ghost use Rattle.bd_roll.specs.Rules.{obeys};
+ghost use Rattle.bd_roll.specs.Shown.{open_entry};
 ghost use Rattle.bd_restore.specs.Owners.{starts_in, AreRising, IsOwner};
 ghost use Rattle.bd_volume.specs.Pieces.{extents_of};
 

@@ -2,7 +2,7 @@
 ghost use Rattle.std.specs.Prelude.{◌≡◌, ◌∷◌, ◌≤◌, [], map, Contains, OnOk};
 ghost use Rattle.bd_disk.specs.Runs.{Reads};
 ghost use Rattle.bd_model.specs.Sizes.{disk_bytes};
-ghost use Rattle.bd_catalog.specs.Catalogue.{oldest_in};
+ghost use Rattle.bd_roll.specs.Catalogue.{oldest_in};
 ghost use Rattle.bd_catalog.specs.Rows.{walk};
 ghost use Rattle.bd_restore.specs.Faults.{FailsByCounts, IfDamaged};
 ghost use Rattle.bd_restore.specs.Met.{MeetsOn};

@@ -21,7 +21,7 @@ use Rattle.bd_model.specs.declared.shape.Shape.{Shape}
 use Rattle.bd_model.specs.declared.layout.Phase.{Phase}
 use Rattle.bd_model.specs.declared.layout.Phase.TheVariants.{Settled, Waiting}
 use Rattle.bd_model.specs.declared.answer.Answer.TheVariants.{Arranged, BackedUp, Expired, FullExtents, Listed, Restored, Scrubbed, Soaked}
-use Rattle.bd_catalog.specs.Catalogue.{retained_in}
+use Rattle.bd_roll.specs.Catalogue.{retained_in}
 use Rattle.bd_catalog.specs.Opening.{Found, opened}
 use Rattle.bd_catalog.specs.Standing.{StandsFor}
 use Rattle.bd_catalog.specs.Agreement.{Agrees}

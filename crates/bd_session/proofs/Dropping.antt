@@ -6,11 +6,11 @@ use Rattle.std.proofs.lemmas.Bool.{eqb-true, eqb-false}
 use Rattle.std.proofs.lemmas.List.{append-nil, length-drop}
 use Rattle.std.proofs.lemmas.List.Sorted.{IsPermutation-append_comm, IsPermutation-append_left, IsPermutation-trans}
 use Rattle.bd_model.specs.Sizes.{Sizes}
-use Rattle.bd_catalog.specs.Catalogue.{Catalogue, VersionEntry, VolumeEntry, all_extents, empty_catalogue, oldest_in, recipe_extents, retained_in, volume_extents}
-use Rattle.bd_catalog.specs.Rules.{obeys}
-use Rattle.bd_catalog.specs.Splitting.{after_expire}
-use Rattle.bd_catalog.proofs.Obeying.{NumbersHold, numbers_of, rules_of}
-use Rattle.bd_catalog.proofs.Owning.{own-expire}
+use Rattle.bd_roll.specs.Catalogue.{Catalogue, VersionEntry, VolumeEntry, all_extents, empty_catalogue, oldest_in, recipe_extents, retained_in, volume_extents}
+use Rattle.bd_roll.specs.Rules.{obeys}
+use Rattle.bd_roll.specs.Splitting.{after_expire}
+use Rattle.bd_roll.proofs.Obeying.{NumbersHold, numbers_of, rules_of}
+use Rattle.bd_roll.proofs.Owning.{own-expire}
 use Rattle.bd_catalog.proofs.StandingExpired.{later_recipe, later_volume, without_oldest}
 use Rattle.bd_session.specs.Drops.{Drops, DropsOldest}
 

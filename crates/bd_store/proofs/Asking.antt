@@ -11,7 +11,7 @@ use Rattle.bd_model.specs.History.{History, newest, oldest, retained}
 use Rattle.bd_model.specs.State.{VersionState, history}
 use Rattle.bd_model.specs.Step.{Outcome, restore, step, unchanged}
 use Rattle.bd_catalog.specs.Agreement.{Agrees}
-use Rattle.bd_catalog.specs.Catalogue.{Catalogue, oldest_in, retained_in}
+use Rattle.bd_roll.specs.Catalogue.{Catalogue, oldest_in, retained_in}
 use Rattle.bd_catalog.specs.Opening.{Found}
 use Rattle.bd_catalog.specs.Standing.{HasNumbers}
 use Rattle.bd_catalog.proofs.Standing.{stands-shows}

@@ -23,7 +23,7 @@ use Rattle.bd_model.specs.Sizes.{Sizes}
 use Rattle.bd_model.specs.State.{VersionState, history, stream_of}
 use Rattle.bd_model.specs.Step.{restore}
 use Rattle.bd_catalog.specs.Agreement.{Agrees}
-use Rattle.bd_catalog.specs.Catalogue.{Catalogue, oldest_in}
+use Rattle.bd_roll.specs.Catalogue.{Catalogue, oldest_in}
 use Rattle.bd_catalog.specs.Damages.{BreaksRule, IsOfVersion, IsSeen}
 use Rattle.bd_catalog.specs.Opening.{Found, opened}
 use Rattle.bd_catalog.specs.Rows.{RowPlace, spots_in, walk}

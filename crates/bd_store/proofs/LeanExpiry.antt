@@ -25,12 +25,12 @@ use Rattle.bd_model.specs.Sizes.{Sizes}
 use Rattle.bd_model.specs.State.{VersionState, history}
 use Rattle.bd_model.specs.Step.{Outcome, drop_oldest, expired_extents, phase_after, unchanged}
 use Rattle.bd_space.specs.Allotment.{Allotment, extent_count, TakenExactly}
-use Rattle.bd_catalog.specs.declared.step.Step.TheVariants.{Expire as Dropping}
+use Rattle.bd_roll.specs.declared.step.Step.TheVariants.{Expire as Dropping}
 use Rattle.bd_catalog.specs.Agreement.{Agrees}
-use Rattle.bd_catalog.specs.Catalogue.{Catalogue, all_extents, oldest_in, retained_in}
+use Rattle.bd_roll.specs.Catalogue.{Catalogue, all_extents, oldest_in, retained_in}
 use Rattle.bd_catalog.specs.Opening.{Found}
-use Rattle.bd_catalog.specs.Rules.{obeys}
-use Rattle.bd_catalog.specs.Splitting.{FitsExpire, expired}
+use Rattle.bd_roll.specs.Rules.{obeys}
+use Rattle.bd_roll.specs.Splitting.{FitsExpire, expired}
 use Rattle.bd_catalog.specs.Standing.{Stands, StandsFor}
 use Rattle.bd_catalog.specs.Steps.{after_step, HasCommitted, InOtherHalf, IsMade, IsOldOrCommitted, LeavesEither}
 use Rattle.bd_catalog.proofs.Committing.{number-small}
@@ -38,7 +38,7 @@ use Rattle.bd_catalog.proofs.Staged.{InUnowned, either_stands, staged_commit, un
 use Rattle.bd_catalog.proofs.Standing.{stands-shows}
 use Rattle.bd_catalog.proofs.StandingAnswers.{IsAnswered}
 use Rattle.bd_catalog.proofs.StandingExpired.{expired-count, expired_answered}
-use Rattle.bd_catalog.proofs.StandingNamed.{settled_with_few}
+use Rattle.bd_roll.proofs.Obeying.{settled_with_few}
 use Rattle.bd_store.specs.Attempts.{Beside, Meets, Scene, attempt, scene_beside}
 use Rattle.bd_store.specs.Causes.{counts}
 use Rattle.bd_store.specs.Following.{EndsReady, Follows}

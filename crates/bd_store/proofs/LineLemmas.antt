@@ -1,7 +1,7 @@
 -- The lines of versions, one after the other.
 use Rattle.std.proofs.Common.{◌≡◌, ℕ, zero, suc, ◌+◌, List, [], ◌∷◌, ◌++◌, take, sym, ◌∙◌, ap, arith, add-one, Some, slice_get}
 use Rattle.bd_model.proofs.ListLemmas.{same_some}
-use Rattle.bd_catalog.specs.Catalogue.{VersionEntry}
+use Rattle.bd_roll.specs.Catalogue.{VersionEntry}
 use Rattle.bd_catalog.specs.Standing.{lines_from}
 use Rattle.bd_catalog.proofs.StandingLists.{line_of}
 

@@ -13,7 +13,7 @@ use Rattle.bd_model.specs.declared.answer.VersionLine.{VersionLine}
 use Rattle.bd_model.specs.declared.command.Command.TheVariants.{List as Listing}
 use Rattle.bd_model.proofs.StepLemmas.{phase-listed}
 use Rattle.bd_catalog.specs.Agreement.{Agrees}
-use Rattle.bd_catalog.specs.Catalogue.{oldest_in}
+use Rattle.bd_roll.specs.Catalogue.{oldest_in}
 use Rattle.bd_catalog.specs.Opening.{Found}
 use Rattle.bd_catalog.specs.Standing.{StandsFor, lines_from}
 use Rattle.bd_catalog.proofs.Standing.{stands-shows}

@@ -31,12 +31,13 @@ use Rattle.bd_model.proofs.HistoryLemmas.{version-base, version-grown, version-n
 use Rattle.bd_space.specs.Allotment.{Allotment, extent_count, free_count, held_count, TakenExactly}
 use Rattle.bd_files.specs.Files.{Holds, Lacks}
 use Rattle.bd_catalog.specs.Agreement.{Agrees, InFree}
-use Rattle.bd_catalog.specs.Catalogue.{all_extents, retained_in}
-use Rattle.bd_catalog.specs.Growing.{after_backup, entry_for, own_category}
+use Rattle.bd_roll.specs.Catalogue.{all_extents, retained_in}
+use Rattle.bd_roll.specs.Growing.{after_backup, entry_for, own_category}
 use Rattle.bd_catalog.specs.Opening.{Found, opened}
-use Rattle.bd_catalog.specs.Shown.{version_entry}
+use Rattle.bd_roll.specs.Shown.{version_entry}
 use Rattle.bd_catalog.specs.Standing.{BeginWith, StandsFor, Stands}
-use Rattle.bd_catalog.specs.Steps.{committed, fresh_entries, HasCommitted, IsKeptOrCommitted, IsOldOrCommitted}
+use Rattle.bd_roll.specs.Steps.{fresh_entries}
+use Rattle.bd_catalog.specs.Steps.{committed, HasCommitted, IsKeptOrCommitted, IsOldOrCommitted}
 use Rattle.bd_catalog.proofs.Staged.{free_unowned, unowned_unnamed, staged_stands, staging, staged_commit, agrees_staged, either_stands, InUnowned}
 use Rattle.bd_catalog.proofs.Standing.{Shows, stands-shows}
 use Rattle.bd_catalog.proofs.StandingAnswers.{IsAnswered, backup_refused, backup_step}

@@ -18,12 +18,13 @@ use Rattle.bd_model.specs.State.{last_number}
 use Rattle.bd_space.specs.Allotment.{Allotment, extent_count, free_count, held_count, TakenExactly}
 use Rattle.bd_files.specs.Files.{Holds, Lacks}
 use Rattle.bd_catalog.specs.Agreement.{Agrees, InFree}
-use Rattle.bd_catalog.specs.Catalogue.{all_extents, retained_in}
-use Rattle.bd_catalog.specs.Growing.{after_backup}
+use Rattle.bd_roll.specs.Catalogue.{all_extents, retained_in}
+use Rattle.bd_roll.specs.Growing.{after_backup}
 use Rattle.bd_catalog.specs.Opening.{Found}
-use Rattle.bd_catalog.specs.Shown.{version_entry}
+use Rattle.bd_roll.specs.Shown.{version_entry}
 use Rattle.bd_catalog.specs.Standing.{Stands}
-use Rattle.bd_catalog.specs.Steps.{committed, fresh_entries, HasCommitted, IsKeptOrCommitted, IsOldOrCommitted}
+use Rattle.bd_roll.specs.Steps.{fresh_entries}
+use Rattle.bd_catalog.specs.Steps.{committed, HasCommitted, IsKeptOrCommitted, IsOldOrCommitted}
 use Rattle.bd_intake.specs.declared.staged.Staged.{Staged}
 use Rattle.bd_intake.specs.declared.fault.IntakeFault.{IntakeFault}
 use Rattle.bd_intake.specs.Answers.{AnswersIntake, HoldsVersion}

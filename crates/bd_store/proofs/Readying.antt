@@ -20,11 +20,11 @@ use Rattle.bd_model.specs.declared.layout.Phase.TheVariants.{Settled, Waiting}
 use Rattle.bd_model.specs.declared.layout.RecipeEntry.{RecipeEntry}
 use Rattle.bd_model.specs.declared.shape.Shape.{Shape}
 use Rattle.bd_catalog.specs.Agreement.{Agrees}
-use Rattle.bd_catalog.specs.Catalogue.{VersionEntry, retained_in}
+use Rattle.bd_roll.specs.Catalogue.{VersionEntry, retained_in}
 use Rattle.bd_catalog.specs.Damages.{BreaksRule, IsSeen}
 use Rattle.bd_catalog.specs.Opening.{Found}
 use Rattle.bd_catalog.specs.Rows.{open_row}
-use Rattle.bd_catalog.specs.Rules.{obeys, phase_holds}
+use Rattle.bd_roll.specs.Rules.{obeys, phase_holds}
 use Rattle.bd_catalog.specs.Sound.{length_holds}
 use Rattle.bd_catalog.specs.Standing.{StandsFor}
 use Rattle.bd_catalog.proofs.Standing.{stands-shows}

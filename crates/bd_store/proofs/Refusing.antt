@@ -13,7 +13,7 @@ use Rattle.bd_model.specs.declared.command.Command.TheVariants.{Backup}
 use Rattle.bd_model.specs.State.{VersionState, last_number}
 use Rattle.bd_model.specs.Step.{unchanged, phase_after, without_room}
 use Rattle.bd_catalog.specs.Agreement.{Agrees}
-use Rattle.bd_catalog.specs.Catalogue.{retained_in}
+use Rattle.bd_roll.specs.Catalogue.{retained_in}
 use Rattle.bd_catalog.specs.Opening.{Found}
 use Rattle.bd_catalog.specs.Standing.{StandsFor, Stands}
 use Rattle.bd_catalog.proofs.Standing.{stands-shows}

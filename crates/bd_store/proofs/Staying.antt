@@ -15,7 +15,7 @@ use Rattle.bd_model.specs.declared.damage.Damage.{Damage}
 use Rattle.bd_model.specs.declared.layout.Phase.TheVariants.{Settled}
 use Rattle.bd_model.specs.declared.layout.RecipeEntry.{RecipeEntry}
 use Rattle.bd_catalog.specs.Agreement.{Agrees}
-use Rattle.bd_catalog.specs.Catalogue.{Catalogue, VersionEntry, oldest_in, recipe_extents, retained_in}
+use Rattle.bd_roll.specs.Catalogue.{Catalogue, VersionEntry, oldest_in, recipe_extents, retained_in}
 use Rattle.bd_catalog.specs.Opening.{Found}
 use Rattle.bd_catalog.specs.Sound.{entry_holds, recipe_of}
 use Rattle.bd_catalog.specs.Standing.{BeginWith}

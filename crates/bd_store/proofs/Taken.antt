@@ -10,7 +10,7 @@ use Rattle.bd_model.specs.declared.answer.Answer.{Answer}
 use Rattle.bd_model.specs.declared.answer.Answer.TheVariants.{BackedUp}
 use Rattle.bd_model.specs.declared.layout.RecipeEntry.{RecipeEntry}
 use Rattle.bd_catalog.specs.Agreement.{InExtents}
-use Rattle.bd_catalog.specs.Catalogue.{retained_in}
+use Rattle.bd_roll.specs.Catalogue.{retained_in}
 use Rattle.bd_catalog.specs.Opening.{Found}
 use Rattle.bd_catalog.specs.Steps.{InOtherHalf}
 use Rattle.bd_disk.proofs.Agreeing.{agree_fewer}

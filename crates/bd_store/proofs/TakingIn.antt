@@ -29,11 +29,12 @@ use Rattle.bd_space.specs.Allotment.{Allotment, extent_count, free_count, held_c
 use Rattle.bd_space.proofs.Exact.{taken_count-exact}
 use Rattle.bd_space.proofs.Uses.{counts-all}
 use Rattle.bd_catalog.specs.Agreement.{Agrees, InFree}
-use Rattle.bd_catalog.specs.Catalogue.{Catalogue, OpenEntry, VersionEntry, all_extents, retained_in}
-use Rattle.bd_catalog.specs.Growing.{after_backup, empty_volume, with_entries}
+use Rattle.bd_roll.specs.Catalogue.{Catalogue, OpenEntry, VersionEntry, all_extents, retained_in}
+use Rattle.bd_roll.specs.Growing.{after_backup, empty_volume, with_entries}
 use Rattle.bd_catalog.specs.Opening.{Found}
-use Rattle.bd_catalog.specs.Shown.{version_entry}
-use Rattle.bd_catalog.specs.Steps.{committed, fresh_entries, InOtherHalf, IsMade, LeavesEither}
+use Rattle.bd_roll.specs.Shown.{version_entry}
+use Rattle.bd_roll.specs.Steps.{fresh_entries}
+use Rattle.bd_catalog.specs.Steps.{committed, InOtherHalf, IsMade, LeavesEither}
 use Rattle.bd_catalog.proofs.Committing.{number-small}
 use Rattle.bd_catalog.proofs.Staged.{agrees_staged}
 use Rattle.bd_intake.specs.declared.staged.Staged.{Staged}

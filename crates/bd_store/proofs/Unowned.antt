@@ -5,7 +5,7 @@ use Rattle.std.proofs.lemmas.Option.{slice_get_within}
 use Rattle.bd_model.specs.Sizes.{extent_place}
 use Rattle.bd_space.specs.Allotment.{Allotment, extent_count, IsTaken, TakenExactly}
 use Rattle.bd_space.specs.declared.space.Use.TheVariants.{Free}
-use Rattle.bd_catalog.specs.Catalogue.{all_extents}
+use Rattle.bd_roll.specs.Catalogue.{all_extents}
 use Rattle.bd_catalog.specs.Opening.{Found}
 use Rattle.bd_catalog.specs.Steps.{InOtherHalf}
 use Rattle.bd_catalog.proofs.Agreeing.{front_apart, one_extent}

@@ -17,12 +17,12 @@ use Rattle.bd_model.specs.declared.layout.Phase.TheVariants.{Settled}
 use Rattle.bd_model.specs.declared.layout.RecipeEntry.{RecipeEntry}
 use Rattle.bd_model.specs.Step.{without_room}
 use Rattle.bd_catalog.specs.Agreement.{Agrees}
-use Rattle.bd_catalog.specs.Catalogue.{Catalogue, all_extents, oldest_in, retained_in}
+use Rattle.bd_roll.specs.Catalogue.{Catalogue, all_extents, oldest_in, retained_in}
 use Rattle.bd_catalog.specs.Standing.{lines_from}
 use Rattle.bd_catalog.specs.Opening.{Found}
 use Rattle.bd_catalog.specs.Rows.{walk}
 use Rattle.bd_catalog.specs.Sound.{content, recipe_of}
-use Rattle.bd_catalog.specs.Splitting.{after_expire, expired}
+use Rattle.bd_roll.specs.Splitting.{after_expire, expired}
 use Rattle.bd_recipe.specs.Reading.{recipe_found}
 use Rattle.bd_restore.specs.Target.{held, HasChunks}
 use Rattle.bd_volume.specs.Headers.{HasGoodHeaders}

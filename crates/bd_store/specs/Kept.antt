@@ -1,7 +1,7 @@
 -- What a store in memory keeps.
 use Rattle.std.specs.Prelude.{◌≡◌, false, Bool}
 use Rattle.bd_space.specs.Allotment.{Allotment, extent_count, TakenExactly}
-use Rattle.bd_catalog.specs.Catalogue.{all_extents}
+use Rattle.bd_roll.specs.Catalogue.{all_extents}
 use Rattle.bd_catalog.specs.Opening.{Found}
 
 -- While it isn't worn, the space has the store's extents, and counts as taken exactly what the catalogue's owners have, each

@@ -1,7 +1,7 @@
 -- The recipe of the newest version, which a backup and arranging read.
 use Rattle.std.specs.Prelude.{◌≡◌, ◌≤◌, ◌==◌, ℕ, List, [], Result, Ok, Err, if◌then◌else◌}
 use Rattle.bd_model.specs.declared.layout.RecipeEntry.{RecipeEntry}
-use Rattle.bd_catalog.specs.Catalogue.{retained_in}
+use Rattle.bd_roll.specs.Catalogue.{retained_in}
 use Rattle.bd_catalog.specs.Opening.{Found}
 use Rattle.bd_recipe.specs.Marked.{Marked}
 use Rattle.bd_recipe.specs.Reading.{recipe_found, recipe_places}

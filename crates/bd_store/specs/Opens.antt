@@ -3,10 +3,10 @@ use Rattle.std.specs.Prelude.{◌≡◌, ◌⊎◌, ℕ, false, List, Ok}
 use Rattle.bd_disk.specs.History.{History}
 use Rattle.bd_disk.specs.Made.{LeavesNow, LeavesSince}
 use Rattle.bd_model.specs.declared.command.Command.{Command}
-use Rattle.bd_catalog.specs.Catalogue.{Catalogue, OpenEntry, VersionEntry}
-use Rattle.bd_catalog.specs.Growing.{after_backup}
+use Rattle.bd_roll.specs.Catalogue.{Catalogue, OpenEntry, VersionEntry}
+use Rattle.bd_roll.specs.Growing.{after_backup}
 use Rattle.bd_catalog.specs.Opening.{Found, opened}
-use Rattle.bd_catalog.specs.Splitting.{after_expire}
+use Rattle.bd_roll.specs.Splitting.{after_expire}
 pub use Rattle.bd_arrange.specs.Opens.{HasVersionsOf, OpensAlike}
 use Rattle.bd_store.specs.Deeds.{Deed, TakesIn, GivesBack, GivesUp, Settles, Checks, Tells, deed_of}
 use Rattle.bd_store.specs.Shown.{Shown}

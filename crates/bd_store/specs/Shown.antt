@@ -9,7 +9,7 @@ use Rattle.bd_model.specs.declared.shape.Shape.{Shape}
 use Rattle.bd_model.specs.Room.{owned}
 use Rattle.bd_model.specs.State.{VersionState, history}
 use Rattle.bd_catalog.specs.Agreement.{Agrees}
-use Rattle.bd_catalog.specs.Catalogue.{all_extents}
+use Rattle.bd_roll.specs.Catalogue.{all_extents}
 use Rattle.bd_catalog.specs.Opening.{Found, opened}
 use Rattle.bd_catalog.specs.Standing.{StandsFor}
 use Rattle.bd_store.specs.declared.figures.Figures.{Figures}

@@ -6,11 +6,11 @@ use Rattle.bd_model.specs.Room.{counted_of}
 use Rattle.bd_model.specs.declared.answer.Answer.{Answer}
 use Rattle.bd_model.specs.declared.answer.Answer.TheVariants.{BackedUp, FullExtents}
 use Rattle.bd_model.specs.declared.layout.RecipeEntry.{RecipeEntry}
-use Rattle.bd_catalog.specs.Catalogue.{all_extents}
-use Rattle.bd_catalog.specs.Growing.{after_backup}
+use Rattle.bd_roll.specs.Catalogue.{all_extents}
+use Rattle.bd_roll.specs.Growing.{after_backup}
 use Rattle.bd_catalog.specs.Opening.{Found}
-use Rattle.bd_catalog.specs.Shown.{version_entry}
-use Rattle.bd_catalog.specs.Steps.{fresh_entries}
+use Rattle.bd_roll.specs.Shown.{version_entry}
+use Rattle.bd_roll.specs.Steps.{fresh_entries}
 use Rattle.bd_intake.specs.Answers.{HoldsVersion, IsVersion}
 use Rattle.bd_intake.specs.Firsts.{cut_in}
 use Rattle.bd_intake.specs.declared.staged.Staged.{Staged}

@@ -10,10 +10,10 @@ use Rattle.bd_model.specs.declared.layout.Phase.TheVariants.{Settled, Waiting}
 use Rattle.bd_model.specs.declared.shape.Shape.{Shape}
 use Rattle.bd_model.specs.declared.answer.Answer.{Answer}
 use Rattle.bd_model.specs.declared.answer.Answer.TheVariants.{Arranged, BackedUp, Expired, FullExtents, FullNumbers, FullVersions, NoVersion, NothingRetained, Restored}
-use Rattle.bd_catalog.specs.Catalogue.{oldest_in, retained_in}
+use Rattle.bd_roll.specs.Catalogue.{oldest_in, retained_in}
 use Rattle.bd_catalog.specs.Opening.{Found}
 use Rattle.bd_catalog.specs.Rows.{walk}
-use Rattle.bd_catalog.specs.Splitting.{after_expire}
+use Rattle.bd_roll.specs.Splitting.{after_expire}
 use Rattle.bd_catalog.specs.Standing.{StandsFor}
 use Rattle.bd_catalog.specs.Steps.{IsMade}
 use Rattle.bd_catalog.specs.Walks.{restore_reads, IsLean}

@@ -7,10 +7,10 @@ use Rattle.bd_model.specs.declared.answer.Answer.{Answer}
 use Rattle.bd_model.specs.declared.command.Command.{Command}
 use Rattle.bd_gate.specs.Halves.{InHalf}
 use Rattle.bd_catalog.specs.Agreement.{Agrees, InExtents}
-use Rattle.bd_catalog.specs.Catalogue.{Catalogue, OpenEntry, all_extents, retained_in}
-use Rattle.bd_catalog.specs.Growing.{after_backup}
+use Rattle.bd_roll.specs.Catalogue.{Catalogue, OpenEntry, all_extents, retained_in}
+use Rattle.bd_roll.specs.Growing.{after_backup}
 use Rattle.bd_catalog.specs.Opening.{Found}
-use Rattle.bd_catalog.specs.Splitting.{after_expire}
+use Rattle.bd_roll.specs.Splitting.{after_expire}
 use Rattle.bd_volume.specs.Named.{IsBeside}
 use Rattle.bd_arrange.specs.Arranged.{IsArrangedFrom}
 use Rattle.bd_store.specs.Deeds.{Deed, TakesIn, GivesBack, GivesUp, Settles, Checks, Tells, deed_of}

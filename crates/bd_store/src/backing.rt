@@ -6,7 +6,7 @@ ghost use Rattle.bd_disk.specs.Runs.{Works};
 ghost use Rattle.bd_model.specs.State.{last_number};
 ghost use Rattle.bd_model.specs.declared.command.Command.TheVariants.{Backup, Reorganise};
 ghost use Rattle.bd_model.specs.declared.layout.Phase.TheVariants.{Settled};
-ghost use Rattle.bd_catalog.specs.Catalogue.{retained_in};
+ghost use Rattle.bd_roll.specs.Catalogue.{retained_in};
 ghost use Rattle.bd_recipe.specs.Reading.{is_disk_fault as is_read_disk_fault};
 ghost use Rattle.bd_volume.specs.Named.{IsBeside};
 ghost use Rattle.bd_intake.specs.Given.{IsRecipeOrNone};

@@ -1,7 +1,7 @@
 //! The oldest version, given up.
 ghost use Rattle.std.specs.Prelude.{◌≡◌, ◌≤◌, true, false};
 ghost use Rattle.bd_model.specs.declared.command.Command.TheVariants.{Expire};
-ghost use Rattle.bd_catalog.specs.Splitting.{FitsExpire};
+ghost use Rattle.bd_roll.specs.Splitting.{FitsExpire};
 ghost use Rattle.bd_store.specs.Attempts.{Beside, Meets, attempt, scene_beside};
 ghost use Rattle.bd_store.specs.Shown.{IsOpenOn};
 ghost use Rattle.bd_store.specs.Touches.{arranges_first};

@@ -1,6 +1,6 @@
 //! The lines of a list.
 ghost use Rattle.std.specs.Prelude.{◌≡◌, IfOk};
-ghost use Rattle.bd_catalog.specs.Catalogue.{oldest_in};
+ghost use Rattle.bd_roll.specs.Catalogue.{oldest_in};
 ghost use Rattle.bd_catalog.specs.Standing.{lines_from};
 
 use bd_catalog::Catalog;

@@ -5,10 +5,11 @@ ghost use Rattle.bd_disk.specs.Runs.{Writes};
 ghost use Rattle.bd_model.specs.Sizes.{disk_bytes};
 ghost use Rattle.bd_catalog.specs.Agreement.{Agrees};
 ghost use Rattle.bd_space.specs.Allotment.{extent_count, held_count, TakenExactly};
-ghost use Rattle.bd_catalog.specs.Catalogue.{all_extents};
+ghost use Rattle.bd_roll.specs.Catalogue.{all_extents};
 ghost use Rattle.bd_catalog.specs.Ledger.{HasRoom};
-ghost use Rattle.bd_catalog.specs.Shown.{version_entry};
-ghost use Rattle.bd_catalog.specs.Steps.{after_step, brought, fresh_entries, FitsBackup, InOtherHalf, IsMade, LeavesEither};
+ghost use Rattle.bd_roll.specs.Shown.{version_entry};
+ghost use Rattle.bd_roll.specs.Steps.{brought, fresh_entries, FitsBackup};
+ghost use Rattle.bd_catalog.specs.Steps.{after_step, InOtherHalf, IsMade, LeavesEither};
 ghost use Rattle.bd_store.specs.Naming.{AnswersNaming};
 
 use crate::fault::StoreFault;

@@ -5,7 +5,7 @@ ghost use Rattle.bd_disk.specs.History.{contents};
 ghost use Rattle.bd_disk.specs.Runs.{Reads};
 ghost use Rattle.bd_disk.specs.Trace.{ReadsOnly};
 ghost use Rattle.bd_model.specs.Sizes.{disk_bytes};
-ghost use Rattle.bd_catalog.specs.Catalogue.{retained_in};
+ghost use Rattle.bd_roll.specs.Catalogue.{retained_in};
 ghost use Rattle.bd_catalog.specs.Damages.{IsSeen};
 ghost use Rattle.bd_intake.specs.Given.{IsRecipeOrNone};
 ghost use Rattle.bd_recipe.specs.Reading.{IfDamaged, InRecipe, is_disk_fault};

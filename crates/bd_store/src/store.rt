@@ -11,7 +11,7 @@ ghost use Rattle.bd_model.specs.declared.answer.Answer.TheVariants.{Listed};
 ghost use Rattle.bd_model.specs.declared.command.Command.TheVariants.{Restore, Scrub};
 ghost use Rattle.bd_gate.specs.Halves.{BeforeExtents};
 ghost use Rattle.bd_gate.specs.Superblock.{sizes_at};
-ghost use Rattle.bd_catalog.specs.Catalogue.{oldest_in};
+ghost use Rattle.bd_roll.specs.Catalogue.{oldest_in};
 ghost use Rattle.bd_catalog.specs.Opening.{opened};
 ghost use Rattle.bd_catalog.specs.Standing.{lines_from};
 ghost use Rattle.bd_recover.specs.Answers.{is_disk_fault as is_format_disk_fault, IsFormatAnswer};

@@ -13,8 +13,8 @@ use Rattle.bd_model.proofs.RoomLemmas.{up-enough}
 use Rattle.bd_extio.specs.Ranges.{AreExtents}
 use Rattle.bd_extio.proofs.Places.{length-owner_bytes}
 use Rattle.bd_space.specs.Allotment.{Allotment, IsTaken}
-use Rattle.bd_catalog.specs.Catalogue.{bytes_of_rows, starts_of}
-use Rattle.bd_catalog.specs.Rules.{row_holds}
+use Rattle.bd_roll.specs.Catalogue.{bytes_of_rows, starts_of}
+use Rattle.bd_roll.specs.Rules.{row_holds}
 use Rattle.bd_catalog.specs.Standing.{BeginWith}
 use Rattle.bd_catalog.proofs.Agreeing.{begin_with_more}
 use Rattle.bd_volume.specs.Filled.{Filled}

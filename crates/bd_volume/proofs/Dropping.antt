@@ -9,16 +9,16 @@ use Rattle.std.proofs.lemmas.List.Sorted.{length_permutation}
 use Rattle.bd_model.proofs.ListLemmas.{left_and, right_and}
 use Rattle.bd_model.specs.Sizes.{Sizes, sizes_of}
 use Rattle.bd_model.specs.declared.shape.Shape.{Shape}
-use Rattle.bd_catalog.specs.declared.rows.ActiveCategory.{ActiveCategory}
-use Rattle.bd_catalog.specs.declared.rows.ClosedVolume.{ClosedVolume}
-use Rattle.bd_catalog.specs.declared.rows.VersionRow.{VersionRow}
-use Rattle.bd_catalog.specs.Catalogue.{Catalogue, OpenEntry, VersionEntry, VolumeEntry, all_extents, retained_in}
-use Rattle.bd_catalog.specs.Rules.{all_differ, extents_hold, obeys}
-use Rattle.bd_catalog.specs.Shown.{open_entry, version_entry, volume_entry}
-use Rattle.bd_catalog.specs.Splitting.{after_expire, expired}
-use Rattle.bd_catalog.proofs.GivenUp.{flat_map-last}
-use Rattle.bd_catalog.proofs.Obeying.{NumbersHold, count_of, numbers_of, rules_of}
-use Rattle.bd_catalog.proofs.Owning.{own-expire}
+use Rattle.bd_roll.specs.declared.rows.ActiveCategory.{ActiveCategory}
+use Rattle.bd_roll.specs.declared.rows.ClosedVolume.{ClosedVolume}
+use Rattle.bd_roll.specs.declared.rows.VersionRow.{VersionRow}
+use Rattle.bd_roll.specs.Catalogue.{Catalogue, OpenEntry, VersionEntry, VolumeEntry, all_extents, retained_in}
+use Rattle.bd_roll.specs.Rules.{all_differ, extents_hold, obeys}
+use Rattle.bd_roll.specs.Shown.{open_entry, version_entry, volume_entry}
+use Rattle.bd_roll.specs.Splitting.{after_expire, expired}
+use Rattle.bd_roll.proofs.GivenUp.{flat_map-last}
+use Rattle.bd_roll.proofs.Obeying.{NumbersHold, count_of, numbers_of, rules_of}
+use Rattle.bd_roll.proofs.Owning.{own-expire}
 
 -- one owner more, of several
 pub one_more : {X : Type 0} (f : X → List ℕ) (xs : List X) (i : ℕ) (x : X) → i < length xs → x ≡ get_or xs i x → length (flat_map f (take (i + 1) xs)) ≡ length (flat_map f (take i xs)) + length (f x)

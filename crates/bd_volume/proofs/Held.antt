@@ -18,9 +18,9 @@ use Rattle.bd_model.specs.State.{history}
 use Rattle.bd_model.proofs.LayoutLemmas.{closed_volume-rows}
 use Rattle.bd_model.proofs.RecordLemmas.{length-records}
 use Rattle.bd_model.proofs.RowLemmas.{rows_over, no_chunks}
-use Rattle.bd_catalog.specs.Catalogue.{Catalogue, OpenEntry, active_extents, oldest_in, volume_extents}
+use Rattle.bd_roll.specs.Catalogue.{Catalogue, OpenEntry, active_extents, oldest_in, volume_extents}
 use Rattle.bd_catalog.specs.Rows.{open_row, rows_from, rows_in, volume_rows}
-use Rattle.bd_catalog.specs.Rules.{obeys}
+use Rattle.bd_roll.specs.Rules.{obeys}
 use Rattle.bd_catalog.specs.Standing.{BeginWith, HasActives, HasNumbers, HasVolumes}
 use Rattle.bd_catalog.proofs.Standing.{Shows, stands-shows}
 use Rattle.bd_catalog.proofs.StandingFound.{opened-found}

@@ -18,9 +18,9 @@ use Rattle.bd_model.specs.Sizes.{Sizes}
 use Rattle.bd_model.proofs.ChunkListLemmas.{contains-append}
 use Rattle.bd_model.proofs.ListLemmas.{filter-numbers_none, filter-numbers, filter-all, numbers-split}
 use Rattle.bd_model.proofs.RowLemmas.{no_chunks, rows_over}
-use Rattle.bd_catalog.specs.Catalogue.{Catalogue, OpenEntry, active_extents, volume_extents}
+use Rattle.bd_roll.specs.Catalogue.{Catalogue, OpenEntry, active_extents, volume_extents}
 use Rattle.bd_catalog.specs.Rows.{RowPlace, begun_by, open_row, row_spots, rows_from, rows_in, spots_in, volume_rows, walk}
-use Rattle.bd_catalog.specs.Rules.{obeys}
+use Rattle.bd_roll.specs.Rules.{obeys}
 use Rattle.bd_catalog.specs.Sound.{part_holds, part_records, parts_for, records_for}
 use Rattle.bd_catalog.specs.Walks.{record_reads}
 use Rattle.bd_volume.specs.Holding.{Group, HoldsLayout, HoldsRows, chunks_in, group_at, groups_over}

@@ -29,15 +29,15 @@ use Rattle.bd_model.proofs.RoomLemmas.{up-enough}
 use Rattle.bd_model.proofs.RowLemmas.{no_chunks, rows_describe_the_volume, rows_over}
 use Rattle.bd_extio.specs.Ranges.{InOwner, place_of}
 use Rattle.bd_extio.proofs.Places.{get_or-owner_bytes, length-owner_bytes}
-use Rattle.bd_catalog.specs.Catalogue.{Catalogue, OpenEntry, VersionEntry, VolumeEntry, active_extents, all_extents, bytes_of_rows, oldest_in, recipe_extents, volume_extents}
+use Rattle.bd_roll.specs.Catalogue.{Catalogue, OpenEntry, VersionEntry, VolumeEntry, active_extents, all_extents, bytes_of_rows, oldest_in, recipe_extents, volume_extents}
 use Rattle.bd_catalog.specs.Opening.{Found, opened}
 use Rattle.bd_catalog.specs.Rows.{open_row}
-use Rattle.bd_catalog.specs.Rules.{active_holds, all_differ, obeys, version_holds, volume_holds}
+use Rattle.bd_roll.specs.Rules.{active_holds, all_differ, obeys, version_holds, volume_holds}
 use Rattle.bd_catalog.specs.Standing.{BeginWith, HasActives, HasNumbers, HasVersions, HasVolumes, StandsFor}
 use Rattle.bd_catalog.proofs.Standing.{Shows, shows_same, stands-shown, stands-shows}
 use Rattle.bd_catalog.proofs.StandingFound.{Obeys, obeys-each, opened-found}
 use Rattle.bd_catalog.proofs.StandingLines.{chunks_recorded}
-use Rattle.bd_catalog.proofs.Obeying.{count_in_category, count_in_version, count_in_volume}
+use Rattle.bd_roll.proofs.Obeying.{count_in_category, count_in_version, count_in_volume}
 use Rattle.bd_volume.specs.Named.{InNamed, Named, named_by, open_named, recipe_named, volume_named}
 use Rattle.bd_volume.proofs.Held.{one_entry, rows_stand}
 use Rattle.bd_volume.proofs.Naming.{AreOwned, opens_owned}

@@ -9,9 +9,9 @@ use Rattle.bd_model.specs.declared.layout.CategoryRow.{CategoryRow}
 use Rattle.bd_model.specs.Chunks.{numbers}
 use Rattle.bd_model.specs.Sizes.{Sizes}
 use Rattle.bd_model.proofs.ListLemmas.{left_and, right_and}
-use Rattle.bd_catalog.specs.Catalogue.{Catalogue, OpenEntry, volume_extents}
+use Rattle.bd_roll.specs.Catalogue.{Catalogue, OpenEntry, volume_extents}
 use Rattle.bd_catalog.specs.Rows.{RowPlace, begun_by, open_row, rows_from, volume_rows, walk}
-use Rattle.bd_catalog.specs.Rules.{ascends, obeys}
+use Rattle.bd_roll.specs.Rules.{ascends, obeys}
 use Rattle.bd_catalog.proofs.StandingFound.{obeys-each}
 use Rattle.bd_volume.specs.Pieces.{extents_of, piece_at, pieces_of, place_of}
 use Rattle.bd_volume.specs.declared.piece.Piece.{Piece}

@@ -16,9 +16,9 @@ use Rattle.bd_model.specs.Chunks.{numbers}
 use Rattle.bd_model.specs.Room.{up}
 use Rattle.bd_model.specs.Sizes.{Sizes}
 use Rattle.bd_model.proofs.ListLemmas.{left_and, right_and, numbers-split, range_with_len-suc}
-use Rattle.bd_catalog.specs.Catalogue.{Catalogue, VolumeEntry, bytes_of_rows, oldest_in, volume_extents}
+use Rattle.bd_roll.specs.Catalogue.{Catalogue, VolumeEntry, bytes_of_rows, oldest_in, volume_extents}
 use Rattle.bd_catalog.specs.Rows.{RowPlace, begun_by, row_place, rows_from, rows_in, volume_rows}
-use Rattle.bd_catalog.specs.Rules.{fits_eight, obeys, row_holds, volume_holds}
+use Rattle.bd_roll.specs.Rules.{fits_eight, obeys, row_holds, volume_holds}
 use Rattle.bd_catalog.proofs.StandingFound.{numbers-each, obeys-each}
 use Rattle.bd_volume.specs.Pieces.{closed_rows}
 

@@ -12,8 +12,8 @@ use Rattle.bd_model.specs.declared.layout.CategoryRow.{CategoryRow}
 use Rattle.bd_model.specs.Laws.{rows_more}
 use Rattle.bd_model.specs.Sizes.{Sizes}
 use Rattle.bd_model.proofs.ListLemmas.{left_and, right_and}
-use Rattle.bd_catalog.specs.Catalogue.{bytes_of_rows, starts_of}
-use Rattle.bd_catalog.specs.Rules.{fits_eight, row_holds}
+use Rattle.bd_roll.specs.Catalogue.{bytes_of_rows, starts_of}
+use Rattle.bd_roll.specs.Rules.{fits_eight, row_holds}
 use Rattle.bd_volume.specs.Growing.{AreCounted}
 
 module _ (r chunks bytes : ℕ) where

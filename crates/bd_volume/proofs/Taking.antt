@@ -20,7 +20,7 @@ use Rattle.bd_space.proofs.Exact.{TakenExactly-append}
 use Rattle.bd_space.proofs.InTurn.{marks_both, marks_none}
 use Rattle.bd_space.proofs.Kept.{still_free}
 use Rattle.bd_space.proofs.Uses.{taken_still}
-use Rattle.bd_catalog.specs.Catalogue.{bytes_of_rows}
+use Rattle.bd_roll.specs.Catalogue.{bytes_of_rows}
 use Rattle.bd_volume.specs.Copies.{AreApart, IsSection}
 use Rattle.bd_volume.specs.declared.copy.Section.{Section}
 use Rattle.bd_volume.specs.Filled.{Filled}

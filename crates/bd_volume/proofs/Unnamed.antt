@@ -18,12 +18,12 @@ use Rattle.bd_model.specs.State.{VersionState}
 use Rattle.bd_model.proofs.ListLemmas.{right_and}
 use Rattle.bd_extio.specs.Ranges.{InOwner, place_of}
 use Rattle.bd_extio.proofs.Places.{extent_of, place_of-high, place_of-injective, place_of-low}
-use Rattle.bd_catalog.specs.Catalogue.{Catalogue, OpenEntry, all_extents}
+use Rattle.bd_roll.specs.Catalogue.{Catalogue, OpenEntry, all_extents}
 use Rattle.bd_catalog.specs.Opening.{Found, opened}
-use Rattle.bd_catalog.specs.Rules.{all_differ, obeys}
+use Rattle.bd_roll.specs.Rules.{all_differ, obeys}
 use Rattle.bd_catalog.specs.Standing.{StandsFor}
 use Rattle.bd_catalog.proofs.Agreeing.{InFront, one_extent, opens_again}
-use Rattle.bd_catalog.proofs.Obeying.{distinct_of}
+use Rattle.bd_roll.proofs.Obeying.{distinct_of}
 use Rattle.bd_catalog.proofs.StandingFound.{obeys-each}
 use Rattle.bd_volume.specs.Named.{InNamed, IsUnnamed, Named, NamedBytesDecide, named_by, open_named, recipe_named, volume_named}
 use Rattle.bd_volume.proofs.NamedPlaces.{FitsNamed, all_fit, stands_named}

@@ -10,7 +10,7 @@ use Rattle.bd_model.specs.Records.{stored_at, stored_in}
 use Rattle.bd_model.specs.declared.damage.Owner.{Owner}
 use Rattle.bd_model.specs.declared.damage.Owner.TheVariants.{Volume}
 use Rattle.bd_model.specs.declared.layout.CategoryRow.{CategoryRow}
-use Rattle.bd_catalog.specs.Catalogue.{Catalogue, OpenEntry, volume_extents}
+use Rattle.bd_roll.specs.Catalogue.{Catalogue, OpenEntry, volume_extents}
 use Rattle.bd_catalog.specs.Rows.{RowPlace, Spot, open_row, records_at, row_bytes, row_spots, rows_from, rows_in, spots_from, spots_in, volume_rows, walk}
 use Rattle.bd_catalog.specs.Sound.{Part, active_parts, part_records, parts_for, parts_of, records_for, volume_parts}
 use Rattle.bd_volume.proofs.MappedLists.{filter_mapped, joined_same, map_joined}

@@ -12,8 +12,8 @@ use Rattle.bd_extio.specs.Owned.{owned_on}
 use Rattle.bd_extio.specs.Ranges.{AreExtents, InOwner}
 use Rattle.bd_space.specs.Allotment.{Allotment, extent_count, IsFree, IsTaken, Marks, free_count, held_count}
 use Rattle.bd_space.specs.declared.space.Use.TheVariants.{Taken}
-use Rattle.bd_catalog.specs.Catalogue.{bytes_of_rows, starts_of}
-use Rattle.bd_catalog.specs.Rules.{row_holds}
+use Rattle.bd_roll.specs.Catalogue.{bytes_of_rows, starts_of}
+use Rattle.bd_roll.specs.Rules.{row_holds}
 use Rattle.bd_volume.specs.Copies.{AreApart, bytes_on, InSection, IsSection}
 use Rattle.bd_volume.specs.Filled.{Filled}
 use Rattle.bd_volume.specs.declared.copy.Section.{Section}

@@ -9,7 +9,7 @@ use Rattle.bd_model.specs.History.{History, oldest, newest}
 use Rattle.bd_model.specs.Layout.{row_of, row_chunks, open_category}
 use Rattle.bd_model.specs.Records.{records_of}
 use Rattle.bd_model.specs.State.{VersionState, history}
-use Rattle.bd_catalog.specs.Catalogue.{Catalogue}
+use Rattle.bd_roll.specs.Catalogue.{Catalogue}
 use Rattle.bd_catalog.specs.Opening.{Found, opened}
 use Rattle.bd_catalog.specs.Rows.{RowPlace, open_row, volume_rows}
 use Rattle.bd_catalog.specs.Standing.{StandsFor}

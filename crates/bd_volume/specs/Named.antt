@@ -7,9 +7,9 @@ use Rattle.bd_model.specs.Sizes.{Sizes, disk_bytes, extent_place}
 use Rattle.bd_model.specs.State.{VersionState}
 use Rattle.bd_extio.specs.Ranges.{InOwner, IsWithin}
 use Rattle.bd_gate.specs.Halves.{InHalf}
-use Rattle.bd_catalog.specs.Catalogue.{Catalogue, OpenEntry, VersionEntry, VolumeEntry, all_extents, bytes_of_rows}
+use Rattle.bd_roll.specs.Catalogue.{Catalogue, OpenEntry, VersionEntry, VolumeEntry, all_extents, bytes_of_rows}
 use Rattle.bd_catalog.specs.Opening.{Found, opened}
-use Rattle.bd_catalog.specs.Rules.{obeys}
+use Rattle.bd_roll.specs.Rules.{obeys}
 use Rattle.bd_catalog.specs.Standing.{StandsFor}
 
 -- an owner's extents, with how many of their first bytes the catalogue names

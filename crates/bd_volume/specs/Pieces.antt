@@ -3,7 +3,7 @@ use Rattle.std.specs.Prelude.{ℕ, ◌-◌, List, flat_map, map}
 use Rattle.bd_model.specs.Chunks.{numbers}
 use Rattle.bd_model.specs.declared.damage.Owner.{Owner}
 use Rattle.bd_model.specs.declared.damage.Owner.TheVariants.{Volume, Active}
-use Rattle.bd_catalog.specs.Catalogue.{Catalogue, VolumeEntry, active_extents, volume_extents}
+use Rattle.bd_roll.specs.Catalogue.{Catalogue, VolumeEntry, active_extents, volume_extents}
 use Rattle.bd_catalog.specs.Rows.{RowPlace, begun_by, row_end, row_place, rows_from, volume_rows}
 use Rattle.bd_volume.specs.declared.piece.Piece.{Piece}
 

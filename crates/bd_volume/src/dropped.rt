@@ -1,8 +1,8 @@
 //! The extents that go with the oldest version.
 ghost use Rattle.std.specs.Prelude.{◌≡◌, ◌≤◌, ◌<◌, ◌^◌, length};
 ghost use Rattle.std.specs.List.{flat_map};
-ghost use Rattle.bd_catalog.specs.Catalogue.{retained_in};
-ghost use Rattle.bd_catalog.specs.Splitting.{expired};
+ghost use Rattle.bd_roll.specs.Catalogue.{retained_in};
+ghost use Rattle.bd_roll.specs.Splitting.{expired};
 
 use bd_catalog::{ActiveCategory, Catalog};
 

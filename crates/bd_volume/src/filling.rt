@@ -3,7 +3,7 @@ ghost use Rattle.std.specs.Prelude.{◌≡◌, ◌+◌, ◌-◌, ◌^◌, ◌<�
 ghost use Rattle.bd_model.specs.Laws.{rows_more};
 ghost use Rattle.bd_model.specs.Room.{up};
 ghost use Rattle.bd_model.specs.Sizes.{sizes_of};
-ghost use Rattle.bd_catalog.specs.Catalogue.{bytes_of_rows};
+ghost use Rattle.bd_roll.specs.Catalogue.{bytes_of_rows};
 ghost use Rattle.bd_space.specs.Allotment.{free_count, free_numbers};
 ghost use Rattle.bd_volume.specs.Growing.{AddsExtents, HasExtents, HasFree, Takes, rows_after};
 
@@ -28,7 +28,7 @@ pub struct Filling {
 
 impl Model for Filling {
     ghost use Rattle.std.specs.Prelude.{◌≡◌, ◌^◌, ◌-◌, min};
-    ghost use Rattle.bd_catalog.specs.Catalogue.{bytes_of_rows};
+    ghost use Rattle.bd_roll.specs.Catalogue.{bytes_of_rows};
     ghost use Rattle.bd_volume.specs.Filled.{Filled};
 
     ghost Value = { Filled };

@@ -1,9 +1,9 @@
 //! The rows that a restore walks over.
 ghost use Rattle.std.specs.Prelude.{◌≡◌, ◌+◌, ◌^◌, ◌<◌, ◌≤◌, [], ◌∷◌, ◌++◌, length, map, nat_le, if◌then◌else◌, IfOk, IfSome, IsTrue};
-ghost use Rattle.bd_catalog.specs.Catalogue.{bytes_of_rows, oldest_in};
+ghost use Rattle.bd_roll.specs.Catalogue.{bytes_of_rows, oldest_in};
 ghost use Rattle.bd_catalog.specs.Rows.{open_row, volume_rows, walk};
-ghost use Rattle.bd_catalog.specs.Rules.{obeys};
-ghost use Rattle.bd_catalog.specs.Shown.{open_entry, volume_entry};
+ghost use Rattle.bd_roll.specs.Rules.{obeys};
+ghost use Rattle.bd_roll.specs.Shown.{open_entry, volume_entry};
 ghost use Rattle.bd_volume.specs.Pieces.{closed_rows, pieces_of, place_of, rows_closed_from};
 
 use crate::piece::{Piece, Pieces};

@@ -8,9 +8,9 @@ use Rattle.bd_model.specs.declared.layout.Phase.TheVariants.{Settled}
 use Rattle.bd_space.specs.Allotment.{held_count}
 use Rattle.bd_catalog.specs.Agreement.{Agrees}
 use Rattle.bd_catalog.specs.Opening.{Found}
-use Rattle.bd_catalog.specs.Rules.{obeys}
+use Rattle.bd_roll.specs.Rules.{obeys}
 use Rattle.bd_catalog.proofs.Committing.{number-small}
-use Rattle.bd_catalog.proofs.Obeying.{IsBounded, bounded_of}
+use Rattle.bd_roll.proofs.Obeying.{IsBounded, bounded_of}
 use Rattle.bd_recipe.specs.Reading.{recipe_found}
 use Rattle.bd_recipe.specs.declared.fault.ReadFault.{ReadFault}
 use Rattle.bd_recipe.specs.declared.fault.ReadFault.TheVariants.{OutOfMemory}

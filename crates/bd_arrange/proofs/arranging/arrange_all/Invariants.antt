@@ -1,5 +1,5 @@
 use Rattle.std.proofs.Common.{drop, map}
-use Rattle.bd_catalog.specs.Shown.{open_entry}
+use Rattle.bd_roll.specs.Shown.{open_entry}
 use Rattle.bd_arrange.proofs.Laps.{Lap}
 use Rattle.bd_arrange.proofs.arranging.arrange_all.Given as goal
 

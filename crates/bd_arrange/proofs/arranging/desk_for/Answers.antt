@@ -2,12 +2,12 @@ use Rattle.std.proofs.Common.{◌≡◌, ℕ, zero, suc, ◌+◌, ◌-◌, ◌�
 use Rattle.std.specs.Prelude.{IfOk, Result, Ok, Err}
 use Rattle.std.proofs.lemmas.List.{length-map}
 use Rattle.bd_model.specs.declared.layout.CategoryRow.{CategoryRow}
-use Rattle.bd_catalog.specs.Catalogue.{Catalogue, oldest_in}
-use Rattle.bd_catalog.specs.Shown.{volume_entry}
-use Rattle.bd_catalog.specs.Splitting.{last_extents, last_rows}
-use Rattle.bd_catalog.specs.declared.rows.ClosedVolume.{ClosedVolume}
-use Rattle.bd_catalog.proofs.Obeying.{NumbersHold, numbers_of, rules_of}
-use Rattle.bd_catalog.proofs.Owning.{waiting_volume}
+use Rattle.bd_roll.specs.Catalogue.{Catalogue, oldest_in}
+use Rattle.bd_roll.specs.Shown.{volume_entry}
+use Rattle.bd_roll.specs.Splitting.{last_extents, last_rows}
+use Rattle.bd_roll.specs.declared.rows.ClosedVolume.{ClosedVolume}
+use Rattle.bd_roll.proofs.Obeying.{NumbersHold, numbers_of, rules_of}
+use Rattle.bd_roll.proofs.Owning.{waiting_volume}
 use Rattle.bd_arrange.specs.Desks.{OnDesk}
 use Rattle.bd_arrange.specs.Underway.{HasSplits}
 use Rattle.bd_arrange.proofs.arranging.desk_for.Goals as goal

@@ -13,7 +13,7 @@ use Rattle.bd_extio.specs.Ranges.{InOwner}
 use Rattle.bd_category.specs.Places.{ReadsHeader}
 use Rattle.bd_category.specs.Records.{AnswersHeader, header_at}
 use Rattle.bd_catalog.specs.Rows.{open_row, row_end, spot_in}
-use Rattle.bd_catalog.specs.Shown.{open_entry}
+use Rattle.bd_roll.specs.Shown.{open_entry}
 use Rattle.bd_recipe.proofs.Marking.{first_from-some}
 use Rattle.bd_volume.specs.Headers.{IsRefused}
 use Rattle.bd_volume.proofs.ReadHeaders.{good_header, header_read, header_within, is_stored, refused_header}

@@ -3,9 +3,9 @@ use Rattle.bd_disk.specs.History.{contents}
 use Rattle.bd_disk.proofs.RunLemmas.{both_reads, no_reads, nothing_written, same_contents}
 use Rattle.bd_model.specs.Sizes.{sizes_of}
 use Rattle.bd_model.specs.declared.damage.Damage.{Damage}
-use Rattle.bd_catalog.specs.Catalogue.{Catalogue}
+use Rattle.bd_roll.specs.Catalogue.{Catalogue}
 use Rattle.bd_catalog.specs.Rows.{open_row, spot_in}
-use Rattle.bd_catalog.specs.Shown.{open_entry}
+use Rattle.bd_roll.specs.Shown.{open_entry}
 use Rattle.bd_recipe.proofs.Answering.{damaged_on}
 use Rattle.bd_volume.specs.Headers.{IsRefused}
 use Rattle.bd_arrange.specs.Cuts.{IsDamageIn, IsFound}

@@ -3,7 +3,7 @@ use Rattle.bd_disk.specs.History.{contents}
 use Rattle.bd_disk.specs.Runs.{Reads}
 use Rattle.bd_model.specs.Sizes.{sizes_of}
 use Rattle.bd_catalog.specs.Rows.{open_row}
-use Rattle.bd_catalog.specs.Shown.{open_entry}
+use Rattle.bd_roll.specs.Shown.{open_entry}
 use Rattle.bd_arrange.specs.Cuts.{InCategory, IsCut}
 use Rattle.bd_arrange.proofs.Stretches.{row_read}
 use Rattle.bd_arrange.proofs.Telling.{Told}

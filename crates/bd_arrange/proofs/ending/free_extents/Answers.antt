@@ -1,4 +1,4 @@
-use Rattle.bd_catalog.proofs.GivenUp.{gives_list, owned_once, owned_taken}
+use Rattle.bd_roll.proofs.GivenUp.{gives_list, owned_once, owned_taken}
 use Rattle.bd_arrange.proofs.ending.free_extents.Goals as goal
 
 pub give_back-requires-clause-taken : goal.give_back-requires-clause-taken

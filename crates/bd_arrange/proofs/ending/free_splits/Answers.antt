@@ -2,11 +2,11 @@ use Rattle.std.proofs.Common.{◌≡◌, ◌++◌, ◌∷◌, [], ℕ, List, fla
 use Rattle.std.specs.Prelude.{option_to_list}
 use Rattle.std.proofs.lemmas.List.{append-nil, map-append, nil_from_length}
 use Rattle.std.proofs.lemmas.List.Concat.{flat_map-append}
-use Rattle.bd_catalog.specs.declared.step.SplitRow.{SplitRow}
-use Rattle.bd_catalog.specs.Giving.{AreOwned, GivesUp}
-use Rattle.bd_catalog.specs.Splitting.{KeptEntry, kept_extents}
-use Rattle.bd_catalog.specs.Steps.{fresh_entries, kept_entry}
-use Rattle.bd_catalog.proofs.GivenUp.{gives_both, gives_none, owned_first, owned_second}
+use Rattle.bd_roll.specs.declared.step.SplitRow.{SplitRow}
+use Rattle.bd_roll.specs.Giving.{AreOwned, GivesUp}
+use Rattle.bd_roll.specs.Splitting.{KeptEntry, kept_extents}
+use Rattle.bd_roll.specs.Steps.{fresh_entries, kept_entry}
+use Rattle.bd_roll.proofs.GivenUp.{gives_both, gives_none, owned_first, owned_second}
 use Rattle.bd_arrange.proofs.ending.free_splits.Goals as goal
 use Rattle.bd_arrange.proofs.ending.free_splits.Goals.{in-Some, in_default}
 

@@ -1,8 +1,8 @@
 use Rattle.std.proofs.Common.{◌≡◌, ◌+◌, length, map}
 use Rattle.bd_space.specs.Allotment.{Allotment}
-use Rattle.bd_catalog.specs.Giving.{AreOwned, GivesUp}
-use Rattle.bd_catalog.specs.Splitting.{kept_extents}
-use Rattle.bd_catalog.specs.Steps.{kept_entry}
+use Rattle.bd_roll.specs.Giving.{AreOwned, GivesUp}
+use Rattle.bd_roll.specs.Splitting.{kept_extents}
+use Rattle.bd_roll.specs.Steps.{kept_entry}
 use Rattle.bd_arrange.proofs.ending.free_splits.Given as goal
 
 abbrev pub invariant-loop : goal.invariant-loop

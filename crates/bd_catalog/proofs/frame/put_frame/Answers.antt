@@ -1,6 +1,6 @@
 use Rattle.std.proofs.Common.{arith}
-use Rattle.bd_catalog.specs.Shown.{catalogue_of_contents}
-use Rattle.bd_catalog.specs.Spelling.{spelled}
+use Rattle.bd_roll.specs.Shown.{catalogue_of_contents}
+use Rattle.bd_roll.specs.Spelling.{spelled}
 use Rattle.bd_catalog.proofs.Framing.{frame_put}
 use Rattle.bd_catalog.proofs.frame.put_frame.Goals as goal
 

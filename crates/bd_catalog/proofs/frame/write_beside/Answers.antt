@@ -1,9 +1,9 @@
 use Rattle.std.proofs.Common.{◌-◌, List, ℕ, subst, arith}
 use Rattle.bd_model.specs.Sizes.{sizes_of}
 use Rattle.bd_gate.specs.Standing.{KeepsOrCommits, LeavesCommitted}
-use Rattle.bd_catalog.specs.Shown.{catalogue_of_contents}
-use Rattle.bd_catalog.proofs.Obeying.{bounded_of, spellable}
-use Rattle.bd_catalog.proofs.Lengths.{length-spelled}
+use Rattle.bd_roll.specs.Shown.{catalogue_of_contents}
+use Rattle.bd_roll.proofs.Obeying.{bounded_of, spellable}
+use Rattle.bd_roll.proofs.Lengths.{length-spelled}
 use Rattle.bd_catalog.proofs.frame.write_beside.Goals as goal
 
 pub put_frame-count-requires-clause-fits : goal.put_frame-count-requires-clause-fits

@@ -5,10 +5,10 @@ use Rattle.bd_disk.proofs.RunLemmas.{no_writes}
 use Rattle.bd_model.specs.Chunks.{chunks}
 use Rattle.bd_model.specs.Sizes.{Sizes, sizes_of}
 use Rattle.bd_space.specs.Allotment.{free_count, held_count, TakenExactly}
-use Rattle.bd_catalog.specs.Catalogue.{VersionEntry, all_extents, retained_in}
-use Rattle.bd_catalog.specs.Rules.{obeys}
-use Rattle.bd_catalog.specs.Shown.{version_entry}
-use Rattle.bd_catalog.specs.Steps.{FitsBackup, fresh_entries}
+use Rattle.bd_roll.specs.Catalogue.{VersionEntry, all_extents, retained_in}
+use Rattle.bd_roll.specs.Rules.{obeys}
+use Rattle.bd_roll.specs.Shown.{version_entry}
+use Rattle.bd_roll.specs.Steps.{FitsBackup, fresh_entries}
 use Rattle.bd_catalog.specs.Agreement.{InFree}
 use Rattle.bd_intake.specs.declared.terms.Terms.{Terms}
 use Rattle.bd_intake.specs.Answers.{HoldsVersion, IsVersion, RefusesVersion}

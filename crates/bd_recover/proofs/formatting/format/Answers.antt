@@ -6,7 +6,7 @@ use Rattle.bd_model.specs.Sizes.{sizes_of}
 use Rattle.bd_space.specs.Allotment.{TakenExactly}
 use Rattle.bd_gate.specs.Halves.{InHalves}
 use Rattle.bd_catalog.specs.Agreement.{Agrees}
-use Rattle.bd_catalog.specs.Catalogue.{all_extents}
+use Rattle.bd_roll.specs.Catalogue.{all_extents}
 use Rattle.bd_catalog.specs.Opening.{Found}
 use Rattle.bd_space.proofs.Exact.{TakenExactly-new}
 use Rattle.bd_recover.proofs.Stops.{asked}

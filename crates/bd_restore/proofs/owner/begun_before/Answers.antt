@@ -3,9 +3,9 @@ use Rattle.std.specs.List.Sorted.{IsPartitionPoint}
 use Rattle.std.proofs.lemmas.Bool.{cases_lt, lt-ltb, ltb-false, ltb-true}
 use Rattle.std.proofs.lemmas.Fn.{always_returns_same}
 use Rattle.std.proofs.lemmas.List.{get_or-map, length-map}
-use Rattle.bd_catalog.specs.Catalogue.{OpenEntry}
-use Rattle.bd_catalog.specs.Shown.{open_entry}
-use Rattle.bd_catalog.specs.declared.rows.ActiveCategory.{ActiveCategory}
+use Rattle.bd_roll.specs.Catalogue.{OpenEntry}
+use Rattle.bd_roll.specs.Shown.{open_entry}
+use Rattle.bd_roll.specs.declared.rows.ActiveCategory.{ActiveCategory}
 use Rattle.bd_restore.specs.Owners.{starts_in, AreRising}
 use Rattle.bd_restore.proofs.owner.begun_before.Goals as goal
 

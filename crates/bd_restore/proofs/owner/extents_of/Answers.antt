@@ -1,11 +1,11 @@
 use Rattle.std.proofs.Common.{◌≡◌, ℕ, ◌<◌, ◌≤◌, List, length, get_or, map, sym, ◌∙◌, ap, subst, arith}
 use Rattle.std.specs.Prelude.{Contains, IsTrue}
 use Rattle.std.proofs.lemmas.List.{get_or-map, length-map}
-use Rattle.bd_catalog.specs.Catalogue.{Catalogue, OpenEntry}
+use Rattle.bd_roll.specs.Catalogue.{Catalogue, OpenEntry}
 use Rattle.bd_catalog.specs.Rows.{RowPlace, open_row}
-use Rattle.bd_catalog.specs.Rules.{obeys}
-use Rattle.bd_catalog.specs.declared.rows.ActiveCategory.{ActiveCategory}
-use Rattle.bd_catalog.specs.Shown.{open_entry, volume_entry}
+use Rattle.bd_roll.specs.Rules.{obeys}
+use Rattle.bd_roll.specs.declared.rows.ActiveCategory.{ActiveCategory}
+use Rattle.bd_roll.specs.Shown.{open_entry, volume_entry}
 use Rattle.bd_model.specs.Sizes.{Sizes}
 use Rattle.bd_model.specs.declared.damage.Owner.TheVariants.{Active}
 use Rattle.bd_volume.specs.Pieces.{extents_of}

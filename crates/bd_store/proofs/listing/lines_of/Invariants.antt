@@ -1,5 +1,5 @@
 use Rattle.std.proofs.Common.{◌≡◌, ◌+◌, ◌≤◌, take}
-use Rattle.bd_catalog.specs.Catalogue.{oldest_in}
+use Rattle.bd_roll.specs.Catalogue.{oldest_in}
 use Rattle.bd_catalog.specs.Standing.{lines_from}
 use Rattle.bd_store.proofs.listing.lines_of.Given as goal
 

@@ -4,7 +4,7 @@ use Rattle.bd_disk.proofs.RunLemmas.{no_writes}
 use Rattle.bd_model.specs.Sizes.{disk_bytes, sizes_of}
 use Rattle.bd_model.specs.declared.layout.CategoryRow.{CategoryRow}
 use Rattle.bd_category.specs.Records.{record_with}
-use Rattle.bd_catalog.specs.Catalogue.{bytes_of_rows}
+use Rattle.bd_roll.specs.Catalogue.{bytes_of_rows}
 use Rattle.bd_volume.specs.Growing.{AreCounted}
 use Rattle.bd_volume.proofs.Appended.{appended, grown, one_counted}
 use Rattle.bd_volume.proofs.Taking.{volume_small}

@@ -2,7 +2,7 @@ use Rattle.std.proofs.Common.{◌≤◌, arith, ap, subst, sym, length, sum_by}
 use Rattle.bd_disk.specs.History.{contents}
 use Rattle.bd_model.specs.Sizes.{disk_bytes, sizes_of}
 use Rattle.bd_model.specs.declared.layout.CategoryRow.{CategoryRow}
-use Rattle.bd_catalog.specs.Catalogue.{bytes_of_rows}
+use Rattle.bd_roll.specs.Catalogue.{bytes_of_rows}
 use Rattle.bd_volume.specs.Copies.{AreApart, bytes_on}
 use Rattle.bd_volume.proofs.Appended.{appended, grown}
 use Rattle.bd_volume.proofs.Copying.{length-section, no_work}

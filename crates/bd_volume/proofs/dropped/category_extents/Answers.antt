@@ -1,5 +1,5 @@
 use Rattle.std.proofs.Common.{◌+◌, arith}
-use Rattle.bd_catalog.specs.declared.rows.ActiveCategory.{ActiveCategory}
+use Rattle.bd_roll.specs.declared.rows.ActiveCategory.{ActiveCategory}
 use Rattle.bd_volume.proofs.Dropping.{one_more, part_le}
 use Rattle.bd_volume.proofs.dropped.category_extents.Goals as goal
 

@@ -1,11 +1,11 @@
 use Rattle.std.proofs.Common.{◌≡◌, ◌∙◌, ◌+◌, List, length, map, ap, arith}
 use Rattle.std.proofs.lemmas.List.{length-map}
 use Rattle.std.specs.List.{flat_map}
-use Rattle.bd_catalog.specs.declared.rows.ActiveCategory.{ActiveCategory}
-use Rattle.bd_catalog.specs.declared.rows.VersionRow.{VersionRow}
-use Rattle.bd_catalog.specs.Catalogue.{VolumeEntry}
-use Rattle.bd_catalog.specs.Shown.{open_entry, volume_entry}
-use Rattle.bd_catalog.specs.Splitting.{expired}
+use Rattle.bd_roll.specs.declared.rows.ActiveCategory.{ActiveCategory}
+use Rattle.bd_roll.specs.declared.rows.VersionRow.{VersionRow}
+use Rattle.bd_roll.specs.Catalogue.{VolumeEntry}
+use Rattle.bd_roll.specs.Shown.{open_entry, volume_entry}
+use Rattle.bd_roll.specs.Splitting.{expired}
 use Rattle.bd_volume.proofs.Dropping.{few_expired, with_categories, with_volume}
 use Rattle.bd_volume.proofs.dropped.drop_volume.Goals as goal
 use Rattle.bd_volume.proofs.dropped.drop_volume.Goals.{After-as_slice, After-category_extents, After-len}

@@ -1,5 +1,5 @@
 use Rattle.std.proofs.Common.{sym}
-use Rattle.bd_catalog.specs.Shown.{volume_entry}
+use Rattle.bd_roll.specs.Shown.{volume_entry}
 use Rattle.bd_volume.proofs.RowLists.{ClosedIs, closed_is, rows_of}
 use Rattle.bd_volume.proofs.walk.closed.Goals as goal
 

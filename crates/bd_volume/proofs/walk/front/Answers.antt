@@ -2,7 +2,7 @@ use Rattle.std.proofs.Common.{◌≡◌, ◌-◌, [], ◌++◌, map, sym, ◌∙
 use Rattle.std.specs.List.{flat_map}
 use Rattle.bd_model.specs.Chunks.{numbers}
 use Rattle.bd_catalog.specs.Rows.{open_row, volume_rows, walk}
-use Rattle.bd_catalog.specs.Shown.{open_entry}
+use Rattle.bd_roll.specs.Shown.{open_entry}
 use Rattle.bd_volume.specs.Pieces.{pieces_of, place_of}
 use Rattle.bd_volume.proofs.Naming.{places_again, put_behind, walk_owned}
 use Rattle.bd_volume.proofs.walk.front.Goals as goal

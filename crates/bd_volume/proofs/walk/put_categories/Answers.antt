@@ -2,8 +2,8 @@ use Rattle.std.proofs.Common.{◌≡◌, ℕ, ◌+◌, ◌<◌, List, [], ◌∷
 use Rattle.std.proofs.lemmas.List.{get_or-map, length-map, take_more}
 use Rattle.bd_model.specs.declared.damage.Owner.TheVariants.{Active}
 use Rattle.bd_catalog.specs.Rows.{RowPlace, open_row}
-use Rattle.bd_catalog.specs.Shown.{open_entry}
-use Rattle.bd_catalog.specs.declared.rows.ActiveCategory.{ActiveCategory}
+use Rattle.bd_roll.specs.Shown.{open_entry}
+use Rattle.bd_roll.specs.declared.rows.ActiveCategory.{ActiveCategory}
 use Rattle.bd_volume.specs.declared.piece.Piece.{Piece}
 use Rattle.bd_volume.specs.Pieces.{pieces_of}
 use Rattle.bd_volume.proofs.Naming.{put_behind, put_one}

@@ -1,6 +1,6 @@
 use Rattle.std.proofs.Common.{◌≡◌, ◌+◌, ◌≤◌, ◌++◌, map, take}
 use Rattle.bd_catalog.specs.Rows.{open_row}
-use Rattle.bd_catalog.specs.Shown.{open_entry}
+use Rattle.bd_roll.specs.Shown.{open_entry}
 use Rattle.bd_volume.specs.Pieces.{pieces_of}
 use Rattle.bd_volume.proofs.walk.put_categories.Given as goal
 

@@ -1,6 +1,6 @@
 use Rattle.std.proofs.Common.{◌≡◌, ◌+◌, ◌≤◌, ◌++◌, take}
 use Rattle.bd_model.specs.declared.damage.Owner.TheVariants.{Volume}
-use Rattle.bd_catalog.specs.Catalogue.{bytes_of_rows}
+use Rattle.bd_roll.specs.Catalogue.{bytes_of_rows}
 use Rattle.bd_catalog.specs.Rows.{rows_from}
 use Rattle.bd_volume.specs.Pieces.{pieces_of}
 use Rattle.bd_volume.proofs.walk.put_volume.Given as goal

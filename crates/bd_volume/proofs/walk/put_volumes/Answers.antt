@@ -3,7 +3,7 @@ use Rattle.std.proofs.lemmas.List.{append-nil}
 use Rattle.std.specs.List.{flat_map, range_with_len}
 use Rattle.bd_model.specs.Chunks.{numbers}
 use Rattle.bd_catalog.specs.Rows.{volume_rows}
-use Rattle.bd_catalog.specs.Shown.{volume_entry}
+use Rattle.bd_roll.specs.Shown.{volume_entry}
 use Rattle.bd_volume.specs.Pieces.{closed_rows, pieces_of}
 use Rattle.bd_volume.proofs.Naming.{put_behind}
 use Rattle.bd_volume.proofs.RowLists.{all_numbers, length-closed, volumes_next, volumes_rest}

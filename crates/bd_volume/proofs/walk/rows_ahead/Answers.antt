@@ -3,7 +3,7 @@ use Rattle.std.proofs.lemmas.List.{length-map}
 use Rattle.std.specs.List.{flat_map, range_with_len}
 use Rattle.bd_model.specs.Chunks.{numbers}
 use Rattle.bd_catalog.specs.Rows.{volume_rows}
-use Rattle.bd_catalog.specs.Shown.{open_entry, volume_entry}
+use Rattle.bd_roll.specs.Shown.{open_entry, volume_entry}
 use Rattle.bd_volume.proofs.RowLists.{all_numbers, length-closed, volumes_next}
 use Rattle.bd_volume.proofs.walk.rows_ahead.Goals as goal
 

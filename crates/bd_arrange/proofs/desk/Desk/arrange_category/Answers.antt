@@ -3,8 +3,8 @@ use Rattle.bd_disk.specs.History.{contents}
 use Rattle.bd_disk.proofs.RunLemmas.{both_work, reads_work, same_contents}
 use Rattle.bd_model.specs.Sizes.{sizes_of}
 use Rattle.bd_space.specs.Allotment.{free_count}
-use Rattle.bd_catalog.specs.Catalogue.{bytes_of_rows}
-use Rattle.bd_catalog.specs.Shown.{open_entry}
+use Rattle.bd_roll.specs.Catalogue.{bytes_of_rows}
+use Rattle.bd_roll.specs.Shown.{open_entry}
 use Rattle.bd_volume.specs.Filled.{Filled}
 use Rattle.bd_volume.proofs.Taking.{volume_small}
 use Rattle.bd_arrange.specs.Desks.{OnDesk}

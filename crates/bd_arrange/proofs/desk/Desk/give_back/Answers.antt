@@ -1,7 +1,7 @@
 use Rattle.std.proofs.Common.{sym, subst}
-use Rattle.bd_catalog.specs.Giving.{AreOwned, GivesUp}
-use Rattle.bd_catalog.specs.Splitting.{kept_extents}
-use Rattle.bd_catalog.proofs.GivenUp.{gives_both, owned_first, owned_second}
+use Rattle.bd_roll.specs.Giving.{AreOwned, GivesUp}
+use Rattle.bd_roll.specs.Splitting.{kept_extents}
+use Rattle.bd_roll.proofs.GivenUp.{gives_both, owned_first, owned_second}
 use Rattle.bd_arrange.proofs.desk.Desk.give_back.Goals as goal
 
 pub free_splits-requires : goal.free_splits-requires

@@ -1,14 +1,14 @@
 use Rattle.std.proofs.Common.{◌≡◌, ◌∙◌, ◌++◌, ◌∷◌, [], map, sym, ap, arith, append-nil, flat_map}
 use Rattle.bd_model.specs.Sizes.{sizes_of}
 use Rattle.bd_volume.specs.Filled.{Filled}
-use Rattle.bd_catalog.specs.Steps.{kept_entry}
-use Rattle.bd_catalog.specs.Splitting.{KeptEntry}
-use Rattle.bd_catalog.specs.Catalogue.{OpenEntry}
-use Rattle.bd_catalog.specs.declared.step.SplitRow.{SplitRow}
+use Rattle.bd_roll.specs.Steps.{kept_entry}
+use Rattle.bd_roll.specs.Splitting.{KeptEntry}
+use Rattle.bd_roll.specs.Catalogue.{OpenEntry}
+use Rattle.bd_roll.specs.declared.step.SplitRow.{SplitRow}
 use Rattle.std.proofs.lemmas.List.{map_push}
 use Rattle.bd_volume.proofs.Copying.{no_work}
 use Rattle.bd_volume.specs.Growing.{AddsExtents}
-use Rattle.bd_catalog.specs.Shown.{open_entry}
+use Rattle.bd_roll.specs.Shown.{open_entry}
 use Rattle.bd_arrange.specs.Desks.{OnDesk}
 use Rattle.bd_arrange.specs.Moving.{kept_entries}
 use Rattle.bd_arrange.proofs.SplitExtents.{keeps_back, keeps_both, taken_then}

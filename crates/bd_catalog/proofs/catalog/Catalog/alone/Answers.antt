@@ -1,8 +1,8 @@
 use Rattle.std.proofs.Common.{arith}
 use Rattle.bd_model.specs.Sizes.{sizes_of}
-use Rattle.bd_catalog.specs.Shown.{catalogue_of_contents}
-use Rattle.bd_catalog.proofs.Obeying.{bounded_of}
-use Rattle.bd_catalog.proofs.Lengths.{length-spelled, payload_room-small}
+use Rattle.bd_roll.specs.Shown.{catalogue_of_contents}
+use Rattle.bd_roll.proofs.Obeying.{bounded_of}
+use Rattle.bd_roll.proofs.Lengths.{length-spelled, payload_room-small}
 use Rattle.bd_catalog.proofs.catalog.Catalog.alone.Goals as goal
 
 pub overflow_add-payload : goal.overflow_add-payload

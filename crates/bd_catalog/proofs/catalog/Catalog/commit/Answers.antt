@@ -9,17 +9,18 @@ use Rattle.bd_model.specs.Sizes.{sizes_of}
 use Rattle.bd_space.specs.Allotment.{TakenExactly}
 use Rattle.bd_gate.specs.Halves.{Half}
 use Rattle.bd_gate.specs.Standing.{IsOlderHalf, next_turn}
-use Rattle.bd_catalog.specs.Catalogue.{Catalogue, all_extents}
+use Rattle.bd_roll.specs.Catalogue.{Catalogue, all_extents}
 use Rattle.bd_catalog.specs.Ledger.{Ledger}
 use Rattle.bd_catalog.specs.Opening.{Found}
-use Rattle.bd_catalog.specs.Rules.{obeys}
-use Rattle.bd_catalog.specs.Shown.{catalogue_of_contents}
-use Rattle.bd_catalog.specs.Spelling.{spelled}
-use Rattle.bd_catalog.specs.Steps.{catalogue_calls, stepped, InOtherHalf, LeavesBeside, StopsBeside}
+use Rattle.bd_roll.specs.Rules.{obeys}
+use Rattle.bd_roll.specs.Shown.{catalogue_of_contents}
+use Rattle.bd_roll.specs.Spelling.{spelled}
+use Rattle.bd_roll.specs.Steps.{stepped}
+use Rattle.bd_catalog.specs.Steps.{catalogue_calls, InOtherHalf, LeavesBeside, StopsBeside}
 use Rattle.bd_catalog.proofs.Committing.{other-beside, other-next, is-made, leaves-either}
 use Rattle.bd_catalog.proofs.Framing.{length-written_back}
-use Rattle.bd_catalog.proofs.Lengths.{length-spelled}
-use Rattle.bd_catalog.proofs.Obeying.{IsBounded, bounded_of}
+use Rattle.bd_roll.proofs.Lengths.{length-spelled}
+use Rattle.bd_roll.proofs.Obeying.{IsBounded, bounded_of}
 use Rattle.bd_catalog.proofs.catalog.Catalog.commit.Goals as goal
 
 pub write_beside-requires-clause-ready : goal.write_beside-requires-clause-ready

@@ -1,19 +1,20 @@
 use Rattle.std.proofs.Common.{◌≡◌, ◌≤◌, length, map, sym, ap, subst, arith, true}
 use Rattle.std.proofs.lemmas.List.{length-map}
 use Rattle.bd_model.specs.Sizes.{Sizes, sizes_of}
-use Rattle.bd_catalog.specs.Catalogue.{Catalogue}
-use Rattle.bd_catalog.specs.Ledger.{HasRoom, IsRoom, Ledger, RoomIs, room_of}
+use Rattle.bd_roll.specs.Catalogue.{Catalogue}
+use Rattle.bd_roll.specs.Capacity.{IsRoom, RoomIs, room_of}
+use Rattle.bd_catalog.specs.Ledger.{HasRoom, Ledger}
 use Rattle.bd_catalog.specs.Opening.{Found}
-use Rattle.bd_catalog.specs.Rules.{obeys}
-use Rattle.bd_catalog.specs.Shown.{catalogue_of_contents, volume_entry}
-use Rattle.bd_catalog.specs.Splitting.{FitsArrange, FitsExpire, expired, replaced}
-use Rattle.bd_catalog.specs.Giving.{AreOwned, GivesUp}
-use Rattle.bd_catalog.specs.Steps.{Fits, NeedsRoom, dropped, kept_entry}
-use Rattle.bd_catalog.proofs.Expiring.{expired_rules}
-use Rattle.bd_catalog.proofs.Making.{all_sums_fit, few_added, step_owned, step_owners}
-use Rattle.bd_catalog.proofs.GivenUp.{gives_none}
-use Rattle.bd_catalog.proofs.Obeying.{bounded_of, rules_of}
-use Rattle.bd_catalog.proofs.Owning.{fit_splits, waiting_volume}
+use Rattle.bd_roll.specs.Rules.{obeys}
+use Rattle.bd_roll.specs.Shown.{catalogue_of_contents, volume_entry}
+use Rattle.bd_roll.specs.Splitting.{FitsArrange, FitsExpire, expired, replaced}
+use Rattle.bd_roll.specs.Giving.{AreOwned, GivesUp}
+use Rattle.bd_roll.specs.Steps.{Fits, NeedsRoom, dropped, kept_entry}
+use Rattle.bd_roll.proofs.Expiring.{expired_rules}
+use Rattle.bd_roll.proofs.Making.{all_sums_fit, few_added, step_owned, step_owners}
+use Rattle.bd_roll.proofs.GivenUp.{gives_none}
+use Rattle.bd_roll.proofs.Obeying.{bounded_of, rules_of}
+use Rattle.bd_roll.proofs.Owning.{fit_splits, waiting_volume}
 use Rattle.bd_catalog.proofs.catalog.Catalog.make.Goals as goal
 
 pub expire-requires-clause-sums : goal.expire-requires-clause-sums

@@ -2,9 +2,9 @@ use Rattle.std.proofs.Common.{◌≡◌, ℕ, ◌≤◌, sym, subst, arith}
 use Rattle.std.specs.Prelude.{Contains, IsTrue}
 use Rattle.std.proofs.lemmas.List.Elements.{All-contains}
 use Rattle.bd_model.specs.Sizes.{Sizes, sizes_of}
-use Rattle.bd_catalog.specs.Catalogue.{Catalogue, oldest_in}
+use Rattle.bd_roll.specs.Catalogue.{Catalogue, oldest_in}
 use Rattle.bd_catalog.specs.Rows.{RowPlace, row_place, walk}
-use Rattle.bd_catalog.specs.Rules.{obeys}
+use Rattle.bd_roll.specs.Rules.{obeys}
 use Rattle.bd_volume.specs.Pieces.{place_of}
 use Rattle.bd_restore.specs.Owners.{IsRowOf}
 use Rattle.bd_restore.specs.Walk.{IsInRoom}

@@ -7,7 +7,7 @@ use Rattle.bd_disk.specs.declared.disk.Disk.{Ghosts}
 use Rattle.bd_disk.proofs.RunLemmas.{both_reads, no_reads, wider_reads}
 use Rattle.bd_model.specs.Sizes.{Sizes}
 use Rattle.bd_model.specs.declared.damage.Owner.TheVariants.{Volume}
-use Rattle.bd_catalog.specs.Catalogue.{Catalogue}
+use Rattle.bd_roll.specs.Catalogue.{Catalogue}
 use Rattle.bd_catalog.specs.Rows.{RowPlace, walk}
 use Rattle.bd_volume.specs.Pieces.{place_of}
 use Rattle.bd_volume.specs.declared.piece.Piece.{Piece}

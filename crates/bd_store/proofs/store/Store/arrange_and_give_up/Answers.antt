@@ -2,7 +2,7 @@ use Rattle.std.proofs.Common.{◌≡◌, ◌≤◌, List, inl, sym, ap, subst, a
 use Rattle.bd_model.specs.Sizes.{disk_bytes}
 use Rattle.bd_model.specs.declared.answer.Answer.{Answer}
 use Rattle.bd_model.specs.declared.command.Command.TheVariants.{Expire}
-use Rattle.bd_catalog.specs.Catalogue.{VersionEntry, retained_in}
+use Rattle.bd_roll.specs.Catalogue.{VersionEntry, retained_in}
 use Rattle.bd_store.specs.Attempts.{Beside, Meets, attempt, scene_beside}
 use Rattle.bd_store.specs.Shown.{Shown}
 use Rattle.bd_store.specs.declared.fault.StoreFault.{StoreFault}

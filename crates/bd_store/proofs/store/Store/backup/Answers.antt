@@ -1,7 +1,7 @@
 use Rattle.std.proofs.Common.{◌≡◌, ◌∙◌, ◌<◌, inr, refl, sym, ap, arith}
 use Rattle.bd_disk.proofs.Frames.{made_none}
 use Rattle.bd_model.specs.State.{last_number}
-use Rattle.bd_catalog.specs.Catalogue.{retained_in}
+use Rattle.bd_roll.specs.Catalogue.{retained_in}
 use Rattle.bd_store.specs.Shown.{Shown}
 use Rattle.bd_store.proofs.Meeting.{meets_untouched, same_versions}
 use Rattle.std.proofs.lemmas.Bool.{eq-eqb, ne_eqb}

@@ -1,8 +1,8 @@
 use Rattle.std.proofs.Common.{◌≡◌, ◌∙◌, ◌≤◌, ap, arith, inl, inr, refl, rules, subst, sym}
 use Rattle.bd_disk.proofs.Frames.{made_none}
-use Rattle.bd_catalog.specs.Catalogue.{retained_in}
+use Rattle.bd_roll.specs.Catalogue.{retained_in}
 use Rattle.bd_model.specs.declared.layout.Phase.TheVariants.{Settled}
-use Rattle.bd_catalog.specs.Splitting.{FitsExpire}
+use Rattle.bd_roll.specs.Splitting.{FitsExpire}
 use Rattle.bd_catalog.specs.Opening.{Found}
 use Rattle.bd_store.specs.Shown.{Shown}
 use Rattle.bd_store.proofs.LeanExpiry.{fits_but_two, nothing_expires}

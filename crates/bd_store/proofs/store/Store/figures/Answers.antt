@@ -1,6 +1,6 @@
 use Rattle.std.proofs.Common.{◌≡◌, ◌∙◌, ◌+◌, ◌-◌, ap, arith, length, subst, false}
 use Rattle.bd_model.specs.Sizes.{Sizes}
-use Rattle.bd_catalog.specs.Catalogue.{all_extents}
+use Rattle.bd_roll.specs.Catalogue.{all_extents}
 use Rattle.bd_catalog.specs.Opening.{Found}
 use Rattle.bd_store.specs.Shown.{HasFigures, Shown, cursor_of}
 use Rattle.bd_store.proofs.Figured.{all_counted, figures_of_state}

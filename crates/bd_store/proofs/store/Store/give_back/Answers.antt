@@ -4,7 +4,7 @@ use Rattle.bd_model.specs.declared.answer.Answer.TheVariants.{Restored}
 use Rattle.bd_model.specs.declared.command.Command.TheVariants.{Restore}
 use Rattle.bd_space.specs.Allotment.{held_count}
 use Rattle.bd_catalog.specs.Agreement.{Agrees}
-use Rattle.bd_catalog.specs.Catalogue.{oldest_in}
+use Rattle.bd_roll.specs.Catalogue.{oldest_in}
 use Rattle.bd_catalog.specs.Opening.{Found}
 use Rattle.bd_store.specs.Attempts.{attempt, scene, Meets}
 use Rattle.bd_store.specs.Naming.{fault_of_reading, fault_of_restore}

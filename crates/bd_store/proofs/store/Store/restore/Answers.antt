@@ -1,5 +1,5 @@
 use Rattle.std.proofs.Common.{◌≡◌, ◌-◌, ◌<◌, ◌∙◌, ⊎_elim, inl, inr, refl, sym, ap, arith}
-use Rattle.bd_catalog.specs.Catalogue.{oldest_in, retained_in}
+use Rattle.bd_roll.specs.Catalogue.{oldest_in, retained_in}
 use Rattle.bd_store.specs.Shown.{Shown}
 use Rattle.bd_store.proofs.Asking.{none_beside, nothing_refuses, number_refuses}
 use Rattle.bd_store.proofs.Meeting.{meets_untouched, same_versions}

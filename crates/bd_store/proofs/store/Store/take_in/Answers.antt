@@ -5,7 +5,7 @@ use Rattle.bd_model.specs.declared.answer.Answer.{Answer}
 use Rattle.bd_model.specs.declared.command.Command.TheVariants.{Backup}
 use Rattle.bd_space.specs.Allotment.{held_count, TakenExactly}
 use Rattle.bd_catalog.specs.Agreement.{Agrees, InFree}
-use Rattle.bd_catalog.specs.Catalogue.{all_extents}
+use Rattle.bd_roll.specs.Catalogue.{all_extents}
 use Rattle.bd_catalog.specs.Opening.{Found}
 use Rattle.bd_catalog.proofs.Staged.{agrees_staged}
 use Rattle.bd_intake.proofs.Firsts.{new_chunks}

@@ -1,5 +1,5 @@
 use Rattle.std.proofs.Common.{arith, ap}
-use Rattle.bd_catalog.specs.Catalogue.{bytes_of_rows}
+use Rattle.bd_roll.specs.Catalogue.{bytes_of_rows}
 use Rattle.bd_volume.specs.Filled.{Filled}
 use Rattle.bd_volume.proofs.RowsMore.{bytes-rows_more}
 use Rattle.bd_volume.proofs.filling.Filling.put.Goals as goal

@@ -1,0 +1,13 @@
+pub mod Capacity
+pub mod Catalogue
+pub mod Checked
+pub mod Giving
+pub mod Growing
+pub mod Reading
+pub mod Rules
+pub mod Shown
+pub mod Spelling
+pub mod Splitting
+pub mod Steps
+pub mod Widths
+pub mod Writing
