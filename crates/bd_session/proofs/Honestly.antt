@@ -44,14 +44,14 @@ module _ (s : Start) (commands : List Command) (answers : List Answer) (clocks :
     (held : before.store.held ≡ 0) (command : Command) (near : IsNear (task s.shape 0 g.point.state g.point.files command)) (result : Result Answer StoreFault) (both : MeetsOnBoth (attempt command result before after)) where
   made : MakesStep (task s.shape 0 g.point.state g.point.files command) g.phase (contents after.disk) after.files result
   made =
-      let free : IsOneStep command 0 before.disk after.disk before.files after.files result = subst (λ h. IsOneStep command h before.disk after.disk before.files after.files result) held both.step in
-      let here : IsOneStep command 0 before.disk after.disk g.point.files after.files result = subst (λ (m : FileMap). IsOneStep command 0 before.disk after.disk m after.files result) g.beside free in
+      let free : IsOneStep command 0 0 before.disk after.disk before.files after.files result = subst (λ h. IsOneStep command h h before.disk after.disk before.files after.files result) held both.step in
+      let here : IsOneStep command 0 0 before.disk after.disk g.point.files after.files result = subst (λ (m : FileMap). IsOneStep command 0 0 before.disk after.disk m after.files result) g.beside free in
       here.each s.shape g.point.state g.phase near g.stands
 
   stopped : StopsOnEitherSide (task s.shape 0 g.point.state g.point.files command) before.disk after.disk result
   stopped =
-      let free : IsSafeAtStops command 0 before.disk after.disk before.files result = subst (λ h. IsSafeAtStops command h before.disk after.disk before.files result) held both.stops in
-      let here : IsSafeAtStops command 0 before.disk after.disk g.point.files result = subst (λ (m : FileMap). IsSafeAtStops command 0 before.disk after.disk m result) g.beside free in
+      let free : IsSafeAtStops command 0 0 before.disk after.disk before.files result = subst (λ h. IsSafeAtStops command h h before.disk after.disk before.files result) held both.stops in
+      let here : IsSafeAtStops command 0 0 before.disk after.disk g.point.files result = subst (λ (m : FileMap). IsSafeAtStops command 0 0 before.disk after.disk m result) g.beside free in
       here.each s.shape g.point.state near g.sure
 
 -- the phase of the outcome is that of the answer

@@ -251,7 +251,7 @@ module _ (shape : Shape) (held : ℕ) (st : VersionState) (phase : Phase) (files
 
 module _ (command : Command) (held : ℕ) (old mid : Found) (h0 h1 h2 : History) (files files_now : FileMap) (result : Result Answer StoreFault) (neighbour : Marked)
     (makes : MakesReady old command) (ends : EndsReady result) (answers : IsAnswerOf mid command result) (agrees : Agrees old h0) (states : KeepsStates {T = Marked} held h0 h1 (Ok neighbour)) where
-  pub step_before : IsOneStep command held h1 h2 files files_now result → files_now ≡ files → IsOneStep command held h0 h2 files files_now result
+  pub step_before : IsOneStep command held held h1 h2 files files_now result → files_now ≡ files → IsOneStep command held held h0 h2 files files_now result
   step_before step same = record {
     each = λ shape st phase near stands.
         let shows = stands-shows stands agrees.opens in
@@ -273,7 +273,7 @@ module _ (command : Command) (held : ℕ) (old mid : Found) (h0 h1 h2 : History)
         memory = λ is. leaves_both first is;
       }) result ends done
 
-  pub stops_before : IsSafeAtStops command held h1 h2 files result → IsSafeAtStops command held h0 h2 files result
+  pub stops_before : IsSafeAtStops command held held h1 h2 files result → IsSafeAtStops command held held h0 h2 files result
   stops_before stops = record {
     each = λ shape st near sure.
         let first : LeavesSince (Stands shape held st) h0 h1 = states.stops.each shape st (near_state shape held st files command near) sure in

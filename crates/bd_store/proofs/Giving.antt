@@ -193,7 +193,7 @@ module _ (found : Found) (v : ℕ) (h0 : History) (agrees : Agrees found h0) (fr
 
   -- a recipe that couldn't be read
   pub reading_one_step : (name : List ℕ) (held : ℕ) {h1 : History} (files : FileMap) (fault : ReadFault) → WritesNothing h0 h1 → AnswersPlan (recipe_found s c (contents h0) v) (Err fault) →
-      IsOneStep (Restore v name) held h0 h1 files files (Err (fault_of_reading fault))
+      IsOneStep (Restore v name) held held h0 h1 files files (Err (fault_of_reading fault))
   reading_one_step name held {h1} files fault quiet answers = record { each = λ shape st phase near stands. by shape st phase near stands fault answers } where
     by : (shape : Shape) (st : VersionState) (phase : Phase) → Near (history shape st) → StandsFor shape st phase held (contents h0) → (fault : ReadFault) → AnswersPlan (recipe_found s c (contents h0) v) (Err fault) →
         MakesStep (task shape held st files (Restore v name)) phase (contents h1) files (Err (fault_of_reading fault))
@@ -202,7 +202,7 @@ module _ (found : Found) (v : ℕ) (h0 : History) (agrees : Agrees found h0) (fr
     by shape st phase near stands (ReadDamaged damage) answers = no_damage shape st phase held stands near damage answers
 
   -- once it has answered, a stop leaves the state as it is
-  pub restored_safe : (name : List ℕ) (held : ℕ) {h1 : History} (files : FileMap) (bytes : ℕ) → WritesNothing h0 h1 → IsSafeAtStops (Restore v name) held h0 h1 files (Ok (Restored v bytes))
+  pub restored_safe : (name : List ℕ) (held : ℕ) {h1 : History} (files : FileMap) (bytes : ℕ) → WritesNothing h0 h1 → IsSafeAtStops (Restore v name) held held h0 h1 files (Ok (Restored v bytes))
   restored_safe name held {h1} files bytes quiet = record {
     each = λ shape st near sure.
         let now : Stands shape held st (contents h0) = sure.each (contents h0) (contents_now h0) in
@@ -229,7 +229,7 @@ module _ (found : Found) (v : ℕ) (h0 : History) (agrees : Agrees found h0) (fr
 
     -- a fault on the walk
     pub walk_one_step : (name : List ℕ) (held : ℕ) (files files_now : FileMap) (fault : RestoreFault) → ChangesOnly name files files_now → {Tells : Type 0} → Tells → IfMet {T = ℕ} (Err fault) (λ damage. Tells → IsMetBy found plan damage h1 h2) →
-        IsOneStep (Restore v name) held h0 h2 files files_now (Err (fault_of_restore fault))
+        IsOneStep (Restore v name) held held h0 h2 files files_now (Err (fault_of_restore fault))
     walk_one_step name held files files_now fault others {Tells = Tells} told whole = record { each = λ shape st phase near stands. by shape st phase near stands fault whole } where
       by : (shape : Shape) (st : VersionState) (phase : Phase) → Near (history shape st) → StandsFor shape st phase held (contents h0) → (fault : RestoreFault) → IfMet {T = ℕ} (Err fault) (λ damage. Tells → IsMetBy found plan damage h1 h2) →
           MakesStep (task shape held st files (Restore v name)) phase (contents h2) files_now (Err (fault_of_restore fault))
@@ -244,7 +244,7 @@ module _ (found : Found) (v : ℕ) (h0 : History) (agrees : Agrees found h0) (fr
 
     -- a version that was given back
     pub restored_one_step : (name : List ℕ) (held : ℕ) (files files_now : FileMap) (bytes : ℕ) → bytes ≡ total entries → files_now ≡ map.insert files name (joined entries (records_for s c (contents h1) n)) →
-        IsOneStep (Restore v name) held h0 h2 files files_now (Ok (Restored v bytes))
+        IsOneStep (Restore v name) held held h0 h2 files files_now (Ok (Restored v bytes))
     restored_one_step name held files files_now bytes long put = record {
       each = λ shape st phase near stands. record {
         outcome = restore st files v name;

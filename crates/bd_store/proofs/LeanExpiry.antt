@@ -117,13 +117,13 @@ module _ (found : Found) (held : ℕ) (files : FileMap) (h0 h1 : History) (agree
 
   -- the commit was made
   module _ (version extents : ℕ) (is_version : version ≡ oldest_in found.catalogue) (is_extents : extents ≡ length (expired found.catalogue)) (made : IsMade found after h0 h1) (stops : LeavesSince (IsOldOrCommitted found after h0) h0 h1) where
-    pub expired_step : IsOneStep Expire held h0 h1 files files (Ok (Expired version extents))
+    pub expired_step : IsOneStep Expire held held h0 h1 files files (Ok (Expired version extents))
     expired_step = record {
       each = λ shape st phase near stands.
           subst (λ (a : Answer). Answered (task shape held st files Expire) phase a (contents h1) files) (λ k. Expired (sym is_version k) (sym is_extents k)) (answered shape st phase stands (contents h1) made.kept);
     }
 
-    pub expired_stops : IsSafeAtStops Expire held h0 h1 files (Ok (Expired version extents))
+    pub expired_stops : IsSafeAtStops Expire held held h0 h1 files (Ok (Expired version extents))
     expired_stops = record {
       each = λ shape st near sure.
           let now : Stands shape held st (contents h0) = sure.each (contents h0) (contents_now h0) in
@@ -136,7 +136,7 @@ module _ (found : Found) (held : ℕ) (files : FileMap) (h0 h1 : History) (agree
 
   -- the disk failed
   module _ (either : LeavesEither found after h0 h1) where
-    pub failed_step : IsOneStep Expire held h0 h1 files files (Err DiskFault)
+    pub failed_step : IsOneStep Expire held held h0 h1 files files (Err DiskFault)
     failed_step = record {
       each = λ shape st phase near stands.
           let t : Task = task shape held st files Expire in
@@ -148,7 +148,7 @@ module _ (found : Found) (held : ℕ) (files : FileMap) (h0 h1 : History) (agree
           };
     }
 
-    pub failed_stops : IsSafeAtStops Expire held h0 h1 files (Err DiskFault)
+    pub failed_stops : IsSafeAtStops Expire held held h0 h1 files (Err DiskFault)
     failed_stops = record { each = λ shape st near sure. record { within = within shape st sure either.stops; done = tt } }
 
 -- ---- all that is promised

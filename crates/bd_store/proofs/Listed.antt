@@ -24,7 +24,7 @@ abbrev outcome_of : Shape → VersionState → FileMap → Outcome
 outcome_of shape st files = unchanged st files (Listed (record { items = version_lines st (history shape st); spare = 0 }))
 
 pub listed_step : (held : ℕ) (h : History) (files : FileMap) (found : Found) (answer : Answer) → Agrees found h →
-    without_room answer ≡ Listed (record { items = lines_from (oldest_in found.catalogue) found.catalogue.versions; spare = 0 }) → IsOneStep Listing held h h files files (Ok answer)
+    without_room answer ≡ Listed (record { items = lines_from (oldest_in found.catalogue) found.catalogue.versions; spare = 0 }) → IsOneStep Listing held held h h files files (Ok answer)
 listed_step held h files found answer agrees says = record {
   each = λ shape st phase near stands. record {
     outcome = outcome_of shape st files;
@@ -35,7 +35,7 @@ listed_step held h files found answer agrees says = record {
   };
 }
 
-pub listed_stops : (held : ℕ) (h : History) (files : FileMap) (answer : Answer) → IsSafeAtStops Listing held h h files (Ok answer)
+pub listed_stops : (held : ℕ) (h : History) (files : FileMap) (answer : Answer) → IsSafeAtStops Listing held held h h files (Ok answer)
 listed_stops held h files answer = record {
   each = λ shape st near sure. record {
     within = leaves_wider _ (λ image stands. inl stands) (leaves_same refl sure);

@@ -28,7 +28,7 @@ files_stay None files = refl
 files_stay (Some target) files = record { others = λ other differ. refl }
 
 -- what memory wasn't there for is no step
-pub memory_step : (command : Command) (held : ℕ) (h : History) (files : FileMap) → IsOneStep command held h h files files (Err OutOfMemory)
+pub memory_step : (command : Command) (held : ℕ) (h : History) (files : FileMap) → IsOneStep command held held h h files files (Err OutOfMemory)
 memory_step command held h files = record { each = λ shape st phase near stands. record { stands = record { phase = phase; so = stands }; beside = files_stay (target_of command) files } }
 
 -- the disk didn't fail
@@ -62,8 +62,8 @@ module _ (command : Command) (result : Result Answer StoreFault) (s : Scene) whe
     pub transfers : TransfersByCommand still command result
 
   pub meets_untouched : {disk files : Type 0} → s.store.worn ≡ false → (disk → Agrees s.store.found s.disk) → IsAnswered →
-      (disk → files → IsOneStep command s.store.held s.disk s.disk s.files s.files result) →
-      (disk → files → IsSafeAtStops command s.store.held s.disk s.disk s.files result) → Meets disk files still
+      (disk → files → IsOneStep command s.store.held s.store.held s.disk s.disk s.files s.files result) →
+      (disk → files → IsSafeAtStops command s.store.held s.store.held s.disk s.disk s.files result) → Meets disk files still
   meets_untouched {disk} {files} sound agrees is step stops = record {
     bytes = refl;
     cause = record { later = record { disk = omega arith; sources = omega arith; targets = omega arith }; cause = is.cause };

@@ -207,7 +207,7 @@ module _ (shape : Shape) (held : ℕ) (st : VersionState) (phase : Phase) (files
   refused_makes DiskFault answers missing = record { stands = inl (record { phase = phase; so = staged_same }); beside = refl }
   refused_makes OutOfMemory answers missing = record { stands = record { phase = phase; so = staged_same }; beside = refl }
 
-  module _ (sure : IsSureOf u h0) where
+  module _ (sure : IsSureOf u.held u h0) where
     staging_sure : LeavesSince (Stands shape held st) h0 h1
     staging_sure = staging found (InUnowned found.sizes found.catalogue) (unowned_unnamed shape held st found) agrees unowned sure
 
@@ -291,7 +291,7 @@ module _ (shape : Shape) (held : ℕ) (st : VersionState) (phase : Phase) (files
       beside = refl;
     })
 
-    pub all_stops : IsSureOf u h0 → LeavesSince (IsOldOrCommitted found after h1) h1 h2 → LeavesSince (StandsOnEitherSide u) h0 h2
+    pub all_stops : IsSureOf u.held u h0 → LeavesSince (IsOldOrCommitted found after h1) h1 h2 → LeavesSince (StandsOnEitherSide u) h0 h2
     all_stops sure stops = with_stream missing (LeavesSince (StandsOnEitherSide u) h0 h2) (λ stream there.
         staged_commit found (InUnowned found.sizes found.catalogue) (unowned_unnamed shape held st found) agrees unowned sure IsMade after (makes stream there) stops)
 

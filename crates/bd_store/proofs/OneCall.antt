@@ -49,14 +49,14 @@ module _ (found : Found) (name : List ℕ) (files files_now : FileMap) (same_fil
   AnswersAs result =
       (stream : List ℕ) → Holds files name stream → AnswersIntake found.sizes old (found.catalogue.newest + 1) stream (chunks (cut_in found.sizes) stream) (free_count space) held result
 
-  pub refused_one_step : (fault : IntakeFault) → AnswersAs (Err fault) → (Lacks files name → MissesSource {T = Staged} (Err fault)) → IsOneStep (Backup name) held h0 h1 files files_now (refusal_of fault)
+  pub refused_one_step : (fault : IntakeFault) → AnswersAs (Err fault) → (Lacks files name → MissesSource {T = Staged} (Err fault)) → IsOneStep (Backup name) held held h0 h1 files files_now (refusal_of fault)
   refused_one_step fault answers missing = record {
     each = λ shape st phase near stands.
         subst (λ m. MakesStep (task shape held st files (Backup name)) phase (contents h1) m (refusal_of fault)) (sym same_files)
         (refused_makes shape held st phase files name found h0 h1 space stands agrees settled below fewer writes count owners refl old is_old near law fault answers missing);
   }
 
-  pub refused_safe : (fault : IntakeFault) → AnswersAs (Err fault) → (Lacks files name → MissesSource {T = Staged} (Err fault)) → IsSafeAtStops (Backup name) held h0 h1 files (refusal_of fault)
+  pub refused_safe : (fault : IntakeFault) → AnswersAs (Err fault) → (Lacks files name → MissesSource {T = Staged} (Err fault)) → IsSafeAtStops (Backup name) held held h0 h1 files (refusal_of fault)
   refused_safe fault answers missing = record {
     each = λ shape st near sure.
         let now : Stands shape held st (contents h0) = sure.each (contents h0) (contents_now h0) in
@@ -72,7 +72,7 @@ module _ (found : Found) (name : List ℕ) (files files_now : FileMap) (same_fil
     abbrev named : Answer
     named = BackedUp (found.catalogue.newest + 1) staged.version.length staged.version.chunks staged.version.fresh staged.need
 
-    pub made_one_step : (answer : Answer) → answer ≡ named → HasCommitted found after (contents h1) (contents h2) → IsOneStep (Backup name) held h0 h2 files files_now (Ok answer)
+    pub made_one_step : (answer : Answer) → answer ≡ named → HasCommitted found after (contents h1) (contents h2) → IsOneStep (Backup name) held held h0 h2 files files_now (Ok answer)
     made_one_step answer is made = record {
       each = λ shape st phase near stands.
           subst (λ m. Answered (task shape held st files (Backup name)) phase answer (contents h2) m) (sym same_files)
@@ -80,7 +80,7 @@ module _ (found : Found) (name : List ℕ) (files files_now : FileMap) (same_fil
           (commit_makes shape held st phase files name found h0 h1 space stands agrees settled below fewer writes count owners refl old is_old near law staged answers missing stored h2 made));
     }
 
-    pub made_safe : (answer : Answer) → HasCommitted found after (contents h1) (contents h2) → IsSettled h2 → LeavesSince (IsOldOrCommitted found after h1) h1 h2 → IsSafeAtStops (Backup name) held h0 h2 files (Ok answer)
+    pub made_safe : (answer : Answer) → HasCommitted found after (contents h1) (contents h2) → IsSettled h2 → LeavesSince (IsOldOrCommitted found after h1) h1 h2 → IsSafeAtStops (Backup name) held held h0 h2 files (Ok answer)
     made_safe answer made settles stops = record {
       each = λ shape st near sure.
           let now : Stands shape held st (contents h0) = sure.each (contents h0) (contents_now h0) in
@@ -90,14 +90,14 @@ module _ (found : Found) (name : List ℕ) (files files_now : FileMap) (same_fil
           };
     }
 
-    pub failed_one_step : IsKeptOrCommitted found after (contents h1) (contents h2) → IsOneStep (Backup name) held h0 h2 files files_now (Err DiskFault)
+    pub failed_one_step : IsKeptOrCommitted found after (contents h1) (contents h2) → IsOneStep (Backup name) held held h0 h2 files files_now (Err DiskFault)
     failed_one_step either = record {
       each = λ shape st phase near stands.
           subst (λ m. MakesStep (task shape held st files (Backup name)) phase (contents h2) m (Err DiskFault)) (sym same_files)
           (commit_fails shape held st phase files name found h0 h1 space stands agrees settled below fewer writes count owners refl old is_old near law staged answers missing stored h2 either);
     }
 
-    pub failed_safe : LeavesSince (IsOldOrCommitted found after h1) h1 h2 → IsSafeAtStops (Backup name) held h0 h2 files (Err DiskFault)
+    pub failed_safe : LeavesSince (IsOldOrCommitted found after h1) h1 h2 → IsSafeAtStops (Backup name) held held h0 h2 files (Err DiskFault)
     failed_safe stops = record {
       each = λ shape st near sure.
           let now : Stands shape held st (contents h0) = sure.each (contents h0) (contents_now h0) in

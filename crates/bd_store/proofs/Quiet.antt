@@ -10,14 +10,14 @@ use Rattle.bd_store.specs.declared.fault.StoreFault.TheVariants.{SourceFault, Ta
 use Rattle.bd_store.specs.Steps.{Task, task}
 use Rattle.bd_store.specs.Stops.{IsSafeAtStops, IsSureOf, IsSureBy}
 
-sure_quiet : (t : Task) {h0 h1 : History} (fault : StoreFault) → WritesNothing h0 h1 → IsSureOf t h0 → IsSureBy t h0 h1 (Err fault)
+sure_quiet : (t : Task) {h0 h1 : History} (fault : StoreFault) → WritesNothing h0 h1 → IsSureOf t.held t h0 → IsSureBy t h0 h1 (Err fault)
 sure_quiet t DiskFault quiet sure = tt
 sure_quiet t SourceFault quiet sure = leaves_quiet quiet sure
 sure_quiet t TargetFault quiet sure = leaves_quiet quiet sure
 sure_quiet t (Damaged damage) quiet sure = leaves_quiet quiet sure
 sure_quiet t OutOfMemory quiet sure = leaves_quiet quiet sure
 
-pub safe_quiet : (command : Command) (held : ℕ) {h0 h1 : History} (files : FileMap) (fault : StoreFault) → WritesNothing h0 h1 → IsSafeAtStops command held h0 h1 files (Err fault)
+pub safe_quiet : (command : Command) (held : ℕ) {h0 h1 : History} (files : FileMap) (fault : StoreFault) → WritesNothing h0 h1 → IsSafeAtStops command held held h0 h1 files (Err fault)
 safe_quiet command held files fault quiet = record {
   each = λ shape st near sure. record {
     within = leaves_wider _ (λ image stands. inl stands) (leaves_quiet quiet sure);
@@ -26,5 +26,5 @@ safe_quiet command held files fault quiet = record {
 }
 
 -- the same of a call that did nothing
-pub safe_untouched : (command : Command) (held : ℕ) (h : History) (files : FileMap) (fault : StoreFault) → IsSafeAtStops command held h h files (Err fault)
+pub safe_untouched : (command : Command) (held : ℕ) (h : History) (files : FileMap) (fault : StoreFault) → IsSafeAtStops command held held h h files (Err fault)
 safe_untouched command held h files fault = safe_quiet command held files fault (made_none _ h)

@@ -27,7 +27,7 @@ module _ (command : Command) (held : ℕ) (h : History) (files : FileMap) (answe
   abbrev pub Refuses : Type 0
   Refuses = (shape : Shape) (st : VersionState) (phase : Phase) → StandsFor shape st phase held (contents h) → LeadsTo (task shape held st files command) (unchanged st files answer)
 
-  pub refused_step : Refuses → without_room answer ≡ answer → ((st : VersionState) (phase : Phase) → phase_after st phase answer ≡ phase) → IsOneStep command held h h files files (Ok answer)
+  pub refused_step : Refuses → without_room answer ≡ answer → ((st : VersionState) (phase : Phase) → phase_after st phase answer ≡ phase) → IsOneStep command held held h h files files (Ok answer)
   refused_step leads plain stays = record {
     each = λ shape st phase near stands. record {
       outcome = unchanged st files answer;
@@ -38,7 +38,7 @@ module _ (command : Command) (held : ℕ) (h : History) (files : FileMap) (answe
     };
   }
 
-  pub refused_stops : Refuses → IsSafeAtStops command held h h files (Ok answer)
+  pub refused_stops : Refuses → IsSafeAtStops command held held h h files (Ok answer)
   refused_stops leads = record {
     each = λ shape st near sure.
         let now : Stands shape held st (contents h) = sure.each (contents h) (contents_now h) in

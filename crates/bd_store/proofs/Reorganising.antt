@@ -41,7 +41,7 @@ module _ (store : Shown) (h : History) (files : FileMap) (figures : Figures) (ag
       let free_is : figures.free ≡ free_extents shape store.held st = omega (arith, is.1, owned_is, has.held) in
       λ k. Some (unchanged st files (Arranged (sym owned_is k) (sym free_is k)))
 
-  arranged_step : IsOneStep Reorganise store.held h h files files (Ok answer)
+  arranged_step : IsOneStep Reorganise store.held store.held h h files files (Ok answer)
   arranged_step = record {
     each = λ shape st phase near stands. record {
       outcome = unchanged st files answer;
@@ -52,7 +52,7 @@ module _ (store : Shown) (h : History) (files : FileMap) (figures : Figures) (ag
     };
   }
 
-  arranged_stops : IsSafeAtStops Reorganise store.held h h files (Ok answer)
+  arranged_stops : IsSafeAtStops Reorganise store.held store.held h h files (Ok answer)
   arranged_stops = refused_stops Reorganise store.held h files answer leads
 
 module _ {disk files : Type 0} (s : Scene) (figures : Figures) (sound : s.store.worn ≡ false) (agrees : disk → Agrees s.store.found s.disk) (settled : s.store.found.catalogue.phase ≡ Settled) (has : HasFigures s.store figures) (are : AreFiguresOf s.store figures) where

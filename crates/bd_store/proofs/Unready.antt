@@ -155,13 +155,13 @@ unready_sure t h0 h1 (ReadDamaged damage) leaves = leaves
 unready_sure t h0 h1 ReadMemory leaves = leaves
 
 module _ (command : Command) (held : ℕ) (h0 h1 : History) (files : FileMap) (fault : ReadFault) (states : KeepsStates {T = Marked} held h0 h1 (Err fault)) where
-  pub unready_step : KeepsFiles command files files → IsOneStep command held h0 h1 files files (Err (fault_of_reading fault))
+  pub unready_step : KeepsFiles command files files → IsOneStep command held held h0 h1 files files (Err (fault_of_reading fault))
   unready_step keeps = record {
     each = λ shape st phase near stands.
         unready_makes (task shape held st files command) phase (contents h1) fault keeps (states.contents.each shape st phase (near_state shape held st files command near) stands);
   }
 
-  pub unready_stops : IsSafeAtStops command held h0 h1 files (Err (fault_of_reading fault))
+  pub unready_stops : IsSafeAtStops command held held h0 h1 files (Err (fault_of_reading fault))
   unready_stops = record {
     each = λ shape st near sure.
         let leaves : LeavesSince (Stands shape held st) h0 h1 = states.stops.each shape st (near_state shape held st files command near) sure in

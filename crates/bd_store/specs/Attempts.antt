@@ -364,9 +364,9 @@ TransfersByCommand a command result = TransfersFor a (deed_of a.before.store.fou
 pub record MeetsOnBoth (a : Attempt) : Type 0 where
   pub transfers : TransfersByCommand a a.command a.result
   -- it is one step of the version machine
-  pub step : IsOneStep a.command a.before.store.held a.before.disk a.after.disk a.before.files a.after.files a.result
+  pub step : IsOneStep a.command a.before.store.held a.before.store.held a.before.disk a.after.disk a.before.files a.after.files a.result
   -- a stop at any moment leaves the state before it or the one after
-  pub stops : IsSafeAtStops a.command a.before.store.held a.before.disk a.after.disk a.before.files a.result
+  pub stops : IsSafeAtStops a.command a.before.store.held a.before.store.held a.before.disk a.after.disk a.before.files a.result
 
 -- ---- all of it
 

@@ -90,8 +90,8 @@ pub record FollowsOnDisk (a : Attempt) : Type 0 where
 
 pub record FollowsOnBoth (a : Attempt) : Type 0 where
   pub transfers : TransfersByCommand a a.command a.result
-  pub step : IsOneStep a.command a.before.store.held a.before.disk a.after.disk a.before.files a.after.files a.result
-  pub stops : IsSafeAtStops a.command a.before.store.held a.before.disk a.after.disk a.before.files a.result
+  pub step : IsOneStep a.command a.before.store.held a.before.store.held a.before.disk a.after.disk a.before.files a.after.files a.result
+  pub stops : IsSafeAtStops a.command a.before.store.held a.before.store.held a.before.disk a.after.disk a.before.files a.result
 
 -- What a command does with a store that is ready: it reads nothing, and writes what nobody has.
 pub record Follows (disk files : Type 0) (a : Attempt) : Type 0 where

@@ -96,7 +96,8 @@ MakesStep t phase image files (Err OutOfMemory) = Kept t image files
 MakesStep t phase image files (Err DiskFault) = KeptOrMade t image files
 MakesStep t phase image files (Err (Damaged damage)) = ⊥
 
--- Whatever state the contents stood for, and at whatever phase: the command made one step from it.
-pub record IsOneStep (command : Command) (held : ℕ) (old new : History) (files_old files_new : FileMap) (result : Result Answer StoreFault) : Type 0 where
-  pub each : (shape : Shape) → (st : VersionState) → (phase : Phase) → IsNear (task shape held st files_old command) → StandsFor shape st phase held (contents old) →
+-- Whatever state the contents stood for, and at whatever phase: the command made one step from it. So many extents were held
+-- before it, and so many once the store was arranged, where it was.
+pub record IsOneStep (command : Command) (before held : ℕ) (old new : History) (files_old files_new : FileMap) (result : Result Answer StoreFault) : Type 0 where
+  pub each : (shape : Shape) → (st : VersionState) → (phase : Phase) → IsNear (task shape held st files_old command) → StandsFor shape st phase before (contents old) →
       MakesStep (task shape held st files_old command) phase (contents new) files_new result

@@ -13,9 +13,9 @@ use Rattle.bd_store.specs.Steps.{Task, task, LeadsTo, IsNear, StandsOnEitherSide
 use Rattle.bd_store.specs.declared.fault.StoreFault.{StoreFault}
 use Rattle.bd_store.specs.declared.fault.StoreFault.TheVariants.{DiskFault}
 
--- each image that a stop now may leave stands for the state
-abbrev pub IsSureOf : Task → History → Type 0
-IsSureOf t h = LeavesNow (Stands t.shape t.held t.state) h
+-- each image that a stop now may leave stands for the state, beside so many extents that are held
+abbrev pub IsSureOf : ℕ → Task → History → Type 0
+IsSureOf held t h = LeavesNow (Stands t.shape held t.state) h
 
 -- once the command has answered, each image stands for the state after it
 pub record IsSureAfter (t : Task) (new : History) : Type 0 where
@@ -36,7 +36,8 @@ pub record StopsOnEitherSide (t : Task) (old new : History) (result : Result Ans
   pub within : LeavesSince (StandsOnEitherSide t) old new
   pub done : IsSureBy t old new result
 
--- Whatever state each image at entry stood for: a stop leaves that state or the one after.
-pub record IsSafeAtStops (command : Command) (held : ℕ) (old new : History) (files : FileMap) (result : Result Answer StoreFault) : Type 0 where
-  pub each : (shape : Shape) → (st : VersionState) → IsNear (task shape held st files command) → IsSureOf (task shape held st files command) old →
+-- Whatever state each image at entry stood for: a stop leaves that state or the one after. So many extents were held before it,
+-- and so many once the store was arranged, where it was.
+pub record IsSafeAtStops (command : Command) (before held : ℕ) (old new : History) (files : FileMap) (result : Result Answer StoreFault) : Type 0 where
+  pub each : (shape : Shape) → (st : VersionState) → IsNear (task shape held st files command) → IsSureOf before (task shape held st files command) old →
       StopsOnEitherSide (task shape held st files command) old new result
