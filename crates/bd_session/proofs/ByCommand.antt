@@ -164,7 +164,7 @@ module _ (shape : Shape) (st : VersionState) (phase : Phase) (files : FileMap) (
 
   pub reads_for : (command : Command) (answer : Answer) → IsNear (task shape 0 st files command) → IsAnswerOf before.store.found command (Ok answer) → ReadsByCommand (attempt command (Ok answer) before after) command →
       ReadsFor shape st after.disk (clock before.disk) (clock after.disk) answer
-  reads_for (Restore v name) (Restored given bytes) near answers reads = subst (RestoreReads shape st after.disk (clock before.disk) (clock after.disk)) (sym answers.2) (walked v near reads)
+  reads_for (Restore v name) (Restored given bytes) near answers reads = subst (RestoreReads shape st after.disk (clock before.disk) (clock after.disk)) (sym answers.2) (walked v near reads.layout)
   reads_for (Restore v name) (Expired given extents) near answers reads = absurd answers
   reads_for (Restore v name) _ near answers reads = tt
   reads_for (Backup name) (Restored given bytes) near answers reads = absurd answers

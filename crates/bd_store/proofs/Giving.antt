@@ -48,7 +48,7 @@ use Rattle.bd_files.specs.Files.{ChangesOnly}
 use Rattle.bd_store.specs.Naming.{fault_of_reading, fault_of_restore, sought, IsDamageOf, NamesDamage}
 use Rattle.bd_store.specs.Steps.{task, IsOneStep, LeadsTo, MakesStep}
 use Rattle.bd_store.specs.Stops.{IsSafeAtStops}
-use Rattle.bd_store.specs.Touches.{WalksTo}
+use Rattle.bd_store.specs.Touches.{ReadsOnce, WalksTo}
 use Rattle.bd_store.proofs.Asking.{restore_step, same_oldest}
 use Rattle.bd_restore.proofs.Standing.{content_stands, lean_stands, length_stands, reads_stand, recipe_stands, whole_stands}
 
@@ -260,6 +260,15 @@ module _ (found : Found) (v : ℕ) (h0 : History) (agrees : Agrees found h0) (fr
     restored_content name files files_now put =
         put
         ∙ ap (map.insert files name) (ap (joined entries) (at_first (records_for s c)) ∙ ap (λ es. joined es (records_for s c (contents h0) v)) (holds-found s c v (contents h0) entries is).same)
+
+    -- each place of the walk was read once
+    pub restored_once : ReadsOnly (recipe_places s c v) h0 h1 → ReadsOnly (walk_reads s entries [] (spots_in s (contents h1) (walk c n))) h1 h2 → ReadsOnce found v h0 h2
+    restored_once recipe_read walked = record {
+      places = subst (λ places. ReadsOnly places h0 h2)
+          (ap (λ spots. recipe_places s c v ++ walk_reads s entries [] spots) (at_first (λ image m. spots_in s image (walk c m)))
+          ∙ ap (λ es. recipe_places s c v ++ walk_reads s es [] (spots_in s (contents h0) (walk c v))) (holds-found s c v (contents h0) entries is).same)
+          (reads_both recipe_read walked);
+    }
 
     -- what was read is the walk through the layout
     pub restored_walks : ReadsOnly (recipe_places s c v) h0 h1 → ReadsOnly (walk_reads s entries [] (spots_in s (contents h1) (walk c n))) h1 h2 → (held : ℕ) → WalksTo held found v h0 h2

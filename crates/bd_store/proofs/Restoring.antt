@@ -41,7 +41,7 @@ use Rattle.bd_store.specs.Writes.{StepsTo, WritesByCommand}
 use Rattle.bd_store.specs.declared.fault.StoreFault.{StoreFault}
 use Rattle.bd_store.specs.declared.fault.StoreFault.TheVariants.{DiskFault}
 use Rattle.bd_store.proofs.Asking.{retained_is}
-use Rattle.bd_store.proofs.Giving.{agrees_quiet, reading_names, reading_one_step, restored_content, restored_one_step, restored_safe, restored_walks, walk_names, walk_one_step}
+use Rattle.bd_store.proofs.Giving.{agrees_quiet, reading_names, reading_one_step, restored_content, restored_one_step, restored_safe, restored_once, restored_walks, walk_names, walk_one_step}
 use Rattle.bd_store.proofs.Quiet.{safe_quiet}
 use Rattle.bd_store.proofs.Opens.{opens_quiet}
 
@@ -205,7 +205,10 @@ module _ {D F : Type 0} (d : DiskGhosts D) (f : FilesGhosts F) (found : Found) (
         agrees = λ _. agrees_quiet found (nothing_written (reads (Ok given) ran) told) (agrees told);
         opens = opens_quiet (nothing_written (reads (Ok given) ran) told);
         writes = only_read (Ok (Restored v given)) (nothing_written (reads (Ok given) ran) told) refl;
-        reads = restored_walks found v (d.history disk0) (agrees told) from to plan (read.entries told) read.made.version (d.history disk1) (nothing_written read.disk told) (d.history disk2) (nothing_written ran.disk told) (read.places told) (gave.walked told).places stays;
+        reads = record {
+          once = restored_once found v (d.history disk0) (agrees told) from to plan (read.entries told) read.made.version (d.history disk1) (nothing_written read.disk told) (d.history disk2) (nothing_written ran.disk told) (read.places told) (gave.walked told).places;
+          layout = restored_walks found v (d.history disk0) (agrees told) from to plan (read.entries told) read.made.version (d.history disk1) (nothing_written read.disk told) (d.history disk2) (nothing_written ran.disk told) (read.places told) (gave.walked told).places stays;
+        };
         looks = looked (reads (Ok given) ran) told;
         damage = tt;
         recipe = λ damage broken. let no : Err damage ≡ Ok plan.entries = sym broken ∙ read.entries told in absurd (cc);

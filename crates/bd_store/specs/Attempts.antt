@@ -36,7 +36,7 @@ use Rattle.bd_store.specs.Shown.{HasFree, SameVersions, Shown}
 use Rattle.bd_store.specs.Steps.{IsOneStep, KeepsFiles}
 use Rattle.bd_store.specs.Stops.{IsSafeAtStops}
 use Rattle.bd_store.specs.Taken.{TakesNothing, TakesStream}
-use Rattle.bd_store.specs.Touches.{AnswersArranging, AnswersByNumbers, AnswersByVersion, AnswersExpiry, ArrangingReads, BackupReads, ExpiryReads, InArranging, InRestore, InStored, IsByNumbers, IsNumbers, WalksTo, arranges_first, is_waiting}
+use Rattle.bd_store.specs.Touches.{AnswersArranging, AnswersByNumbers, AnswersByVersion, AnswersExpiry, ArrangingReads, BackupReads, ExpiryReads, InArranging, InRestore, InStored, IsByNumbers, IsNumbers, ReadsOnce, WalksTo, arranges_first, is_waiting}
 use Rattle.bd_store.specs.Writes.{WritesByCommand, arranges_for}
 use Rattle.bd_store.specs.declared.fault.StoreFault.{StoreFault}
 use Rattle.bd_store.specs.declared.fault.StoreFault.TheVariants.{DiskFault, Damaged, OutOfMemory, SourceFault, TargetFault}
@@ -196,11 +196,16 @@ pub record KeepsStore (a : Attempt) : Type 0 where
 
 -- ---- where the disk tells
 
+-- what a restore that was answered read: each place once, and in the order of the layout
+pub record ReadsRestored (a : Attempt) (v : ℕ) : Type 0 where
+  pub once : ReadsOnce a.before.store.found v a.before.disk a.after.disk
+  pub layout : WalksTo a.before.store.held a.before.store.found v a.before.disk a.after.disk
+
 -- A restore that was answered reads its walk. One that is refused touches nothing.
 abbrev pub WalksAs : Kind → Attempt → ℕ → Type 0
 WalksAs (Gained bytes chunks fresh) a v = TouchesNothing a.before.disk a.after.disk
 WalksAs (Lost extents) a v = TouchesNothing a.before.disk a.after.disk
-WalksAs Given a v = WalksTo a.before.store.held a.before.store.found v a.before.disk a.after.disk
+WalksAs Given a v = ReadsRestored a v
 WalksAs (Figures owned free) a v = TouchesNothing a.before.disk a.after.disk
 WalksAs (NoRoom counted free held) a v = TouchesNothing a.before.disk a.after.disk
 WalksAs ByNumbers a v = TouchesNothing a.before.disk a.after.disk

@@ -1,5 +1,5 @@
 -- Which places of the disk a command reads, and which answers touch nothing.
-use Rattle.std.specs.Prelude.{◌≡◌, ◌⊎◌, ℕ, ◌+◌, ◌<◌, ◌≤◌, ◌||◌, ◌==◌, ◌&&◌, Bool, true, false, [], nat_le, Some, None, Result, Ok, Err}
+use Rattle.std.specs.Prelude.{◌≡◌, ◌⊎◌, ℕ, ◌+◌, ◌<◌, ◌≤◌, ◌||◌, ◌==◌, ◌&&◌, Bool, true, false, [], ◌++◌, nat_le, Some, None, Result, Ok, Err}
 use Rattle.bd_disk.specs.History.{History, contents}
 use Rattle.bd_disk.specs.Made.{TouchesNothing}
 use Rattle.bd_disk.specs.Trace.{ReadsOnly}
@@ -12,14 +12,15 @@ use Rattle.bd_model.specs.declared.answer.Answer.{Answer}
 use Rattle.bd_model.specs.declared.answer.Answer.TheVariants.{Arranged, BackedUp, Expired, FullExtents, FullNumbers, FullVersions, NoVersion, NothingRetained, Restored}
 use Rattle.bd_roll.specs.Catalogue.{oldest_in, retained_in}
 use Rattle.bd_catalog.specs.Opening.{Found}
-use Rattle.bd_catalog.specs.Rows.{walk}
+use Rattle.bd_catalog.specs.Rows.{spots_in, walk}
+use Rattle.bd_catalog.specs.Sound.{recipe_of}
 use Rattle.bd_roll.specs.Splitting.{after_expire}
 use Rattle.bd_catalog.specs.Standing.{StandsFor}
 use Rattle.bd_catalog.specs.Steps.{IsMade}
 use Rattle.bd_catalog.specs.Walks.{restore_reads, IsLean}
-use Rattle.bd_recipe.specs.Reading.{length_in, InRecipe}
+use Rattle.bd_recipe.specs.Reading.{length_in, recipe_places, InRecipe}
 use Rattle.bd_arrange.specs.Arranged.{InDue}
-use Rattle.bd_restore.specs.Walk.{InRows}
+use Rattle.bd_restore.specs.Walk.{InRows, walk_reads}
 use Rattle.bd_store.specs.Newest.{newest_places}
 use Rattle.bd_store.specs.Kinds.{Kind, Gained, Lost, Given, Figures, NoRoom, ByNumbers, Shows, Elsewhere, kind_of}
 use Rattle.bd_store.specs.declared.fault.StoreFault.{StoreFault}
@@ -110,6 +111,11 @@ IsByNumbers (Err fault) = ⊥
 pub record WalksTo (held : ℕ) (found : Found) (v : ℕ) (old new : History) : Type 0 where
   pub each : (shape : Shape) → (st : VersionState) → (phase : Phase) → Near (history shape st) → StandsFor shape st phase held (contents old) →
       ReadsOnly (restore_reads found.sizes found.catalogue (history shape st) v) old new × IsLean (history shape st) found.catalogue.phase v
+
+-- Whatever image it is: the recipe of version v was read, and of the records on its walk each header, and the body of the first
+-- with each mark that an entry has.
+pub record ReadsOnce (found : Found) (v : ℕ) (old new : History) : Type 0 where
+  pub places : ReadsOnly (recipe_places found.sizes found.catalogue v ++ walk_reads found.sizes (recipe_of found.sizes found.catalogue (contents old) v) [] (spots_in found.sizes (contents old) (walk found.catalogue v))) old new
 
 -- a place of the newest recipe
 pub record InNewest (found : Found) (place : ℕ) : Type 0 where
