@@ -202,7 +202,7 @@ module _ {D : Type 0} (d : DiskGhosts D) (beside : Beside) (found : Found) (held
     on_disk = λ told. record {
       agrees = λ _. (made told).agrees;
       opens = dropped _ (λ _. refl) (either told);
-      writes = writes_half told (after_step found Dropping) (Ok (Expired version extents)) refl;
+      writes = writes_half told (after_step found Dropping) (Ok (Expired version extents)) (refl, is_extents);
       reads = λ _. (record { catalogue = refl; made = made told }, nothing_read writes told);
       looks = looks_from _ {places = []} tt (nothing_read writes told);
       damage = tt;

@@ -1,5 +1,5 @@
 -- Which places of the disk a command writes, and which catalogue it leaves, whatever image it is.
-use Rattle.std.specs.Prelude.{◌≡◌, ◌⊎◌, ℕ, ◌+◌, ◌<◌, ◌≤◌, ◌==◌, ◌&&◌, Bool, true, false, List, Result, Ok, Err}
+use Rattle.std.specs.Prelude.{◌≡◌, ◌⊎◌, ℕ, ◌+◌, ◌<◌, ◌≤◌, ◌==◌, ◌&&◌, Bool, true, false, List, length, Result, Ok, Err}
 use Rattle.bd_disk.specs.History.{History, contents}
 use Rattle.bd_disk.specs.Made.{WritesNothing, WritesOnly}
 use Rattle.bd_model.specs.Sizes.{disk_bytes}
@@ -10,7 +10,7 @@ use Rattle.bd_catalog.specs.Agreement.{Agrees, InExtents}
 use Rattle.bd_roll.specs.Catalogue.{Catalogue, OpenEntry, all_extents, retained_in}
 use Rattle.bd_roll.specs.Growing.{after_backup}
 use Rattle.bd_catalog.specs.Opening.{Found}
-use Rattle.bd_roll.specs.Splitting.{after_expire}
+use Rattle.bd_roll.specs.Splitting.{after_expire, expired}
 use Rattle.bd_volume.specs.Named.{IsBeside}
 use Rattle.bd_arrange.specs.Arranged.{IsArrangedFrom}
 use Rattle.bd_store.specs.Deeds.{Deed, TakesIn, GivesBack, GivesUp, Settles, Checks, Tells, deed_of}
@@ -52,11 +52,11 @@ abbrev pub WritesReady : Found → Command → History → History → Type 0
 WritesReady found command old new = WritesFor (deed_of found command) found old new
 
 -- The catalogue that an answer leaves, from that of a store that is ready: a backup adds its version and category to it, an
--- expiry drops the oldest version of it, and else it stays.
+-- expiry drops the oldest version of it and answers how many extents went, and else it stays.
 abbrev pub StepsFor : Kind → Catalogue → Catalogue → Type 0
 StepsFor (Gained bytes chunks fresh) c c_now =
     (extents : List ℕ) × (category : List OpenEntry) × (c_now ≡ after_backup c (record { length = bytes; chunks = chunks; fresh = fresh; extents = extents }) category)
-StepsFor (Lost extents) c c_now = c_now ≡ after_expire c
+StepsFor (Lost extents) c c_now = (c_now ≡ after_expire c) × (extents ≡ length (expired c))
 StepsFor Given c c_now = c_now ≡ c
 StepsFor (Figures owned free) c c_now = c_now ≡ c
 StepsFor (NoRoom counted free held) c c_now = c_now ≡ c
