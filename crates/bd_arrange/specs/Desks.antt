@@ -8,7 +8,7 @@ use Rattle.bd_model.specs.Sizes.{Sizes}
 use Rattle.bd_model.specs.declared.layout.RecipeEntry.{RecipeEntry}
 use Rattle.bd_category.specs.Laws.{written_records}
 use Rattle.bd_extio.specs.Ranges.{AreExtents, InOwner}
-use Rattle.bd_space.specs.Allotment.{Allotment, extent_count, IsTaken, free_count, held_count, TakenExactly}
+use Rattle.bd_space.specs.Allotment.{Allotment, extent_count, IsTaken, free_count, TakenExactly, KeepsHeld}
 use Rattle.bd_roll.specs.Catalogue.{OpenEntry, bytes_of_rows}
 use Rattle.bd_roll.specs.Rules.{active_holds}
 use Rattle.bd_roll.specs.Splitting.{KeptEntry, SplitEntry, kept_extents, kept_of}
@@ -48,7 +48,7 @@ pub record KeepsExtents (space space_now : Allotment) (old new : OnDesk) : Type 
   pub owners : (others : List ℕ) → TakenExactly space (others ++ new_extents old) → TakenExactly space_now (others ++ new_extents new)
   pub free : free_count space_now + length (new_extents new) ≡ free_count space + length (new_extents old)
   pub extents : extent_count space_now ≡ extent_count space
-  pub held : held_count space_now ≡ held_count space
+  pub held : KeepsHeld space space_now
 
 -- a category that was split so
 pub record BecomesSplit (s : Sizes) (a : OpenEntry) (old new : OnDesk) (e : SplitEntry) : Type 0 where

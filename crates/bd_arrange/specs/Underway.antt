@@ -5,7 +5,7 @@ use Rattle.bd_disk.specs.declared.disk.Disk.{Ghosts}
 use Rattle.bd_model.specs.Extents.{owner_bytes}
 use Rattle.bd_model.specs.Sizes.{disk_bytes}
 use Rattle.bd_model.specs.declared.layout.RecipeEntry.{RecipeEntry}
-use Rattle.bd_space.specs.Allotment.{Allotment, extent_count, held_count, TakenExactly}
+use Rattle.bd_space.specs.Allotment.{Allotment, extent_count, TakenExactly, KeepsHeld}
 use Rattle.bd_roll.specs.Catalogue.{Catalogue, OpenEntry, all_extents, bytes_of_rows, oldest_in}
 use Rattle.bd_catalog.specs.Opening.{Found}
 use Rattle.bd_roll.specs.Rules.{ascends}
@@ -47,7 +47,7 @@ pub record IsUnderway {D : Type 0} (d : Ghosts D) (found : Found) (entries : Lis
 pub record IsTakenFor (found : Found) (before space : Allotment) (desk : OnDesk) : Type 0 where
   pub owners : TakenExactly space (all_extents found.catalogue ++ new_extents desk)
   pub count : extent_count space ≡ found.sizes.extents
-  pub held : held_count space ≡ held_count before
+  pub held : KeepsHeld before space
 
 -- the catalogue once what was made at the desk is named
 abbrev pub arranged_at : Found → OnDesk → Catalogue
@@ -62,7 +62,7 @@ pub record Names {D : Type 0} (d : Ghosts D) (found : Found) (c : Catalogue) (sp
   pub either : d.tells → LeavesEither found (committed found c) (d.history old) (d.history new)
   pub owners : OnOk result (TakenExactly space_now (all_extents found_now.catalogue))
   pub extents : extent_count space_now ≡ extent_count space
-  pub held : held_count space_now ≡ held_count space
+  pub held : KeepsHeld space space_now
 
 -- a place in the store at which the catalogue names no byte
 pub record IsStaged (found : Found) (place : ℕ) : Type 0 where

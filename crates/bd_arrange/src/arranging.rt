@@ -5,7 +5,7 @@ ghost use Rattle.bd_disk.specs.History.{contents};
 ghost use Rattle.bd_disk.specs.Runs.{Works, Writes};
 ghost use Rattle.bd_model.specs.Sizes.{disk_bytes};
 ghost use Rattle.bd_model.specs.declared.layout.Phase.TheVariants.{Settled};
-ghost use Rattle.bd_space.specs.Allotment.{extent_count, free_count, held_count, TakenExactly};
+ghost use Rattle.bd_space.specs.Allotment.{extent_count, free_count, held_count, TakenExactly, KeepsHeld};
 ghost use Rattle.bd_catalog.specs.Agreement.{Agrees};
 ghost use Rattle.bd_roll.specs.Catalogue.{all_extents};
 ghost use Rattle.bd_catalog.specs.Ledger.{HasRoom};
@@ -49,7 +49,7 @@ pub fn arrange<D: Disk>(
     ensures cause { FailsByCount is_disk_fault (D.faults disk.old) (D.faults disk.new) result }
     ensures settled { catalog.old.found.catalogue.phase ≡ Settled → IsOk result × (disk.new ≡ disk.old) × (catalog.new ≡ catalog.old) × (space.new ≡ space.old) }
     ensures found { LeavesFound catalog.old.found catalog.new.found result }
-    ensures space { (extent_count space.new ≡ extent_count space.old) × (held_count space.new ≡ held_count space.old) × ButDiskFault result (IsAllotted catalog.new.found space.new) }
+    ensures space { (extent_count space.new ≡ extent_count space.old) × KeepsHeld space.old space.new × ButDiskFault result (IsAllotted catalog.new.found space.new) }
     ensures agrees { D.tells → ButDiskFault result (Agrees catalog.new.found (D.history disk.new)) }
     ensures answer { D.tells → AnswersDue (held_count space.old) catalog.old.found catalog.new.found (D.history disk.old) (D.history disk.new) result }
     ensures states { D.tells → KeepsStates (held_count space.old) (D.history disk.old) (D.history disk.new) result }

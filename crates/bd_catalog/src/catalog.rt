@@ -4,7 +4,7 @@ ghost use Rattle.bd_disk.specs.Calls.{HasCause};
 ghost use Rattle.bd_disk.specs.Runs.{Writes};
 ghost use Rattle.bd_model.specs.Sizes.{sizes_of, disk_bytes, payload_room};
 ghost use Rattle.bd_gate.specs.Halves.{log_place};
-ghost use Rattle.bd_space.specs.Allotment.{extent_count, held_count, TakenExactly};
+ghost use Rattle.bd_space.specs.Allotment.{extent_count, TakenExactly, KeepsHeld};
 ghost use Rattle.bd_catalog.specs.Agreement.{Agrees};
 ghost use Rattle.bd_roll.specs.Catalogue.{all_extents, empty_catalogue, oldest_in, retained_in};
 ghost use Rattle.bd_catalog.specs.Ledger.{found_alone, found_in, IsPlaced, HasRoom};
@@ -184,7 +184,7 @@ impl Catalog {
         ensures found { self.new.found ≡ with_catalogue self.old.found (stepped self.old.found.catalogue step) }
         ensures owners { TakenExactly space.new (all_extents (stepped self.old.found.catalogue step)) }
         ensures extents { extent_count space.new ≡ extent_count space.old }
-        ensures held { held_count space.new ≡ held_count space.old }
+        ensures held { KeepsHeld space.old space.new }
     {
         match step {
             Step::Backup { version, fresh } => self.contents.back_up(self.alloc, version, fresh),
@@ -216,7 +216,7 @@ impl Catalog {
         ensures done { OnOk result (D.tells → IsMade self.old.found (after_step self.old.found step) (D.history disk.old) (D.history disk.new)) }
         ensures owners { OnOk result (TakenExactly space.new (all_extents self.new.found.catalogue)) }
         ensures extents { extent_count space.new ≡ extent_count space.old }
-        ensures held { held_count space.new ≡ held_count space.old }
+        ensures held { KeepsHeld space.old space.new }
     {
         self.make(space, step);
         let half = write_beside(

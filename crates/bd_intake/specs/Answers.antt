@@ -10,7 +10,7 @@ use Rattle.bd_model.specs.Records.{records_of, spelled_recipe}
 use Rattle.bd_model.specs.Room.{need_of, counted_of}
 use Rattle.bd_model.specs.Sizes.{Sizes}
 use Rattle.bd_model.specs.declared.layout.RecipeEntry.{RecipeEntry}
-use Rattle.bd_space.specs.Allotment.{Allotment, extent_count, free_count, held_count, TakenExactly}
+use Rattle.bd_space.specs.Allotment.{Allotment, extent_count, free_count, held_count, TakenExactly, KeepsHeld}
 use Rattle.bd_roll.specs.Catalogue.{Catalogue, all_extents, retained_in}
 use Rattle.bd_catalog.specs.Opening.{Found}
 use Rattle.bd_roll.specs.declared.rows.ActiveCategory.{ActiveCategory}
@@ -77,6 +77,6 @@ FitsStaged found staged = retained_in found.catalogue < found.sizes.retain → F
 -- what is staged is taken of the space beside what the catalogue names, and after a refusal nothing is
 pub record LeavesSpace (c : Catalogue) (old new : Allotment) (result : Result Staged IntakeFault) : Type 0 where
   pub size : extent_count new ≡ extent_count old
-  pub held : held_count new ≡ held_count old
+  pub held : KeepsHeld old new
   pub owners : IfOk result (λ staged. TakenExactly new (all_extents c ++ brought (Backup staged.version staged.fresh)))
   pub returned : OnErr result (TakenExactly new (all_extents c))

@@ -2,7 +2,7 @@
 ghost use Rattle.std.specs.Prelude.{◌≡◌, ℕ, ◌+◌, ◌<◌, ◌^◌, List, [], ◌∷◌, ◌++◌, length, nat_lt, IfOk, if◌then◌else◌};
 ghost use Rattle.bd_roll.specs.Shown.{version_entry};
 ghost use Rattle.bd_roll.specs.Steps.{fresh_entries};
-ghost use Rattle.bd_space.specs.Allotment.{extent_count, held_count, TakenExactly};
+ghost use Rattle.bd_space.specs.Allotment.{extent_count, TakenExactly, KeepsHeld};
 ghost use Rattle.bd_intake.specs.Answers.{fresh_extents};
 ghost use Rattle.bd_intake.specs.Given.{Given};
 ghost use Rattle.bd_intake.specs.Spaces.{IsOwned};
@@ -94,7 +94,7 @@ pub(crate) fn give_back(staging: Staging, space: &mut Space)
     requires { IsOwned space.old staging.recipe.numbers staging.fresh.numbers }
     ensures owners { (base : List ℕ) → TakenExactly space.old (base ++ staging.recipe.numbers ++ staging.fresh.numbers) → TakenExactly space.new base }
     ensures size { extent_count space.new ≡ extent_count space.old }
-    ensures held { held_count space.new ≡ held_count space.old }
+    ensures held { KeepsHeld space.old space.new }
 {
     let Staging {
         seen: _,

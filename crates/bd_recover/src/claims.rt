@@ -1,7 +1,7 @@
 //! The extents that a catalogue's owners have.
 ghost use Rattle.std.specs.Prelude.{◌≡◌, All, IfOk, nat_eq};
 ghost use Rattle.std.specs.List.{flat_map, IsDistinct};
-ghost use Rattle.bd_space.specs.Allotment.{IsFree, Marks, TakenExactly, extent_count, held_count};
+ghost use Rattle.bd_space.specs.Allotment.{IsFree, Marks, TakenExactly, extent_count, held_count, KeepsHeld};
 ghost use Rattle.bd_roll.specs.Catalogue.{all_extents};
 
 use bd_catalog::{Catalog, OwnsExtents};
@@ -27,7 +27,7 @@ fn claim_owners<T: OwnsExtents>(space: &mut Space, owners: &[T])
     requires free { All (IsFree space.old) (flat_map T.numbers owners.now) }
     requires distinct { IsDistinct nat_eq (flat_map T.numbers owners.now) }
     ensures taken { Marks (flat_map T.numbers owners.now) Use.Taken space.old space.new }
-    ensures held { held_count space.new ≡ held_count space.old }
+    ensures held { KeepsHeld space.old space.new }
 {
     for owner in owners {
         space.claim(owner.extents());

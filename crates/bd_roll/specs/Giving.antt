@@ -1,7 +1,7 @@
 -- Extents that owners give up.
 use Rattle.std.specs.Prelude.{◌≡◌, ◌<◌, ◌^◌, ℕ, List, ◌++◌, sum_by}
 use Rattle.bd_model.specs.declared.layout.CategoryRow.{CategoryRow}
-use Rattle.bd_space.specs.Allotment.{Allotment, extent_count, held_count, TakenExactly}
+use Rattle.bd_space.specs.Allotment.{Allotment, extent_count, TakenExactly, KeepsHeld}
 
 -- these numbers are taken, each once and beside others
 pub record AreOwned (space : Allotment) (numbers : List ℕ) : Type 0 where
@@ -12,7 +12,7 @@ pub record AreOwned (space : Allotment) (numbers : List ℕ) : Type 0 where
 pub record GivesUp (numbers : List ℕ) (old new : Allotment) : Type 0 where
   pub owners : (others : List ℕ) → TakenExactly old (others ++ numbers) → TakenExactly new others
   pub extents : extent_count new ≡ extent_count old
-  pub held : held_count new ≡ held_count old
+  pub held : KeepsHeld old new
 
 -- the counts of rows, added up, fit their fields
 pub record SumsFit (rows : List CategoryRow) : Type 0 where

@@ -53,6 +53,10 @@ taken_count space = count_by is_taken space.uses
 abbrev pub held_count : Allotment → ℕ
 held_count space = count_by is_held space.uses
 
+-- as many are held as before
+abbrev pub KeepsHeld : Allotment → Allotment → Type 0
+KeepsHeld old new = held_count new ≡ held_count old
+
 -- these numbers have this use now, and every other number has the use that it had
 pub record Marks (numbers : List ℕ) (usage : Use) (old new : Allotment) : Type 0 where
   pub size : extent_count new ≡ extent_count old

@@ -1,7 +1,7 @@
 //! The use of each extent.
 ghost use Rattle.std.specs.Prelude.{◌≡◌, ◌≢◌, ℕ, ◌+◌, ◌^◌, ◌<◌, ◌≤◌, ◌++◌, length, take, drop, replicate, All, IfOk, OnOk, OnErr, MatchResult, nat_eq};
 ghost use Rattle.std.specs.List.{IsDistinct};
-ghost use Rattle.bd_space.specs.Allotment.{Allotment, IsFree, IsTaken, is_free, is_held, numbers_from, free_numbers, free_count, held_count, Marks};
+ghost use Rattle.bd_space.specs.Allotment.{Allotment, IsFree, IsTaken, is_free, is_held, numbers_from, free_numbers, free_count, held_count, Marks, KeepsHeld};
 ghost use Rattle.bd_space.specs.Marking.{marked_uses, IsKept};
 ghost use Rattle.bd_space.specs.Refusal.{IsRefusal};
 
@@ -80,7 +80,7 @@ impl Space {
         ensures distinct { OnOk result (IsDistinct nat_eq (take count (free_numbers self.old))) }
         ensures taken { OnOk result (Marks (take count (free_numbers self.old)) Use.Taken self.old self.new) }
         ensures free { OnOk result (free_count self.new + count ≡ free_count self.old) }
-        ensures held { OnOk result (held_count self.new ≡ held_count self.old) }
+        ensures held { OnOk result (KeepsHeld self.old self.new) }
 
         ensures refused { OnErr result (self.new ≡ self.old) }
         ensures owner_refused { OnErr result (owner.new ≡ owner.old) }
@@ -105,7 +105,7 @@ impl Space {
         requires distinct { IsDistinct nat_eq owner.now.numbers }
         ensures taken { Marks owner.now.numbers Use.Taken self.old self.new }
         ensures free { free_count self.new + length owner.now.numbers ≡ free_count self.old }
-        ensures held { held_count self.new ≡ held_count self.old }
+        ensures held { KeepsHeld self.old self.new }
     {
         mark(&mut self.uses, owner.numbers(), Use::Taken);
         self.free -= owner.len() as u32;
@@ -117,7 +117,7 @@ impl Space {
         requires distinct { IsDistinct nat_eq owner.numbers }
         ensures freed { Marks owner.numbers Use.Free self.old self.new }
         ensures free { free_count self.new ≡ free_count self.old + length owner.numbers }
-        ensures held { held_count self.new ≡ held_count self.old }
+        ensures held { KeepsHeld self.old self.new }
     {
         mark(&mut self.uses, owner.numbers(), Use::Free);
         self.free += owner.len() as u32;

@@ -4,7 +4,7 @@ ghost use Rattle.bd_disk.specs.Calls.{HasCause};
 ghost use Rattle.bd_disk.specs.Runs.{Writes};
 ghost use Rattle.bd_model.specs.Sizes.{disk_bytes};
 ghost use Rattle.bd_catalog.specs.Agreement.{Agrees};
-ghost use Rattle.bd_space.specs.Allotment.{extent_count, held_count, TakenExactly};
+ghost use Rattle.bd_space.specs.Allotment.{extent_count, TakenExactly, KeepsHeld};
 ghost use Rattle.bd_roll.specs.Catalogue.{all_extents};
 ghost use Rattle.bd_catalog.specs.Ledger.{HasRoom};
 ghost use Rattle.bd_roll.specs.Shown.{version_entry};
@@ -42,7 +42,7 @@ pub(crate) fn name_version<D: Disk>(
         IsMade catalog.old.found (after_step catalog.old.found (Step.Backup staged.version staged.fresh))
         (D.history disk.old) (D.history disk.new)) }
     ensures owners { OnOk result (TakenExactly space.new (all_extents catalog.new.found.catalogue)) }
-    ensures counts { (extent_count space.new ≡ extent_count space.old) × (held_count space.new ≡ held_count space.old) }
+    ensures counts { (extent_count space.new ≡ extent_count space.old) × KeepsHeld space.old space.new }
 {
     let Staged {
         version,

@@ -10,7 +10,7 @@ use Rattle.bd_model.specs.Room.{up}
 use Rattle.bd_model.specs.Sizes.{Sizes}
 use Rattle.bd_extio.specs.Owned.{owned_on}
 use Rattle.bd_extio.specs.Ranges.{AreExtents, InOwner}
-use Rattle.bd_space.specs.Allotment.{Allotment, extent_count, IsFree, IsTaken, Marks, free_count, held_count}
+use Rattle.bd_space.specs.Allotment.{Allotment, extent_count, IsFree, IsTaken, Marks, free_count, KeepsHeld}
 use Rattle.bd_space.specs.declared.space.Use.TheVariants.{Taken}
 use Rattle.bd_roll.specs.Catalogue.{bytes_of_rows, starts_of}
 use Rattle.bd_roll.specs.Rules.{row_holds}
@@ -63,7 +63,7 @@ pub record Takes (numbers : List ℕ) (old new : Allotment) : Type 0 where
   pub once : IsDistinct nat_eq numbers
   pub marked : Marks numbers Taken old new
   pub counted : free_count new + length numbers ≡ free_count old
-  pub held : held_count new ≡ held_count old
+  pub held : KeepsHeld old new
 
 -- both lists of numbers went on by the same ones, which are taken now
 pub record AddsExtents (space space_now : Allotment) (old new : Filled) : Type 0 where
