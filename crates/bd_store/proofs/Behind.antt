@@ -44,7 +44,7 @@ use Rattle.bd_store.proofs.Nearing.{near_state}
 
 -- what is answered of the same versions, settled, is answered of those before
 pub answers_before : (command : Command) (old new : Found) (result : Result Answer StoreFault) → MakesReady old command → IsSettledFrom old new → EndsReady result → IsAnswerOf new command result → IsAnswerOf old command result
-answers_before command old new result makes same ends = by_ready (λ c. IsAnswerOf new c result → IsAnswerOf old c result) (record {
+answers_before command old new result makes same ends = by_ready old (λ c. IsAnswerOf new c result → IsAnswerOf old c result) (record {
   backup = λ name not_full. by_end (λ e. AnswersByNumbers new e → AnswersByNumbers old e) (record {
     named = λ version bytes chunks fresh need is. (not_full, is.1 ∙ ap (λ n. n + 1) same.newest);
     full = λ counted free held is. not_full;
@@ -76,14 +76,14 @@ answers_before command old new result makes same ends = by_ready (λ c. IsAnswer
 
 -- only an expiry answers that it gave a version up
 pub expiry_alone : (command : Command) (old new : Found) (version extents : ℕ) → MakesReady old command → IsAnswerOf new command (Ok (Expired version extents)) → command ≡ Expire
-expiry_alone command old new version extents makes = by_ready (λ c. IsAnswerOf new c (Ok (Expired version extents)) → c ≡ Expire) (record {
+expiry_alone command old new version extents makes = by_ready old (λ c. IsAnswerOf new c (Ok (Expired version extents)) → c ≡ Expire) (record {
   backup = λ name not_full is. absurd is;
   expiry = λ first is. refl;
   arranging = λ waiting is. absurd is;
 }) command makes
 
 pub expiry_first : (command : Command) (old new : Found) (version extents : ℕ) → MakesReady old command → IsAnswerOf new command (Ok (Expired version extents)) → arranges_first old ≡ true
-expiry_first command old new version extents makes = by_ready (λ c. IsAnswerOf new c (Ok (Expired version extents)) → arranges_first old ≡ true) (record {
+expiry_first command old new version extents makes = by_ready old (λ c. IsAnswerOf new c (Ok (Expired version extents)) → arranges_first old ≡ true) (record {
   backup = λ name not_full is. absurd is;
   expiry = λ first is. first;
   arranging = λ waiting is. absurd is;

@@ -43,7 +43,7 @@ module _ (disk files : Type 0) (command : Command) (before : Scene) (mid : Found
 
   module _ (ready : IsReady before.store now.store neighbour) (readied : disk → IsMadeReadyOn before now (Ok neighbour)) (follows : Follows disk files (attempt command result now after)) where
     reads : disk → ReadsByCommand whole command
-    reads told = by_ready (λ c. ReadsByCommand whole c) (record {
+    reads told = by_ready before.store.found (λ c. ReadsByCommand whole c) (record {
       backup = λ name not_full. backup_reads before.store.found before.disk after.disk result follows.ends (λ settled. then_none ((readied told).readies.answer.reads settled) (follows.on_disk told).reads);
       expiry = λ first. by_end (ExpiryReads before.store.found after.store.found before.disk after.disk) (record {
         named = λ version bytes chunks fresh need no. not_both first no;
@@ -126,7 +126,7 @@ module _ (disk files : Type 0) (command : Command) (before : Scene) (mid : Found
         }) result follows.ends
 
     transfers : disk → TransfersByCommand (attempt command result now after) command result → TransfersByCommand whole command result
-    transfers told = by_ready (λ c. TransfersByCommand (attempt command result now after) c result → TransfersByCommand whole c result) (record {
+    transfers told = by_ready before.store.found (λ c. TransfersByCommand (attempt command result now after) c result → TransfersByCommand whole c result) (record {
       backup = λ name not_full is. record {
         taken = λ old stream newest_before there.
             let same : neighbour.entries ≡ old = newest_same (readied told).readies.answer.found_before newest_before in
@@ -138,7 +138,7 @@ module _ (disk files : Type 0) (command : Command) (before : Scene) (mid : Found
     }) command makes
 
     same_files : KeepsFiles command before.files after.files → after.files ≡ before.files
-    same_files = by_ready (λ c. KeepsFiles c before.files after.files → after.files ≡ before.files) (record {
+    same_files = by_ready before.store.found (λ c. KeepsFiles c before.files after.files → after.files ≡ before.files) (record {
       backup = λ name not_full keeps. keeps;
       expiry = λ first keeps. keeps;
       arranging = λ waiting keeps. keeps;

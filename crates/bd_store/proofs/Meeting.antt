@@ -7,7 +7,7 @@ use Rattle.bd_model.specs.declared.answer.Answer.{Answer}
 use Rattle.bd_model.specs.declared.command.Command.{Command}
 use Rattle.bd_catalog.specs.Agreement.{Agrees}
 use Rattle.bd_catalog.specs.Opening.{Found}
-use Rattle.bd_store.specs.Attempts.{Scene, Attempt, attempt, DamageByCommand, FinishesByCommand, TransfersByCommand, IsAnswerOf, KeepsVersions, Meets, ReadsByCommand, RecipeByCommand, SettlesBy, TellsFigures}
+use Rattle.bd_store.specs.Attempts.{Scene, Attempt, attempt, DamageByCommand, FinishesByCommand, TransfersByCommand, IsAnswerOf, KeepsVersions, Meets, ReadsByCommand, RecipeByCommand, SettlesBy, TellsFigures, WhereRestored}
 use Rattle.bd_store.specs.Causes.{ByCount}
 use Rattle.bd_store.specs.Deeds.{deed_of, target_of}
 use Rattle.bd_store.specs.Shown.{Shown, SameVersions}
@@ -15,7 +15,7 @@ use Rattle.bd_store.specs.Steps.{IsOneStep, KeepsBut}
 use Rattle.bd_store.specs.Stops.{IsSafeAtStops}
 use Rattle.bd_store.specs.Writes.{StepsTo, WritesArranging, arranges}
 use Rattle.bd_store.specs.declared.fault.StoreFault.{StoreFault}
-use Rattle.bd_store.specs.declared.fault.StoreFault.TheVariants.{DiskFault, OutOfMemory}
+use Rattle.bd_store.specs.declared.fault.StoreFault.TheVariants.{Damaged, DiskFault, OutOfMemory, SourceFault, TargetFault}
 use Rattle.bd_store.proofs.Behind.{quiet_writing}
 use Rattle.bd_store.proofs.Opens.{opens_quiet}
 
@@ -26,6 +26,14 @@ same_versions s = record { sizes = refl; base = refl; newest = refl; versions = 
 pub files_stay : (target : Option (List ℕ)) (files : FileMap) → KeepsBut target files files
 files_stay None files = refl
 files_stay (Some target) files = record { others = λ other differ. refl }
+
+-- after a fault nothing was given back
+pub given_nothing : (P : Type 0) (fault : StoreFault) → WhereRestored (Err fault) P
+given_nothing P SourceFault = tt
+given_nothing P TargetFault = tt
+given_nothing P DiskFault = tt
+given_nothing P (Damaged damage) = tt
+given_nothing P OutOfMemory = tt
 
 -- what memory wasn't there for is no step
 pub memory_step : (command : Command) (held : ℕ) (h : History) (files : FileMap) → IsOneStep command held held h h files files (Err OutOfMemory)

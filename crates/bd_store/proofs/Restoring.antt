@@ -41,6 +41,7 @@ use Rattle.bd_store.specs.Writes.{StepsTo, WritesByCommand}
 use Rattle.bd_store.specs.declared.fault.StoreFault.{StoreFault}
 use Rattle.bd_store.specs.declared.fault.StoreFault.TheVariants.{DiskFault}
 use Rattle.bd_store.proofs.Asking.{retained_is}
+use Rattle.bd_store.proofs.Meeting.{given_nothing}
 use Rattle.bd_store.proofs.Giving.{agrees_quiet, reading_names, reading_one_step, restored_content, restored_one_step, restored_safe, restored_once, restored_walks, walk_names, walk_one_step}
 use Rattle.bd_store.proofs.Quiet.{safe_quiet}
 use Rattle.bd_store.proofs.Opens.{opens_quiet}
@@ -149,9 +150,9 @@ module _ {D F : Type 0} (d : DiskGhosts D) (f : FilesGhosts F) (found : Found) (
         damage = reading_names found v (d.history disk0) (d.history disk1) told fault (is.entries told) is.seen;
         recipe = unread_ends fault is told;
       };
-      on_files = λ told. record { beside = record { others = λ other differ. refl }; strays = record { later = omega arith; missing = inl refl }; finished = tt };
+      on_files = λ told. record { beside = record { others = λ other differ. refl }; strays = record { later = omega arith; missing = inl refl }; finished = given_nothing _ (fault_of_reading fault) };
       on_both = λ told files_tell. record {
-        transfers = tt;
+        transfers = given_nothing _ (fault_of_reading fault);
         step = reading_one_step found v (d.history disk0) (agrees told) from to name stays _ fault (nothing_written is.disk told) (is.entries told);
         stops = safe_quiet (Restore v name) stays _ (fault_of_reading fault) (nothing_written is.disk told);
       };
@@ -275,9 +276,9 @@ module _ {D F : Type 0} (d : DiskGhosts D) (f : FilesGhosts F) (found : Found) (
         damage = walk_names found v (d.history disk0) (d.history disk1) told plan (read.entries told) read.made.version (nothing_written read.disk told) (read.places told) (d.history disk2) fault met;
         recipe = λ damage broken. let no : Err damage ≡ Ok plan.entries = sym broken ∙ read.entries told in absurd (cc);
       };
-      on_files = λ told. record { beside = (changed_target ran.files told).1; strays = record { later = omega (arith, (changed_target ran.files told).0); missing = inl (changed_target ran.files told).0 }; finished = tt };
+      on_files = λ told. record { beside = (changed_target ran.files told).1; strays = record { later = omega (arith, (changed_target ran.files told).0); missing = inl (changed_target ran.files told).0 }; finished = given_nothing _ (fault_of_restore fault) };
       on_both = λ told files_tell. record {
-        transfers = tt;
+        transfers = given_nothing _ (fault_of_restore fault);
         step = walk_one_step found v (d.history disk0) (agrees told) from to plan (read.entries told) read.made.version (d.history disk1) (nothing_written read.disk told) (d.history disk2) (nothing_written ran.disk told) name stays _ _ fault (changed_target ran.files files_tell).1 told met;
         stops = safe_quiet (Restore v name) stays _ (fault_of_restore fault) (nothing_written (reads (Err fault) ran) told);
       };

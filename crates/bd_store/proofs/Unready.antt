@@ -20,7 +20,7 @@ use Rattle.bd_recipe.specs.declared.fault.ReadFault.{ReadFault}
 use Rattle.bd_recipe.specs.declared.fault.ReadFault.TheVariants.{DiskFault as ReadDisk, Damaged as ReadDamaged, OutOfMemory as ReadMemory}
 use Rattle.bd_volume.specs.Named.{IsBeside}
 use Rattle.bd_arrange.specs.Arranged.{Arranges, ButDiskFault, KeepsStates}
-use Rattle.bd_store.specs.Attempts.{Attempt, EndsInDamage, IsAnswerOf, KeepsVersions, SettlesBy, TellsFigures, Meets, Scene, attempt, EndsFor, Finishes, MayLook, NamesFor, NewestEnds, ReadsByCommand, TransfersFor, WhereRestored}
+use Rattle.bd_store.specs.Attempts.{Attempt, EndsInDamage, IsAnswerOf, KeepsVersions, SettlesBy, TellsFigures, Meets, Scene, attempt, EndsFor, Finishes, MayLook, NamesFor, NewestEnds, ReadsByCommand, TransfersFor}
 use Rattle.bd_store.specs.Causes.{counts, FailsOnlyByCount}
 use Rattle.bd_store.specs.Deeds.{Deed, TakesIn, GivesBack, GivesUp, Settles, Checks, Tells, deed_of, target_of}
 use Rattle.bd_store.specs.Following.{MakesReady, ReadiesFor, IsMadeReady}
@@ -29,13 +29,13 @@ use Rattle.bd_store.specs.Readying.{AnswersReady, IsThatDamage, Readies}
 use Rattle.bd_store.specs.Shown.{SameVersions, Shown}
 use Rattle.bd_store.specs.Steps.{task, IsOneStep, KeepsFiles, MakesStep, StandsOnEitherSide, Task}
 use Rattle.bd_store.specs.Stops.{IsSafeAtStops, IsSureBy}
-use Rattle.bd_store.specs.Touches.{AnswersArranging, AnswersByNumbers, AnswersExpiry, BackupReads, arranges_first, is_full, is_waiting}
+use Rattle.bd_store.specs.Touches.{AnswersArranging, AnswersByNumbers, AnswersExpiry, BackupReads, ExpiryReads, arranges_first, is_full, is_waiting}
 use Rattle.bd_store.specs.Writes.{StepsTo, WritesArranging, WritesByCommand}
 use Rattle.bd_store.specs.declared.fault.StoreFault.{StoreFault}
 use Rattle.bd_store.specs.declared.fault.StoreFault.TheVariants.{DiskFault}
 use Rattle.bd_store.proofs.Behind.{quiet_writing, ready_settled}
 use Rattle.bd_store.proofs.Ending.{by_ready, gone_on, went_on, rests_not, first_two, not_both}
-use Rattle.bd_store.proofs.Meeting.{files_stay}
+use Rattle.bd_store.proofs.Meeting.{files_stay, given_nothing}
 use Rattle.bd_store.proofs.Nearing.{near_state}
 use Rattle.bd_store.proofs.Opens.{opens_kept}
 use Rattle.bd_store.proofs.Taken.{takes_nothing}
@@ -48,7 +48,7 @@ unready_cause (ReadDamaged damage) before now n m is = record { later = record {
 unready_cause ReadMemory before now n m is = record { later = record { disk = is.later; sources = omega arith; targets = omega arith }; cause = ap (λ k. counts k n m) is.cause }
 
 pub unready_answer : (command : Command) (old new : Shown) (fault : ReadFault) → MakesReady old.found command → Readies old new (Err fault) → IsAnswerOf old.found command (Err (fault_of_reading fault))
-unready_answer command old new fault makes is = by_ready (λ c. IsAnswerOf old.found c (Err (fault_of_reading fault))) (record {
+unready_answer command old new fault makes is = by_ready old.found (λ c. IsAnswerOf old.found c (Err (fault_of_reading fault))) (record {
   backup = λ name not_full. named fault not_full is;
   expiry = λ first. lost fault first;
   arranging = λ waiting. arranged fault waiting;
@@ -127,6 +127,11 @@ unready_reads found h0 h1 ReadDisk = tt
 unready_reads found h0 h1 (ReadDamaged damage) = tt
 unready_reads found h0 h1 ReadMemory = tt
 
+pub unready_expiry : (found after : Found) (h0 h1 : History) (fault : ReadFault) → arranges_first found ≡ true → ExpiryReads found after h0 h1 (Err (fault_of_reading fault))
+unready_expiry found after h0 h1 ReadDisk first = λ no. not_both first no
+unready_expiry found after h0 h1 (ReadDamaged damage) first = λ no. not_both first no
+unready_expiry found after h0 h1 ReadMemory first = λ no. not_both first no
+
 pub unready_agrees : (fault : ReadFault) (worn : Bool) (P : Type 0) → (worn ≡ true) ↔ (◌≡◌ {A = Result Marked ReadFault} (Err fault) (Err ReadDisk)) → ButDiskFault {T = Marked} (Err fault) P → worn ≡ false → P
 unready_agrees ReadDisk worn P fails is sound = not_both (fails.1 refl) sound
 unready_agrees (ReadDamaged damage) worn P fails is sound = is
@@ -183,9 +188,9 @@ module _ (disk files : Type 0) (command : Command) (before : Scene) (mid : Found
 
   module _ (is : IsMadeReady disk before failed (Err fault)) where
     refusal_reads : ReadsByCommand refusal command
-    refusal_reads = by_ready (λ c. ReadsByCommand refusal c) (record {
+    refusal_reads = by_ready before.store.found (λ c. ReadsByCommand refusal c) (record {
       backup = λ name not_full. unready_reads before.store.found before.disk h1 fault;
-      expiry = λ first no. not_both first no;
+      expiry = λ first. unready_expiry before.store.found mid before.disk h1 fault first;
       arranging = λ waiting settled. rests_not before.store.found waiting settled;
     }) command makes
 
@@ -219,16 +224,9 @@ module _ (disk files : Type 0) (command : Command) (before : Scene) (mid : Found
     refusal_recipe told Checks may = absurd may
     refusal_recipe told Tells may = absurd may
 
-    given_nothing : {P : Type 0} → WhereRestored (Err (fault_of_reading fault)) P
-    given_nothing {P} = by fault where
-      by : (f : ReadFault) → WhereRestored (Err (fault_of_reading f)) P
-      by ReadDisk = tt
-      by (ReadDamaged damage) = tt
-      by ReadMemory = tt
-
     refusal_finishes : (target : Option (List ℕ)) → Finishes target (Err (fault_of_reading fault)) before.unfinished
     refusal_finishes None = tt
-    refusal_finishes (Some target) = given_nothing
+    refusal_finishes (Some target) = given_nothing _ (fault_of_reading fault)
 
     refusal_transfers : (deed : Deed) → ReadiesFor before.store.found deed → TransfersFor refusal deed (Err (fault_of_reading fault))
     refusal_transfers (TakesIn source) may = takes_nothing (λ s. tt) tt
