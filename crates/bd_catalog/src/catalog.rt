@@ -3,6 +3,7 @@ ghost use Rattle.std.specs.Prelude.{◌≡◌, ℕ, ◌+◌, ◌-◌, ◌≤◌,
 ghost use Rattle.bd_disk.specs.Calls.{HasCause};
 ghost use Rattle.bd_disk.specs.Runs.{Writes};
 ghost use Rattle.bd_model.specs.Sizes.{sizes_of, disk_bytes, payload_room};
+ghost use Rattle.bd_gate.specs.Commits.{MakesOrFails};
 ghost use Rattle.bd_gate.specs.Halves.{log_place};
 ghost use Rattle.bd_space.specs.Allotment.{extent_count, TakenExactly, KeepsHeld};
 ghost use Rattle.bd_catalog.specs.Agreement.{Agrees};
@@ -12,7 +13,7 @@ ghost use Rattle.bd_roll.specs.Rules.{obeys, catalogue_of};
 ghost use Rattle.bd_roll.specs.Spelling.{spelled};
 ghost use Rattle.bd_roll.specs.Shown.{catalogue_of_contents, version_entry, volume_entry, open_entry};
 ghost use Rattle.bd_roll.specs.Steps.{brought, stepped, Fits, NeedsRoom};
-ghost use Rattle.bd_catalog.specs.Steps.{after_step, with_catalogue, InOtherHalf, IsMade, LeavesEither};
+ghost use Rattle.bd_catalog.specs.Steps.{after_step, catalogue_calls, with_catalogue, InOtherHalf, IsMade, LeavesEither};
 
 use crate::frame::{log_place, write_beside};
 use bd_disk::{Disk, Failed};
@@ -196,7 +197,8 @@ impl Catalog {
     /// Makes the step, in memory and on the disk: writes the catalogue after it into the half that isn't the newest, with
     /// four or six calls of the disk. Takes no memory. Once it answered Ok, what the step gave up is free in the space.
     ///
-    /// A stop at any moment leaves the old catalogue or the new one. After `Failed` the catalogue isn't used again.
+    /// A stop at any moment leaves the old catalogue or the new one. Behind a call that failed it makes no other, and the
+    /// catalogue isn't used again.
     pub fn commit<D: Disk>(
         &mut self,
         disk: &mut D,
@@ -212,6 +214,7 @@ impl Catalog {
         ensures disk { Writes D.Disk (InOtherHalf self.old.found) disk.old disk.new }
         ensures cause { HasCause (D.faults disk.old) (D.faults disk.new) result }
         ensures either { D.tells → LeavesEither self.old.found (after_step self.old.found step) (D.history disk.old) (D.history disk.new) }
+        ensures calls { D.tells → MakesOrFails (catalogue_calls self.old.found (stepped self.old.found.catalogue step)) (D.history disk.old) (D.history disk.new) result }
         ensures made { OnOk result (self.new.found ≡ after_step self.old.found step) }
         ensures done { OnOk result (D.tells → IsMade self.old.found (after_step self.old.found step) (D.history disk.old) (D.history disk.new)) }
         ensures owners { OnOk result (TakenExactly space.new (all_extents self.new.found.catalogue)) }

@@ -2,10 +2,10 @@
 ghost use Rattle.std.specs.Prelude.{◌≡◌, ◌+◌, ◌-◌, ◌%◌, ◌≤◌, length, take, IsTrue, IfOk, OnOk};
 ghost use Rattle.bd_disk.specs.Calls.{HasCause};
 ghost use Rattle.bd_disk.specs.History.{contents};
-ghost use Rattle.bd_disk.specs.Made.{IsSettled, Makes};
+ghost use Rattle.bd_disk.specs.Made.{IsSettled};
 ghost use Rattle.bd_disk.specs.Runs.{Writes};
 ghost use Rattle.bd_model.specs.Sizes.{sizes_of, disk_bytes, payload_room};
-ghost use Rattle.bd_gate.specs.Commits.{frame_of};
+ghost use Rattle.bd_gate.specs.Commits.{frame_of, MakesOrFails};
 ghost use Rattle.bd_gate.specs.Halves.{InHalf, log_place};
 ghost use Rattle.bd_gate.specs.Standing.{IsOlderHalf, next_turn};
 ghost use Rattle.bd_roll.specs.Rules.{obeys};
@@ -68,8 +68,8 @@ pub(crate) fn write_beside<D: Disk>(
     ensures stops { D.tells →
         StopsBeside (sizes_of shape.now) half.now (catalogue_of_contents catalogue.now) (D.history disk.old) (D.history disk.new) }
     ensures settled { OnOk result (D.tells → IsSettled (D.history disk.new)) }
-    ensures calls { OnOk result (D.tells →
-        Makes (calls_beside (sizes_of shape.now) half.now (catalogue_of_contents catalogue.now)) (D.history disk.old) (D.history disk.new)) }
+    ensures calls { D.tells →
+        MakesOrFails (calls_beside (sizes_of shape.now) half.now (catalogue_of_contents catalogue.now)) (D.history disk.old) (D.history disk.new) result }
     ensures done { OnOk result (D.tells →
         LeavesBeside (sizes_of shape.now) half.now (catalogue_of_contents catalogue.now) (D.history disk.old) (D.history disk.new)) }
 {

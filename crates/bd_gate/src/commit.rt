@@ -3,10 +3,10 @@ ghost use Rattle.std.specs.Prelude.{◌≡◌, ◌+◌, ◌-◌, ◌<◌, ◌≤
 ghost use Rattle.bd_disk.specs.Calls.{HasCause};
 ghost use Rattle.bd_disk.specs.History.{contents};
 ghost use Rattle.bd_disk.specs.Images.{InRange};
-ghost use Rattle.bd_disk.specs.Made.{Makes, Stores};
+ghost use Rattle.bd_disk.specs.Made.{Stores};
 ghost use Rattle.bd_disk.specs.Runs.{Writes};
 ghost use Rattle.bd_model.specs.Sizes.{sizes_of, disk_bytes, half_bytes, half_place};
-ghost use Rattle.bd_gate.specs.Commits.{closing_calls, commit_calls, IsStored};
+ghost use Rattle.bd_gate.specs.Commits.{closing_calls, commit_calls, MakesOrFails, StoresOrFails};
 ghost use Rattle.bd_gate.specs.Halves.{InFrame, InGate, InHalf};
 ghost use Rattle.bd_gate.specs.Standing.{IsOlderHalf, IsNextTurn, BeginsNextTurn, BringsNextTurn, KeepsStanding, KeepsOrOpens, KeepsOrCommits, LeavesOpened, LeavesCommitted};
 ghost use Rattle.bd_gate.specs.Superblock.{open_gate, closed_gate};
@@ -15,13 +15,12 @@ use crate::half::{CLOSED_GATE, OPEN_GATE, place_of_half};
 use bd_disk::{Disk, Failed};
 use bd_model::Shape;
 
-/// Writes these bytes with one call, and makes sure of them with another.
+/// Writes these bytes with one call, and makes sure of them with another. Behind a call that failed it makes no other.
 pub fn store<D: Disk>(disk: &mut D, at: u64, from: &[u8]) -> Result<(), Failed>
     requires { at + length from.now ≤ D.bytes disk.old }
     ensures disk { Writes D.Disk (InRange at (length from.now)) disk.old disk.new }
     ensures cause { HasCause (D.faults disk.old) (D.faults disk.new) result }
-    ensures stored { OnOk result (D.tells →
-        IsStored at from.now (D.history disk.old) (D.history disk.new)) }
+    ensures stored { D.tells → StoresOrFails at from.now (D.history disk.old) (D.history disk.new) result }
 {
     disk.write(at, from)?;
     disk.sync()?;
@@ -38,8 +37,7 @@ pub fn close_half<D: Disk>(disk: &mut D, shape: &Shape, number: u8) -> Result<()
     ensures disk { Writes D.Disk (InGate (sizes_of shape.now) number) disk.old disk.new }
     ensures cause { HasCause (D.faults disk.old) (D.faults disk.new) result }
     ensures stops { D.tells → KeepsStanding (sizes_of shape.now) (D.history disk.old) (D.history disk.new) }
-    ensures stored { OnOk result (D.tells →
-        IsStored (half_place (sizes_of shape.now) number) (closed_gate ∷ []) (D.history disk.old) (D.history disk.new)) }
+    ensures stored { D.tells → StoresOrFails (half_place (sizes_of shape.now) number) (closed_gate ∷ []) (D.history disk.old) (D.history disk.new) result }
     // The half can be filled.
     ensures done { OnOk result (D.tells →
         IsOlderHalf (sizes_of shape.now) number false (D.history disk.new)) }
@@ -67,8 +65,7 @@ pub fn fill_half<D: Disk>(
     ensures disk { Writes D.Disk (InFrame (sizes_of shape.now) number (length frame.now)) disk.old disk.new }
     ensures cause { HasCause (D.faults disk.old) (D.faults disk.new) result }
     ensures stops { D.tells → KeepsStanding (sizes_of shape.now) (D.history disk.old) (D.history disk.new) }
-    ensures stored { OnOk result (D.tells →
-        IsStored (half_place (sizes_of shape.now) number + 1) frame.now (D.history disk.old) (D.history disk.new)) }
+    ensures stored { D.tells → StoresOrFails (half_place (sizes_of shape.now) number + 1) frame.now (D.history disk.old) (D.history disk.new) result }
     // The half can be opened, if the frame begins with the next turn.
     ensures done { OnOk result (D.tells →
         IsOlderHalf (sizes_of shape.now) number false (D.history disk.new)) }
@@ -92,8 +89,7 @@ pub fn open_half<D: Disk>(disk: &mut D, shape: &Shape, number: u8) -> Result<(),
     ensures disk { Writes D.Disk (InGate (sizes_of shape.now) number) disk.old disk.new }
     ensures cause { HasCause (D.faults disk.old) (D.faults disk.new) result }
     ensures stops { D.tells → KeepsOrOpens (sizes_of shape.now) number (D.history disk.old) (D.history disk.new) }
-    ensures stored { OnOk result (D.tells →
-        IsStored (half_place (sizes_of shape.now) number) (open_gate ∷ []) (D.history disk.old) (D.history disk.new)) }
+    ensures stored { D.tells → StoresOrFails (half_place (sizes_of shape.now) number) (open_gate ∷ []) (D.history disk.old) (D.history disk.new) result }
     ensures done { OnOk result (D.tells → LeavesOpened (sizes_of shape.now) number (D.history disk.old) (D.history disk.new)) }
     // The other half is open, and is the next one to be closed.
     ensures next { OnOk result (D.tells →
@@ -118,9 +114,7 @@ fn close_where_open<D: Disk>(
     ensures disk { Writes D.Disk (InGate (sizes_of shape.now) number) disk.old disk.new }
     ensures cause { HasCause (D.faults disk.old) (D.faults disk.new) result }
     ensures stops { D.tells → KeepsStanding (sizes_of shape.now) (D.history disk.old) (D.history disk.new) }
-    ensures calls { OnOk result (D.tells →
-        Makes (closing_calls (sizes_of shape.now) number is_open)
-        (D.history disk.old) (D.history disk.new)) }
+    ensures calls { D.tells → MakesOrFails (closing_calls (sizes_of shape.now) number is_open) (D.history disk.old) (D.history disk.new) result }
     ensures done { OnOk result (D.tells →
         IsOlderHalf (sizes_of shape.now) number false (D.history disk.new)) }
 {
@@ -132,7 +126,8 @@ fn close_where_open<D: Disk>(
 }
 
 /// Puts a frame in the place of the newest half: closes this half, which isn't the newest, where it is open, fills it with
-/// the frame, and opens it, each with one write and one sync. A half that is closed already isn't closed again.
+/// the frame, and opens it, each with one write and one sync. A half that is closed already isn't closed again. Behind a
+/// call that failed it makes no other.
 ///
 /// A stop at any moment, also after `Failed`, leaves the newest half as it was, or the frame and everything outside this
 /// half as it was. Once it has answered Ok a stop leaves the frame.
@@ -157,9 +152,7 @@ pub fn commit_frame<D: Disk>(
     ensures stores { OnOk result (D.tells →
         Stores (half_place (sizes_of shape.now) number) (open_gate ∷ frame.now)
         (D.history disk.old) (D.history disk.new)) }
-    ensures calls { OnOk result (D.tells →
-        Makes (commit_calls (sizes_of shape.now) number is_open frame.now)
-        (D.history disk.old) (D.history disk.new)) }
+    ensures calls { D.tells → MakesOrFails (commit_calls (sizes_of shape.now) number is_open frame.now) (D.history disk.old) (D.history disk.new) result }
     ensures done { OnOk result (D.tells →
         LeavesCommitted (sizes_of shape.now) number frame.now (D.history disk.old) (D.history disk.new)) }
     // The other half is open, and is the next one to be written.

@@ -1,7 +1,7 @@
 use Rattle.std.proofs.Common.{length, arith}
 use Rattle.bd_disk.proofs.RunLemmas.{both_writes, written}
 use Rattle.bd_model.specs.Sizes.{sizes_of}
-use Rattle.bd_gate.proofs.Commits.{commit_stores, frame_in_half, gate_in_half}
+use Rattle.bd_gate.proofs.Commits.{commit_stores, fails_behind, fails_first, frame_in_half, gate_in_half, part_made}
 use Rattle.bd_gate.proofs.Stops.{turn_stays, as_old, closed_filled, commit_stops, commit_done}
 use Rattle.bd_gate.proofs.commit.commit_frame.Goals as goal
 
@@ -50,3 +50,16 @@ returns-clause-done g c = λ told.
     commit_done (sizes_of c.args.shape.now) c.args.number c.requires.number c.args.frame.now _ _ _ _ c.requires.fits (omega (arith, g.met.D.Disk.sized told c.close_where_open.new.disk, c.close_where_open.ensures.disk.bytes, c.requires.room)) (c.in_ok-fill_half.ensures.stored told).stores
     (written (both_writes (gate_in_half (sizes_of c.args.shape.now) c.args.number c.close_where_open.ensures.disk) (frame_in_half (sizes_of c.args.shape.now) c.args.number (length c.args.frame.now) c.requires.fits c.fill_half.ensures.disk)) told) (written (gate_in_half (sizes_of c.args.shape.now) c.args.number c.open_half.ensures.disk) told)
     (c.in_ok-open_half.ensures.done told)
+
+pub returns-in_err-close_where_open-clause-calls : goal.returns-in_err-close_where_open-clause-calls
+returns-in_err-close_where_open-clause-calls g c = λ told. part_made _ c.from_residual.result c.from_residual.ensures.1 (fails_first _ (c.in_err-close_where_open.ensures.calls told))
+
+pub returns-in_err-fill_half-clause-calls : goal.returns-in_err-fill_half-clause-calls
+returns-in_err-fill_half-clause-calls g c = λ told.
+    part_made _ c.from_residual-in_err-fill_half.result c.from_residual-in_err-fill_half.ensures.1
+    (fails_behind _ (c.in_ok-close_where_open.ensures.calls told) (fails_first _ (c.in_err-fill_half.ensures.stored told)))
+
+pub returns-in_err-open_half-clause-calls : goal.returns-in_err-open_half-clause-calls
+returns-in_err-open_half-clause-calls g c = λ told.
+    part_made _ c.from_residual-in_err-open_half.result c.from_residual-in_err-open_half.ensures.1
+    (fails_behind _ (c.in_ok-close_where_open.ensures.calls told) (fails_behind _ (c.in_ok-fill_half.ensures.stored told).calls (c.in_err-open_half.ensures.stored told)))

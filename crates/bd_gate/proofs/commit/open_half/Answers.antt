@@ -1,7 +1,7 @@
 use Rattle.std.proofs.Common.{arith}
 use Rattle.bd_disk.proofs.RunLemmas.{written}
 use Rattle.bd_model.specs.Sizes.{sizes_of}
-use Rattle.bd_gate.proofs.Commits.{moved, stored_moved}
+use Rattle.bd_gate.proofs.Commits.{fails_moved, moved, part_stored, stored_moved}
 use Rattle.bd_gate.proofs.Stops.{open_stops, open_done, open_next}
 use Rattle.bd_gate.proofs.commit.open_half.Goals as goal
 
@@ -27,3 +27,6 @@ returns-clause-next g c = λ told.
 
 pub returns-clause-stored : goal.returns-clause-stored
 returns-clause-stored g c = λ told. stored_moved _ _ c.place_of_half-place.ensures.place (c.in_ok-store.ensures.stored told)
+
+pub returns-in_err-store-clause-stored : goal.returns-in_err-store-clause-stored
+returns-in_err-store-clause-stored g c = λ told. part_stored _ c.from_residual.result c.from_residual.ensures.1 (fails_moved _ _ c.place_of_half-place.ensures.place (c.in_err-store.ensures.stored told))

@@ -7,8 +7,10 @@ use Rattle.bd_disk.specs.Runs.{Writes}
 use Rattle.bd_disk.proofs.RunLemmas.{written}
 use Rattle.bd_model.specs.Sizes.{sizes_of}
 use Rattle.bd_space.specs.Allotment.{TakenExactly}
+use Rattle.bd_gate.specs.Commits.{FailsWithin}
 use Rattle.bd_gate.specs.Halves.{Half}
 use Rattle.bd_gate.specs.Standing.{IsOlderHalf, next_turn}
+use Rattle.bd_gate.proofs.Commits.{part_made}
 use Rattle.bd_roll.specs.Catalogue.{Catalogue, all_extents}
 use Rattle.bd_catalog.specs.Ledger.{Ledger}
 use Rattle.bd_catalog.specs.Opening.{Found}
@@ -112,3 +114,14 @@ returns-clause-done g c = λ told.
     (subst (λ (f : Found). Makes (catalogue_calls f f.catalogue) old new) same (c.in_ok-half.ensures.calls told))
     (subst (λ (f : Found). LeavesBeside f.sizes f.half f.catalogue old new) same (c.in_ok-half.ensures.done told))
     (c.in_ok-half.ensures.settled told)
+
+pub returns-in_err-half-clause-calls : goal.returns-in_err-half-clause-calls
+returns-in_err-half-clause-calls g c = λ told.
+    let same = ap (λ (l : Ledger). l.found) c.self.view_is ∙ c.make.ensures.found in
+    part_made _ c.from_residual.result c.from_residual.ensures.1
+    (subst (λ (f : Found). FailsWithin (catalogue_calls f f.catalogue) (g.D.Disk.history c.args.disk.now) (g.D.Disk.history c.write_beside.new.disk)) same (c.in_err-half.ensures.calls told))
+
+pub returns-clause-calls : goal.returns-clause-calls
+returns-clause-calls g c = λ told.
+    let same = ap (λ (l : Ledger). l.found) c.self.view_is ∙ c.make.ensures.found in
+    subst (λ (f : Found). Makes (catalogue_calls f f.catalogue) (g.D.Disk.history c.args.disk.now) (g.D.Disk.history c.write_beside.new.disk)) same (c.in_ok-half.ensures.calls told)
