@@ -1,8 +1,10 @@
 -- What an opening answers.
-use Rattle.std.specs.Prelude.{◌≡◌, ℕ, ◌==◌, Bool, true, false, not, List, replicate, Option, Some, None, Result, Ok, Err, bytes_eq, if◌then◌else◌}
-use Rattle.bd_disk.specs.History.{History}
+use Rattle.std.specs.Prelude.{◌≡◌, ◌⊎◌, ℕ, ◌==◌, Bool, true, false, not, List, replicate, Option, Some, None, Result, Ok, Err, bytes_eq, if◌then◌else◌}
+use Rattle.bd_disk.specs.Calls.{Done, Fails, IsIdle}
+use Rattle.bd_disk.specs.History.{Flush, History}
 use Rattle.bd_disk.specs.Images.{bytes_at}
-use Rattle.bd_disk.specs.Made.{IsSettled}
+use Rattle.bd_disk.specs.Made.{GoesOn, IsSettled}
+use Rattle.bd_disk.specs.declared.touch.Touch.TheVariants.{Sync}
 use Rattle.bd_model.specs.declared.shape.Shape.{Shape as StructShape}
 use Rattle.bd_model.specs.declared.place.Place.{Place}
 use Rattle.bd_model.specs.declared.place.Place.TheVariants.{Short, Gate, Magic, Number, Shape, Padding}
@@ -40,6 +42,12 @@ is_disk_fault OutOfMemory = false
 pub record Rests (found : Found) (h : History) : Type 0 where
   pub agrees : Agrees found h
   pub settled : IsSettled h
+
+-- the first call is a sync, which answered Ok or failed
+pub record SyncsFirst (old new : History) : Type 0 where
+  pub synced : History
+  pub first : Done Flush old synced ⊎ Fails (IsIdle Sync) old synced
+  pub rest : GoesOn synced new
 
 -- the space counts as taken what the catalogue owns, each number once, and nothing is held
 pub record HasSpace (made : Opened) : Type 0 where

@@ -11,7 +11,7 @@ ghost use Rattle.bd_gate.specs.Superblock.{is_marked, byte_at, open_gate};
 ghost use Rattle.bd_catalog.specs.Opening.{opened};
 ghost use Rattle.bd_recover.specs.Fresh.{fresh_found, FormatStops, HoldsFresh, InParts};
 ghost use Rattle.bd_recover.specs.Answers.{format_refusal, is_disk_fault, AnswersFormat, IsFormatAnswer, MeasuresFormat, TakesNoMemory};
-ghost use Rattle.bd_recover.specs.Opens.{HasSpace, Rests};
+ghost use Rattle.bd_recover.specs.Opens.{HasSpace, Rests, SyncsFirst};
 
 use crate::fault::FormatFault;
 use crate::fresh::{fresh_half, superblock_body};
@@ -30,6 +30,7 @@ pub fn format<D: Disk>(alloc: Global, disk: &mut D, shape: Shape) -> Result<Open
     ensures disk { Works D.Disk (InRange 0 64) (BeforeExtents (sizes_of shape)) disk.old disk.new }
     ensures cause { FailsByCount is_disk_fault (D.faults disk.old) (D.faults disk.new) result }
     ensures memory { result ≡ Err FormatFault.OutOfMemory → D.tells → TouchesNothing (D.history disk.old) (D.history disk.new) }
+    ensures synced { result ≢ Err FormatFault.OutOfMemory → D.tells → SyncsFirst (D.history disk.old) (D.history disk.new) }
     ensures answer { IsFormatAnswer D.Disk (sizes_of shape) disk.old disk.new result }
     ensures made { IfOk result (λ made. made.catalog.found ≡ fresh_found (sizes_of shape)) }
     ensures rests { IfOk result (λ made. D.tells → Rests made.catalog.found (D.history disk.new)) }
@@ -49,6 +50,7 @@ pub fn format_disk<D: Disk>(disk: &mut D, shape: &Shape) -> Result<(), FormatFau
     ensures disk { Works D.Disk (InRange 0 64) (BeforeExtents (sizes_of shape.now)) disk.old disk.new }
     ensures cause { FailsByCount is_disk_fault (D.faults disk.old) (D.faults disk.new) result }
     ensures memory { TakesNoMemory result }
+    ensures synced { D.tells → SyncsFirst (D.history disk.old) (D.history disk.new) }
     ensures answer { IsFormatAnswer D.Disk (sizes_of shape.now) disk.old disk.new result }
     // The contents are the empty store, and a stop leaves nothing else.
     ensures made { OnOk result (D.tells → opened (contents (D.history disk.new)) ≡ Ok (fresh_found (sizes_of shape.now))) }
@@ -66,6 +68,7 @@ fn shut_gate<D: Disk>(disk: &mut D, shape: &Shape) -> Result<(), FormatFault>
     ensures disk { Works D.Disk (InRange 0 64) (InRange 0 1) disk.old disk.new }
     ensures cause { FailsByCount is_disk_fault (D.faults disk.old) (D.faults disk.new) result }
     ensures memory { TakesNoMemory result }
+    ensures synced { D.tells → SyncsFirst (D.history disk.old) (D.history disk.new) }
     ensures answer { IsFormatAnswer D.Disk (sizes_of shape.now) disk.old disk.new result }
     ensures shut { OnOk result (D.tells → byte_at (contents (D.history disk.new)) 0 ≢ open_gate) }
     ensures settled { OnOk result (D.tells → IsSettled (D.history disk.old) → IsSettled (D.history disk.new)) }
@@ -82,6 +85,7 @@ fn asks_for_closing<D: Disk>(disk: &mut D, shape: &Shape) -> Result<bool, Format
     ensures disk { Reads D.Disk (InRange 0 64) disk.old disk.new }
     ensures cause { FailsByCount is_disk_fault (D.faults disk.old) (D.faults disk.new) result }
     ensures memory { TakesNoMemory result }
+    ensures synced { D.tells → SyncsFirst (D.history disk.old) (D.history disk.new) }
     ensures size { MeasuresFormat (sizes_of shape.now) (D.bytes disk.old) result }
     ensures refused { D.tells → AnswersFormat (format_refusal (sizes_of shape.now) (D.bytes disk.old) (contents (D.history disk.old))) result }
     ensures gate { IfOk result (λ closing. D.tells → closing ≡ (byte_at (contents (D.history disk.old)) 0 == open_gate)) }

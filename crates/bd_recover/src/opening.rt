@@ -8,7 +8,7 @@ ghost use Rattle.bd_model.specs.Sizes.{sizes_of, disk_bytes};
 ghost use Rattle.bd_gate.specs.Halves.{BeforeExtents};
 ghost use Rattle.bd_gate.specs.Superblock.{sizes_at};
 ghost use Rattle.bd_catalog.specs.Opening.{opened};
-ghost use Rattle.bd_recover.specs.Opens.{is_disk_fault, AnswersOpening, AnswersShape, AnswersShort, HasSpace, Rests};
+ghost use Rattle.bd_recover.specs.Opens.{is_disk_fault, AnswersOpening, AnswersShape, AnswersShort, HasSpace, Rests, SyncsFirst};
 
 use crate::claims::space_of;
 use crate::fault::OpenFault;
@@ -31,6 +31,7 @@ pub struct Opened {
 pub fn open_image<D: Disk>(alloc: Global, disk: &mut D) -> Result<Opened, OpenFault>
     ensures disk { Reads D.Disk (BeforeExtents (sizes_at (contents (D.history disk.old)))) disk.old disk.new }
     ensures cause { FailsByCount is_disk_fault (D.faults disk.old) (D.faults disk.new) result }
+    ensures synced { D.tells → SyncsFirst (D.history disk.old) (D.history disk.new) }
     ensures opened { D.tells → AnswersOpening (opened (contents (D.history disk.old))) result }
     ensures short { D.bytes disk.old < 64 → AnswersShort result }
     ensures room { IfOk result (λ made. disk_bytes made.catalog.found.sizes ≤ D.bytes disk.new) }

@@ -3,6 +3,7 @@ use Rattle.bd_disk.proofs.RunLemmas.{both_work, written}
 use Rattle.bd_model.specs.Sizes.{sizes_of}
 use Rattle.bd_recover.proofs.Stops.{behind, gate_before, made, opens, parts_before, shut_before}
 use Rattle.std.proofs.Common.{rules}
+use Rattle.bd_recover.proofs.FirstCalls.{syncs_on}
 use Rattle.bd_recover.proofs.formatting.format_disk.Goals as goal
 
 pub returns-in_err-write_parts-clause-stops : goal.returns-in_err-write_parts-clause-stops
@@ -53,3 +54,12 @@ returns-clause-disk g c = both_work (shut_before (sizes_of c.args.shape.now) c.s
 
 pub returns-clause-answer : goal.returns-clause-answer
 returns-clause-answer g c = record { size = search rules; refused = search rules; untouched = λ told fault is. absurd (cc (c.in_ok-shut_gate.ensures.answer.refused told, is)) }
+
+pub returns-in_err-write_parts-clause-synced : goal.returns-in_err-write_parts-clause-synced
+returns-in_err-write_parts-clause-synced g c = λ told. syncs_on (c.shut_gate.ensures.synced told) (written c.write_parts.ensures.disk told)
+
+pub returns-in_err-store-clause-synced : goal.returns-in_err-store-clause-synced
+returns-in_err-store-clause-synced g c = λ told. syncs_on (syncs_on (c.shut_gate.ensures.synced told) (written c.write_parts.ensures.disk told)) (written c.store.ensures.disk told)
+
+pub returns-clause-synced : goal.returns-clause-synced
+returns-clause-synced g c = λ told. syncs_on (syncs_on (c.shut_gate.ensures.synced told) (written c.write_parts.ensures.disk told)) (written c.store.ensures.disk told)

@@ -3,6 +3,7 @@ use Rattle.bd_disk.proofs.Frames.{still_settled}
 use Rattle.bd_disk.proofs.RunLemmas.{both_work, nothing_written, reads_work, writes_work, written}
 use Rattle.bd_model.specs.Sizes.{sizes_of}
 use Rattle.bd_recover.proofs.Stops.{asked, asked_and_closes, closed, not_open}
+use Rattle.bd_recover.proofs.FirstCalls.{syncs_on}
 use Rattle.bd_recover.proofs.formatting.shut_gate.Goals as goal
 
 pub returns-in_err-asks_for_closing-clause-stops :
@@ -55,3 +56,9 @@ returns-else-branch-clause-disk g c = reads_work _ c.asks_for_closing.ensures.di
 
 pub returns-else-branch-clause-answer : goal.returns-else-branch-clause-answer
 returns-else-branch-clause-answer g c = record { size = search rules; refused = search rules; untouched = λ told fault is. nothing_written c.asks_for_closing.ensures.disk told }
+
+pub returns-in_err-store-clause-synced : goal.returns-in_err-store-clause-synced
+returns-in_err-store-clause-synced g c = λ told. syncs_on (c.asks_for_closing.ensures.synced told) (written c.store.ensures.disk told)
+
+pub returns-in_ok-store-clause-synced : goal.returns-in_ok-store-clause-synced
+returns-in_ok-store-clause-synced g c = λ told. syncs_on (c.asks_for_closing.ensures.synced told) (written c.store.ensures.disk told)
