@@ -8,6 +8,7 @@ mod Marks
 mod Meeting
 mod Owning
 mod Putting
+mod Reached
 mod Reading
 mod Seeing
 pub mod Standing

@@ -89,6 +89,7 @@ module _ (w : Sought) (image : List ℕ) (p : RowPlace) (at : ℕ) where
               sym (size ∙ stored.size),
               differ,
               ap (is_found seen) same ∙ both_true (has_mark entries h.mark.0) (is_found seen h.mark.0) (sym (wanted seen flags)),
+              good_header s image p at h fits is,
               refl,
             );
             read = whole_read reads;

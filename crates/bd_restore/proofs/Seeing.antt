@@ -23,7 +23,7 @@ use Rattle.bd_model.specs.declared.layout.RecipeEntry.{RecipeEntry}
 use Rattle.bd_model.specs.declared.mark.Mark.{Mark}
 use Rattle.bd_model.proofs.ListLemmas.{left_and, right_and}
 use Rattle.bd_roll.specs.Catalogue.{Catalogue, recipe_extents}
-use Rattle.bd_catalog.specs.Damages.{BreaksRule, IsBadHeader, IsOfVersion, IsRecordOf, entry_places, header_holds, unlike}
+use Rattle.bd_catalog.specs.Damages.{BreaksRule, IsBadHeader, IsOfVersion, IsRecordOf, entry_places, header_holds, reached_for, unlike}
 use Rattle.bd_catalog.specs.Rows.{RowPlace, Spot, records_at, row_bytes, row_end, row_spots, spots_in, walk}
 use Rattle.bd_catalog.specs.Sound.{is_stored, part_holds, part_records, recipe_of, records_for, stored_holds, length_holds, with_mark}
 use Rattle.bd_recipe.specs.Reading.{chunks_in, recipe_places}
@@ -35,6 +35,7 @@ use Rattle.bd_restore.specs.Walk.{AreFlags, Sought, is_found}
 use Rattle.bd_volume.specs.Headers.{HasGoodHeaders}
 use Rattle.bd_volume.proofs.Spots.{past_sum, place_is, taken}
 use Rattle.bd_volume.proofs.WalkRecords.{part_at, records_both, row_records, walk_parts, walk_records}
+use Rattle.bd_restore.proofs.Reached.{all_reached, reached_to}
 use Rattle.bd_restore.proofs.Walking.{bool_cases, none_found}
 
 -- an entry of a list that passes a test
@@ -139,13 +140,14 @@ module _ (s : Sizes) (c : Catalogue) (image : List ℕ) (v : ℕ) where
       good = r.good;
     }
 
-    first_unlike : (e : RecipeEntry) → x.stored.mark ≡ e.mark.0 → x.stored.length ≢ e.length → is_found (records_at ahead) e.mark.0 ≡ false → slice_get (unlike e (spots_in s image (walk c v))) 0 ≡ Some x
-    first_unlike e same differ unseen =
+    first_unlike : header_holds s p x ≡ true → (e : RecipeEntry) → x.stored.mark ≡ e.mark.0 → x.stored.length ≢ e.length → is_found (records_at ahead) e.mark.0 ≡ false → slice_get (unlike e (reached_for s c image v)) 0 ≡ Some x
+    first_unlike holds e same differ unseen =
         let test = λ (y : Spot). bytes_eq y.stored.mark e.mark.0 && not (y.stored.length == e.length) in
         let hit : test x ≡ true = (λ i. (bytes_eq-Decides x.stored.mark e.mark.0).1 same i && not (ne_eqb x.stored.length e.length differ i)) in
+        let all = reached_to s image p x r.first r.later r.spots r.good holds c v r.before r.behind r.so r.ahead.each in
         ap (λ l. slice_get l 0)
-        (ap (unlike e) spots_are ∙ filter-append test ahead (x ∷ rest)
-        ∙ (λ i. none_unlike e ahead (none_found (with_mark e.mark.0 (records_at ahead)) unseen) i ++ cond (hit i) (x ∷ unlike e rest) (unlike e rest)))
+        (ap (unlike e) all.1 ∙ filter-append test ahead (x ∷ all.0)
+        ∙ (λ i. none_unlike e ahead (none_found (with_mark e.mark.0 (records_at ahead)) unseen) i ++ cond (hit i) (x ∷ unlike e all.0) (unlike e all.0)))
 
     module _ (are : entries ≡ recipe_of s c image v) where
       rule_of : (d : Damage) → BreaksAt w (records_at ahead) p x d met.places → BreaksRule s c image (walk c v) d met.places
@@ -156,8 +158,8 @@ module _ (s : Sizes) (c : Catalogue) (image : List ℕ) (v : ℕ) where
           let e = entry.0 in
           let same : m.0 ≡ e.mark.0 = sym (ap (λ (k : Mark). k.0) entry.2) in
           let differ : x.stored.length ≢ e.length = λ equal. b.4 (sym b.3 ∙ equal ∙ entry.3) in
-          let first : slice_get (unlike e (spots_in s image (walk c v))) 0 ≡ Some x = first_unlike e (b.2 ∙ same) differ (ap (is_found (records_at ahead)) (sym same) ∙ b.5) in
-          subst (λ w. BreaksRule s c image (walk c v) (Length w m recorded found) met.places) (sym b.0) (e, x, entry.1, entry.2, entry.3, first, b.3, b.6)
+          let first : slice_get (unlike e (reached_for s c image v)) 0 ≡ Some x = first_unlike b.6 e (b.2 ∙ same) differ (ap (is_found (records_at ahead)) (sym same) ∙ b.5) in
+          subst (λ w. BreaksRule s c image (walk c v) (Length w m recorded found) met.places) (sym b.0) (e, x, entry.1, entry.2, entry.3, first, b.3, b.7)
       rule_of (Entry u index said start) b = absurd b
       rule_of (Sum u recorded found) b = absurd b
       rule_of (Row who start recorded found) b = absurd b
@@ -280,6 +282,8 @@ module _ (s : Sizes) (c : Catalogue) (image : List ℕ) (v : ℕ) where
     missing_seen m more is_mark is reads good =
         let no_one : RecipeEntry = record { mark = m; length = 0; start = 0 } in
         let recipe = recipe_of s c image v in
+        let records = records_for s c image v in
+        let none_reached : with_mark m.0 (records_at (reached_for s c image v)) ≡ with_mark m.0 records = ap (λ l. with_mark m.0 (records_at l)) (all_reached s image c v good.each) ∙ ap (with_mark m.0) (walk_records s image c v) in
         let inside : k < length recipe = subst (λ l. k < length l) is lt in
         let e = get_or recipe k no_one in
         let count : length recipe ≡ chunks_in c v = length-entries_in (chunks_in c v) (owner_bytes s (recipe_extents c v) image) in
@@ -290,7 +294,7 @@ module _ (s : Sizes) (c : Catalogue) (image : List ℕ) (v : ℕ) where
           so = reads.so;
           read = All-weaker (λ x. Contains (recipe_places s c v) x) (λ x. Contains (recipe_places s c v ++ more) x) (λ x h. Contains-append_left (recipe_places s c v) more x h) (places_at s (recipe_extents c v) (40 * k) 40)
               (places_of_entry s (recipe_extents c v) k (chunks_in c v) (omega (arith, inside, count)));
-          breaks = (e, slice_get-get_or recipe k no_one inside, (λ i. record { 0 = marks i }), none_found (with_mark m.0 (records_for s c image v)) (ap (λ l. nat_lt 0 (length (with_mark l (records_for s c image v)))) is_mark ∙ not_found), refl);
+          breaks = (e, slice_get-get_or recipe k no_one inside, (λ i. record { 0 = marks i }), none_reached ∙ none_found (with_mark m.0 records) (ap (λ l. nat_lt 0 (length (with_mark l records))) is_mark ∙ not_found), refl);
           comes = good;
         }
 

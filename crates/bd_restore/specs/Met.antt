@@ -37,7 +37,7 @@ BreaksAt w seen p x (Body who at recorded found) places =
     (p.who ≡ who) × (x.at ≡ at) × IsBadBody w.sizes p x recorded found places × IsTrue (has_mark w.entries recorded.0)
 BreaksAt w seen p x (Length u m recorded found) places =
     (u ≡ w.version) × HasEntry w.entries m.0 recorded × (x.stored.mark ≡ m.0) × (x.stored.length ≡ found) × (found ≢ recorded) × IsFalse (is_found seen m.0)
-    × (places ≡ record_places w.sizes x)
+    × IsTrue (header_holds w.sizes p x) × (places ≡ record_places w.sizes x)
 BreaksAt w seen p x (Entry u index said start) places = ⊥
 BreaksAt w seen p x (Sum u recorded found) places = ⊥
 BreaksAt w seen p x (Row who start recorded found) places = ⊥
