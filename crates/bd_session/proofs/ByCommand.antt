@@ -20,7 +20,7 @@ use Rattle.bd_model.specs.Step.{phase_after, without_room}
 use Rattle.bd_model.specs.declared.shape.Shape.{Shape}
 use Rattle.bd_model.specs.declared.layout.Phase.{Phase}
 use Rattle.bd_model.specs.declared.layout.Phase.TheVariants.{Settled, Waiting}
-use Rattle.bd_model.specs.declared.answer.Answer.TheVariants.{Arranged, BackedUp, Expired, FullExtents, Listed, Restored, Scrubbed, Soaked}
+use Rattle.bd_model.specs.declared.answer.Answer.TheVariants.{Expired, Listed, Restored, Scrubbed, Soaked}
 use Rattle.bd_roll.specs.Catalogue.{retained_in}
 use Rattle.bd_catalog.specs.Opening.{Found, opened}
 use Rattle.bd_catalog.specs.Standing.{StandsFor}
@@ -28,7 +28,7 @@ use Rattle.bd_catalog.specs.Agreement.{Agrees}
 use Rattle.bd_catalog.proofs.StandingFound.{opened-found}
 use Rattle.bd_script.specs.Long.{is_long}
 use Rattle.bd_store.specs.Attempts.{IsAnswerOf, ReadsByCommand, Scene, attempt}
-use Rattle.bd_store.specs.Deeds.{Deed, TakesIn, GivesBack, GivesUp, Settles, Checks, Tells, deed_of, source_of, target_of}
+use Rattle.bd_store.specs.Deeds.{Deed, TakesIn, GivesBack, GivesUp, Settles, Checks, Tells, deed_of}
 use Rattle.bd_store.specs.Steps.{task, IsNear, KeepsBut, KeepsFiles}
 use Rattle.bd_store.specs.Touches.{IsLeanExpiry, WalksTo, arranges_first, waits}
 use Rattle.bd_store.specs.Writes.{IsArrangedFirst, WritesArranging, WritesByCommand, WritesFor, arranges, arranges_for}

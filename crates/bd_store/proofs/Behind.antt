@@ -35,9 +35,9 @@ use Rattle.bd_store.specs.Shown.{SameVersions, Shown}
 use Rattle.bd_store.specs.Steps.{task, IsOneStep, LeadsTo, MakesStep, StandsOnEitherSide, Task}
 use Rattle.bd_store.specs.Stops.{IsSafeAtStops, IsSureBy}
 use Rattle.bd_store.specs.Touches.{AnswersArranging, AnswersByNumbers, AnswersExpiry, BackupReads, arranges_first, is_waiting, waits}
-use Rattle.bd_store.specs.Writes.{IsArrangedFirst, StepsTo, WritesArranging, WritesFor, WritesByCommand, WritesReady, arranges, arranges_for}
+use Rattle.bd_store.specs.Writes.{IsArrangedFirst, StepsTo, WritesFor, WritesByCommand, WritesReady, arranges, arranges_for}
 use Rattle.bd_store.specs.declared.fault.StoreFault.{StoreFault}
-use Rattle.bd_store.proofs.Ending.{by_end, by_ready, first_two, first_waits, not_both, rests_not}
+use Rattle.bd_store.proofs.Ending.{by_end, by_ready, first_two, not_both, rests_not}
 use Rattle.bd_store.proofs.Nearing.{near_state}
 
 -- ---- the answer

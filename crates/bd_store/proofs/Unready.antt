@@ -4,7 +4,7 @@ use Rattle.bd_disk.specs.Calls.{FailsByCount as FailsByOne}
 use Rattle.bd_disk.specs.History.{History, contents}
 use Rattle.bd_disk.specs.Looks.{LooksOnlyAt}
 use Rattle.bd_disk.specs.Made.{LeavesSince, WritesNothing, WritesOnly}
-use Rattle.bd_disk.proofs.Frames.{leaves_wider, nothing_within}
+use Rattle.bd_disk.proofs.Frames.{leaves_wider}
 use Rattle.bd_model.specs.FileMap.{FileMap}
 use Rattle.bd_model.specs.declared.answer.Answer.{Answer}
 use Rattle.bd_model.specs.declared.command.Command.{Command}
