@@ -1,5 +1,5 @@
 -- What arranging leaves of the states for which the contents stood.
-use Rattle.std.proofs.Common.{◌≡◌, ◌≢◌, ⊎_elim, ℕ, zero, suc, ◌+◌, ◌-◌, List, [], ◌∷◌, length, take, map, flat_map, refl, sym, ◌∙◌, ap, subst, arith}
+use Rattle.std.proofs.Common.{◌≡◌, ◌≢◌, ⊎_elim, ℕ, zero, suc, ◌+◌, ◌-◌, ◌<◌, ◌≤◌, List, [], ◌∷◌, length, take, map, flat_map, refl, sym, ◌∙◌, ap, subst, arith}
 use Rattle.std.specs.Prelude.{All, Contains, IsTrue, OnErr, OnOk, Result, Ok, Err}
 use Rattle.std.proofs.lemmas.List.Elements.{All-contains_itself, All-weaker}
 use Rattle.bd_disk.specs.History.{History, contents}
@@ -9,7 +9,7 @@ use Rattle.bd_disk.proofs.Agreeing.{agree_fewer, agree_trans}
 use Rattle.bd_disk.proofs.Frames.{contents_now, leaves_both, leaves_now, leaves_same, leaves_wider, same_contents, writes_wider}
 use Rattle.bd_model.specs.Extents.{owner_bytes}
 use Rattle.bd_model.specs.Marks.{Near}
-use Rattle.bd_model.specs.Sizes.{Sizes}
+use Rattle.bd_model.specs.Sizes.{Sizes, extent_place}
 use Rattle.bd_model.specs.State.{VersionState, history}
 use Rattle.bd_model.specs.declared.damage.Damage.{Damage}
 use Rattle.bd_model.specs.declared.layout.Phase.{Phase}
@@ -26,7 +26,7 @@ use Rattle.bd_catalog.specs.Opening.{Found}
 use Rattle.bd_roll.specs.Rules.{ascends, obeys}
 use Rattle.bd_roll.specs.Splitting.{FitsArrange, KeptEntry, MaySplits, SplitEntry, after_arrange, after_splits, kept_of, last_extents, last_rows}
 use Rattle.bd_catalog.specs.Standing.{BeginWith, StandsFor, Stands}
-use Rattle.bd_catalog.specs.Steps.{HasCommitted, IsMade, LeavesEither, committed}
+use Rattle.bd_catalog.specs.Steps.{HasCommitted, InOtherHalf, IsMade, LeavesEither, committed}
 use Rattle.bd_catalog.proofs.Agreeing.{begin_with_agrees}
 use Rattle.bd_catalog.proofs.Committing.{number-small}
 use Rattle.bd_roll.proofs.Obeying.{IsBounded}
@@ -38,9 +38,9 @@ use Rattle.bd_recipe.specs.Reading.{IfDamaged, recipe_found}
 use Rattle.bd_recipe.specs.declared.fault.ReadFault.{ReadFault}
 use Rattle.bd_recipe.specs.declared.fault.ReadFault.TheVariants.{DiskFault, Damaged, OutOfMemory}
 use Rattle.bd_volume.specs.Named.{InNamed, IsUnnamed}
-use Rattle.bd_volume.proofs.Beside.{half_beside}
+use Rattle.bd_volume.proofs.Beside.{half_beside, half_front, unnamed_beside}
 use Rattle.bd_volume.proofs.Unnamed.{named_bytes_decide}
-use Rattle.bd_arrange.specs.Arranged.{AnArrangedStoreStands, AnswersDue, Arranges, ButDiskFault, IsAllotted, IsArrangedFrom, IsDamageOfDue, KeepsStates}
+use Rattle.bd_arrange.specs.Arranged.{AnArrangedStoreStands, AnswersDue, Arranges, ButDiskFault, IsAllotted, IsArrangedFrom, IsDamageOfDue, IsSpared, KeepsStates}
 use Rattle.bd_arrange.specs.Desks.{OnDesk}
 use Rattle.bd_arrange.specs.Opens.{HasVersionsOf, IsSafeOpening, OpensAlike}
 use Rattle.bd_arrange.specs.Turns.{AreArranged, Ground, due, ground, grown_bytes}
@@ -79,6 +79,17 @@ take_again : (n : ℕ) (xs : List ℕ) → take (length (take n xs)) xs ≡ take
 take_again zero xs = refl
 take_again (suc n) [] = refl
 take_again (suc n) (x ∷ xs) = ap (λ l. x ∷ l) (take_again n xs)
+
+-- ---- places that may be written
+
+module _ (found : Found) (small : found.half.number ≤ 1) where
+  pub staged_spared : (place : ℕ) → IsStaged found place → IsSpared found place
+  staged_spared place staged = record { beside = unnamed_beside found small place staged.ends staged.unnamed; whose = staged.whose }
+
+  pub half_spared : (place : ℕ) → InOtherHalf found place → IsSpared found place
+  half_spared place inside =
+      let front : place < extent_place found.sizes 0 = half_front found.sizes (1 - found.half.number) place (omega (arith, small)) inside in
+      record { beside = half_beside found small place inside; whose = λ extent within owned. absurd (omega (arith, within.0, front)) }
 
 module _ (found : Found) (h0 h1 : History) (agrees : Agrees found h0) (writes : WritesOnly (IsStaged found) h0 h1) where
   abbrev s : Sizes

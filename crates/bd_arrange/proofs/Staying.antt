@@ -175,6 +175,7 @@ module _ (found : Found) (some : 1 ≤ found.sizes.extent) (rules : IsTrue (obey
       (λ free. record {
         unnamed = named_bytes_decide.unowned s c free.extent place some rules (λ owned. free_or_taken space free.extent free.free (taken free.extent owned)) free.within;
         ends = ends_within s free.extent place (omega (arith, slice_get_within space.uses free.extent Free free.free, work.count)) free.within.1;
+        whose = λ extent inside owned. absurd (free_or_taken space free.extent free.free (taken free.extent (subst (Contains (all_extents c)) (one_extent s extent free.extent place inside free.within) owned)));
       })
       (λ rest.
       let o : Named = record { extents = last_extents c.volumes; bytes = bytes_of_rows (last_rows c.volumes) } in
@@ -189,7 +190,14 @@ module _ (found : Found) (some : 1 ≤ found.sizes.extent) (rules : IsTrue (obey
       (λ e added owned. new_apart e owned (Contains-append_left f.added (kept_extents desk.splits) e added)) work.bytes within
       (subst (λ ns. InOwner s ns (bytes_of_rows f.rows) n place) work.numbers rest) in
       let there = rest_inside place rest in
-      record { unnamed = unnamed; ends = ends_within s there.extent place (All-contains (λ e. e < s.extents) f.numbers there.extent work.grows.extents.extents.below there.among) there.within.1 })
+      record {
+        unnamed = unnamed;
+        ends = ends_within s there.extent place (All-contains (λ e. e < s.extents) f.numbers there.extent work.grows.extents.extents.below there.among) there.within.1;
+        whose = λ extent inside owned.
+            ⊎_elim (λ last. last) (λ added. absurd (new_apart extent owned (Contains-append_left f.added (kept_extents desk.splits) extent added)))
+            (Contains-append_cases (last_extents c.volumes) f.added extent
+            (subst (λ ns. Contains ns extent) work.numbers (subst (Contains f.numbers) (one_extent s there.extent extent place there.within inside) there.among)));
+      })
       inside
 
   -- ---- what stays

@@ -1,9 +1,10 @@
 -- What arranging makes of a store.
 use Rattle.std.specs.Prelude.{◌≡◌, ◌≢◌, ℕ, ◌-◌, List, length, map, flat_map, Contains, Result, Ok, Err}
 use Rattle.bd_disk.specs.History.{History, contents}
-use Rattle.bd_disk.specs.Images.{Agree}
+use Rattle.bd_disk.specs.Images.{Agree, InRange}
 use Rattle.bd_disk.specs.Made.{LeavesNow, LeavesSince}
 use Rattle.bd_model.specs.Marks.{Near}
+use Rattle.bd_model.specs.Sizes.{extent_place}
 use Rattle.bd_model.specs.State.{VersionState, history}
 use Rattle.bd_model.specs.declared.damage.Damage.{Damage}
 use Rattle.bd_model.specs.declared.layout.Phase.{Phase}
@@ -14,12 +15,12 @@ use Rattle.bd_space.specs.Allotment.{Allotment, extent_count, TakenExactly}
 use Rattle.bd_roll.specs.Catalogue.{Catalogue, OpenEntry, all_extents}
 use Rattle.bd_catalog.specs.Opening.{Found, opened}
 use Rattle.bd_catalog.specs.Rows.{open_row}
-use Rattle.bd_roll.specs.Splitting.{SplitEntry, after_arrange, after_splits, kept_of, last_rows}
+use Rattle.bd_roll.specs.Splitting.{SplitEntry, after_arrange, after_splits, kept_of, last_extents, last_rows}
 use Rattle.bd_catalog.specs.Standing.{Stands, StandsFor}
 use Rattle.bd_recipe.specs.Reading.{recipe_found}
 use Rattle.bd_recipe.specs.declared.fault.ReadFault.{ReadFault}
 use Rattle.bd_recipe.specs.declared.fault.ReadFault.TheVariants.{DiskFault, Damaged, OutOfMemory}
-use Rattle.bd_volume.specs.Named.{InNamed}
+use Rattle.bd_volume.specs.Named.{InNamed, IsBeside}
 use Rattle.bd_arrange.specs.Cuts.{InCategory, IsDamageIn}
 use Rattle.bd_arrange.specs.Opens.{IsSafeOpening}
 use Rattle.bd_arrange.specs.Turns.{AreArranged, due, ground}
@@ -56,6 +57,17 @@ pub record InDue (found : Found) (place : ℕ) : Type 0 where
   pub category : OpenEntry
   pub waits : Contains (due found.catalogue) category
   pub within : InCategory found.sizes category place
+
+-- the extent of the place has no owner, or the newest closed volume
+abbrev pub IsFreeOrLasts : Found → ℕ → Type 0
+IsFreeOrLasts found place =
+    (extent : ℕ) → InRange (extent_place found.sizes extent) found.sizes.extent place → Contains (all_extents found.catalogue) extent → Contains (last_extents found.catalogue.volumes) extent
+
+-- A place beside all that an opening finds and names, in the other half, in extents without an owner, or in those of the newest
+-- closed volume.
+pub record IsSpared (found : Found) (place : ℕ) : Type 0 where
+  pub beside : IsBeside found place
+  pub whose : IsFreeOrLasts found place
 
 -- a damage of a header in a category that is due, or of such a category
 abbrev pub IsDamageOfDue : Found → Damage → History → History → Type 0

@@ -15,6 +15,7 @@ use Rattle.bd_recipe.specs.declared.fault.ReadFault.{ReadFault}
 use Rattle.bd_recipe.specs.declared.fault.ReadFault.TheVariants.{DiskFault}
 use Rattle.bd_volume.specs.Filled.{Filled}
 use Rattle.bd_volume.specs.Named.{IsUnnamed}
+use Rattle.bd_arrange.specs.Arranged.{IsFreeOrLasts}
 use Rattle.bd_arrange.specs.Desks.{OnDesk, new_extents}
 use Rattle.bd_arrange.specs.Turns.{Ground, Turns, ground, grown_bytes}
 
@@ -64,7 +65,8 @@ pub record Names {D : Type 0} (d : Ghosts D) (found : Found) (c : Catalogue) (sp
   pub extents : extent_count space_now ≡ extent_count space
   pub held : KeepsHeld space space_now
 
--- a place in the store at which the catalogue names no byte
+-- a place in the store at which the catalogue names no byte, in extents without an owner or in those of the newest closed volume
 pub record IsStaged (found : Found) (place : ℕ) : Type 0 where
   pub unnamed : IsUnnamed found.sizes found.catalogue place
   pub ends : place < disk_bytes found.sizes
+  pub whose : IsFreeOrLasts found place

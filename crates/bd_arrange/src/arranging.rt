@@ -13,8 +13,7 @@ ghost use Rattle.bd_roll.specs.Shown.{open_entry};
 ghost use Rattle.bd_roll.specs.Splitting.{FitsArrange};
 ghost use Rattle.bd_catalog.specs.Steps.{InOtherHalf};
 ghost use Rattle.bd_recipe.specs.Reading.{IfDamaged, is_disk_fault, recipe_found};
-ghost use Rattle.bd_volume.specs.Named.{IsBeside};
-ghost use Rattle.bd_arrange.specs.Arranged.{AnswersDue, ButDiskFault, InDue, IsAllotted, IsDamageOfDue, KeepsStates, LeavesFound};
+ghost use Rattle.bd_arrange.specs.Arranged.{AnswersDue, ButDiskFault, InDue, IsAllotted, IsDamageOfDue, IsSpared, KeepsStates, LeavesFound};
 ghost use Rattle.bd_arrange.specs.Desks.{new_extents};
 ghost use Rattle.bd_arrange.specs.Turns.{due, is_due};
 ghost use Rattle.bd_arrange.specs.Underway.{HasSplits, IsStaged, IsTakenFor, IsUnderway, Names, arranged_at};
@@ -45,7 +44,7 @@ pub fn arrange<D: Disk>(
     requires allotted { IsAllotted catalog.old.found space.old }
     requires newest { D.tells → catalog.old.found.catalogue.phase ≢ Settled →
         recipe_found catalog.old.found.sizes catalog.old.found.catalogue (contents (D.history disk.old)) catalog.old.found.catalogue.newest ≡ Ok neighbour.now.entries }
-    ensures disk { Works D.Disk (InDue catalog.old.found) (IsBeside catalog.old.found) disk.old disk.new }
+    ensures disk { Works D.Disk (InDue catalog.old.found) (IsSpared catalog.old.found) disk.old disk.new }
     ensures cause { FailsByCount is_disk_fault (D.faults disk.old) (D.faults disk.new) result }
     ensures settled { catalog.old.found.catalogue.phase ≡ Settled → IsOk result × (disk.new ≡ disk.old) × (catalog.new ≡ catalog.old) × (space.new ≡ space.old) }
     ensures found { LeavesFound catalog.old.found catalog.new.found result }

@@ -37,7 +37,7 @@ use Rattle.bd_recipe.specs.declared.fault.ReadFault.TheVariants.{DiskFault, Dama
 use Rattle.bd_restore.proofs.Standing.{recipe_stands}
 use Rattle.bd_volume.specs.Named.{IsBeside}
 use Rattle.bd_volume.proofs.Copying.{wider_work}
-use Rattle.bd_arrange.specs.Arranged.{AnswersDue, Arranges, ButDiskFault, InDue, IsArrangedFrom, IsDamageOfDue, IsSettledFrom, KeepsStates}
+use Rattle.bd_arrange.specs.Arranged.{AnswersDue, Arranges, ButDiskFault, InDue, IsArrangedFrom, IsDamageOfDue, IsSettledFrom, IsSpared, KeepsStates}
 use Rattle.bd_arrange.specs.Turns.{due}
 use Rattle.bd_store.specs.Newest.{newest_places, AnswersNewest, IsNewestRecipe}
 use Rattle.bd_store.specs.Readying.{AnswersReady, IsThatDamage, ReadiesOn}
@@ -49,8 +49,8 @@ use Rattle.bd_store.proofs.Staying.{newest_stays}
 pub reads_ready : {D : Type 0} {d : DiskGhosts D} (found : Found) {a b : D} → Reads d (InRecipe found.sizes found.catalogue found.catalogue.newest) a b → Works d (InArranging found) (IsBeside found) a b
 reads_ready found read = reads_work (IsBeside found) (wider_reads (InArranging found) (λ place inside. record { so = inl (record { so = inside }) }) read)
 
-pub due_ready : {D : Type 0} {d : DiskGhosts D} (found : Found) {a b : D} → Works d (InDue found) (IsBeside found) a b → Works d (InArranging found) (IsBeside found) a b
-due_ready found works = wider_work (InArranging found) (IsBeside found) (λ place inside. record { so = inr inside }) (λ place inside. inside) works
+pub due_ready : {D : Type 0} {d : DiskGhosts D} (found : Found) {a b : D} → Works d (InDue found) (IsSpared found) a b → Works d (InArranging found) (IsBeside found) a b
+due_ready found works = wider_work (InArranging found) (IsBeside found) (λ place inside. record { so = inr inside }) (λ place inside. inside.beside) works
 
 module _ {D : Type 0} (d : DiskGhosts D) (found : Found) (held : ℕ) (disk0 disk1 : D) (agrees : d.tells → Agrees found (d.history disk0)) (read : Reads d (InRecipe found.sizes found.catalogue found.catalogue.newest) disk0 disk1) where
   abbrev h0 : History
@@ -129,7 +129,7 @@ module _ {D : Type 0} (d : DiskGhosts D) (found : Found) (held : ℕ) (disk0 dis
     was_good told damage some broken = let no : Err damage ≡ Ok neighbour.entries = sym broken ∙ (is told).some some in absurd (cc)
 
     -- the store was arranged
-    module _ (works : Works d (InDue found) (IsBeside found) disk1 disk2) where
+    module _ (works : Works d (InDue found) (IsSpared found) disk1 disk2) where
       pub arranged_told : 1 ≤ found.sizes.extent → (d.tells → ReadsOnly (newest_places found) h0 h1) → (found.catalogue.phase ≡ Settled → disk2 ≡ disk1) → IsSettledFrom found mid → (d.tells → Agrees mid h2) →
           (d.tells → AnswersDue held found mid h1 h2 (Ok tt)) → (d.tells → KeepsStates {T = Unit {0}} held h1 h2 (Ok tt)) → d.tells → ReadiesOn held found mid h0 h2 (Ok neighbour)
       arranged_told some places still same agree answers states told = record {

@@ -25,9 +25,9 @@ use Rattle.bd_extio.proofs.Places.{length-owner_bytes}
 use Rattle.bd_recipe.specs.Entries.{first_bad}
 use Rattle.bd_recipe.specs.Reading.{chunks_in, length_in, recipe_found, with_sum}
 use Rattle.bd_recipe.proofs.Entries.{entries_in-take}
-use Rattle.bd_volume.specs.Named.{InNamed, IsBeside, named_by, open_named, recipe_named, volume_named}
+use Rattle.bd_volume.specs.Named.{InNamed, named_by, open_named, recipe_named, volume_named}
 use Rattle.bd_volume.proofs.NamedPlaces.{FitsNamed, all_fit, begin_named}
-use Rattle.bd_arrange.specs.Arranged.{IsSettledFrom}
+use Rattle.bd_arrange.specs.Arranged.{IsSettledFrom, IsSpared}
 use Rattle.bd_store.specs.Newest.{IsNewestRecipe}
 
 -- a catalogue of the same versions finds the same recipe in an image
@@ -100,7 +100,7 @@ module _ (found : Found) (old new : List ℕ) (some : 1 ≤ found.sizes.extent) 
   recipe_stays : recipe_found s c new c.newest ≡ recipe_found s c old c.newest
   recipe_stays = ap (λ es. with_sum c.newest (length_in c c.newest) es (first_bad (entry_holds s c c.newest) c.newest 0 es)) same_recipe
 
-pub newest_stays : (found mid : Found) {h1 h2 : History} (entries : List RecipeEntry) → 1 ≤ found.sizes.extent → Agrees found h1 → WritesOnly (IsBeside found) h1 h2 → IsSettledFrom found mid → IsNewestRecipe found (contents h1) entries →
+pub newest_stays : (found mid : Found) {h1 h2 : History} (entries : List RecipeEntry) → 1 ≤ found.sizes.extent → Agrees found h1 → WritesOnly (IsSpared found) h1 h2 → IsSettledFrom found mid → IsNewestRecipe found (contents h1) entries →
     IsNewestRecipe mid (contents h2) entries
 newest_stays found mid {h1} {h2} entries some agrees writes same is = record {
   none = λ none. is.none (ap length (sym same.versions) ∙ none);
@@ -108,6 +108,6 @@ newest_stays found mid {h1} {h2} entries some agrees writes same is = record {
       let there : 1 ≤ retained_in found.catalogue = subst (λ vs. 1 ≤ length vs) same.versions any in
       same_found found mid (contents h2) same
       ∙ recipe_stays found (contents h1) (contents h2) some (opened-found (contents h1) found agrees.opens)
-      (agree_fewer (λ place. IsBeside found place → ⊥) (InNamed found.sizes found.catalogue) (contents h1) (contents h2) (λ place named beside. beside.named named) (same_contents writes)) there
+      (agree_fewer (λ place. IsSpared found place → ⊥) (InNamed found.sizes found.catalogue) (contents h1) (contents h2) (λ place named spared. spared.beside.named named) (same_contents writes)) there
       ∙ is.some there;
 }

@@ -14,12 +14,10 @@ use Rattle.bd_roll.proofs.Obeying.{IsBounded, bounded_of}
 use Rattle.bd_recipe.specs.Reading.{recipe_found}
 use Rattle.bd_recipe.specs.declared.fault.ReadFault.{ReadFault}
 use Rattle.bd_recipe.specs.declared.fault.ReadFault.TheVariants.{OutOfMemory}
-use Rattle.bd_volume.specs.Named.{IsBeside}
-use Rattle.bd_volume.proofs.Beside.{half_beside, unnamed_beside}
 use Rattle.bd_volume.proofs.Copying.{no_work, work_told}
-use Rattle.bd_arrange.specs.Arranged.{AnswersDue, InDue, IsAllotted, IsDamageOfDue, KeepsStates}
+use Rattle.bd_arrange.specs.Arranged.{AnswersDue, InDue, IsAllotted, IsDamageOfDue, IsSpared, KeepsStates}
 use Rattle.bd_arrange.proofs.StandsArranged.{arranged_store_stands}
-use Rattle.bd_arrange.proofs.Committing.{agrees_now, answers_named, answers_refused, but_refused, fits_desk, if_told, keeps_all, keeps_either, keeps_refused, keeps_settled}
+use Rattle.bd_arrange.proofs.Committing.{agrees_now, answers_named, answers_refused, but_refused, fits_desk, half_spared, if_told, keeps_all, keeps_either, keeps_refused, keeps_settled, staged_spared}
 use Rattle.bd_arrange.proofs.arranging.arrange.Goals as goal
 
 pub returns-in-Settled-clause-disk : goal.returns-in-Settled-clause-disk
@@ -76,11 +74,11 @@ returns-in-Ok-clause-disk g c =
     let found : Found = c.reserve.new.self.found in
     let same : found ≡ c.args.catalog.now.found = c.reserve.ensures.found in
     let agrees : d.tells → Agrees found (d.history c.args.disk.now) = λ told. subst (λ (f : Found). Agrees f (d.history c.args.disk.now)) (sym same) (c.requires.agrees told) in
-    let staged : Works d (InDue found) (IsBeside found) c.args.disk.now c.arrange_all.new.disk =
-    work_told (InDue found) (IsBeside found) (λ place inside. inside) (λ told place inside. unnamed_beside found (number-small found (d.history c.args.disk.now) (agrees told)) place inside.ends inside.unnamed) c.arrange_all.ensures.disk in
-    let named : Works d (InDue found) (IsBeside found) c.arrange_all.new.disk c.name_all.new.disk =
-    work_told (InDue found) (IsBeside found) (λ place inside. inside) (λ told place inside. half_beside found (number-small found (d.history c.args.disk.now) (agrees told)) place inside) (writes_work (InDue found) c.name_all.ensures.disk) in
-    subst (λ (f : Found). Works d (InDue f) (IsBeside f) c.args.disk.now c.name_all.new.disk) same (both_work staged named)
+    let staged : Works d (InDue found) (IsSpared found) c.args.disk.now c.arrange_all.new.disk =
+    work_told (InDue found) (IsSpared found) (λ place inside. inside) (λ told. staged_spared found (number-small found (d.history c.args.disk.now) (agrees told))) c.arrange_all.ensures.disk in
+    let named : Works d (InDue found) (IsSpared found) c.arrange_all.new.disk c.name_all.new.disk =
+    work_told (InDue found) (IsSpared found) (λ place inside. inside) (λ told. half_spared found (number-small found (d.history c.args.disk.now) (agrees told))) (writes_work (InDue found) c.name_all.ensures.disk) in
+    subst (λ (f : Found). Works d (InDue f) (IsSpared f) c.args.disk.now c.name_all.new.disk) same (both_work staged named)
 
 pub returns-in-Ok-clause-answer : goal.returns-in-Ok-clause-answer
 returns-in-Ok-clause-answer g c = λ told.
@@ -121,9 +119,9 @@ returns-in-Err-clause-disk g c =
     let found : Found = c.reserve.new.self.found in
     let same : found ≡ c.args.catalog.now.found = c.reserve.ensures.found in
     let agrees : d.tells → Agrees found (d.history c.args.disk.now) = λ told. subst (λ (f : Found). Agrees f (d.history c.args.disk.now)) (sym same) (c.requires.agrees told) in
-    let staged : Works d (InDue found) (IsBeside found) c.args.disk.now c.arrange_all.new.disk =
-    work_told (InDue found) (IsBeside found) (λ place inside. inside) (λ told place inside. unnamed_beside found (number-small found (d.history c.args.disk.now) (agrees told)) place inside.ends inside.unnamed) c.arrange_all.ensures.disk in
-    subst (λ (f : Found). Works d (InDue f) (IsBeside f) c.args.disk.now c.arrange_all.new.disk) same staged
+    let staged : Works d (InDue found) (IsSpared found) c.args.disk.now c.arrange_all.new.disk =
+    work_told (InDue found) (IsSpared found) (λ place inside. inside) (λ told. staged_spared found (number-small found (d.history c.args.disk.now) (agrees told))) c.arrange_all.ensures.disk in
+    subst (λ (f : Found). Works d (InDue f) (IsSpared f) c.args.disk.now c.arrange_all.new.disk) same staged
 
 pub returns-in-Err-clause-agrees : goal.returns-in-Err-clause-agrees
 returns-in-Err-clause-agrees g c = λ told.
