@@ -9,16 +9,19 @@ use Rattle.bd_model.specs.declared.shape.Shape.{Shape}
 use Rattle.mfdedup.specs.Built.{is_built}
 use Rattle.mfdedup.specs.Commands.{EndsUnopened, OpensNone, RunsCommands}
 use Rattle.mfdedup.specs.Counts.{EndsByCount, EndsOnlyByCount, NoneFailed}
+use Rattle.mfdedup.specs.Failing.{end_of_words}
 use Rattle.mfdedup.specs.Headline.{Asks}
 use Rattle.mfdedup.specs.Noted.{NothingNoted}
 use Rattle.mfdedup.specs.Outside.{Outside}
 use Rattle.mfdedup.specs.Requests.{EndsAtOnce}
-use Rattle.mfdedup.specs.Words.{AsksFor, IsOfWords, Reading, ToFormat, ToRun, ToScript, ToSoak, Refused}
+use Rattle.bd_words.specs.declared.fault.WordsFault.{WordsFault}
+use Rattle.bd_words.specs.declared.fault.WordsFault.TheVariants.{BadWords, BadNumber, BadName, BadShape, OutOfMemory as WordsMemory}
+use Rattle.bd_words.specs.Words.{AsksFor, Reading, ToFormat, ToRun, ToScript, ToSoak, Refused}
 use Rattle.mfdedup.specs.Works.{Works, WorksByWords}
 use Rattle.mfdedup.specs.declared.progress.Progress.{Progress}
 use Rattle.mfdedup.specs.declared.report.End.{End}
-use Rattle.mfdedup.specs.declared.report.End.TheVariants.{BadWords, BadNumber, BadName, BadShape, OutOfMemory, Unbuilt}
-use Rattle.mfdedup.specs.declared.report.Request.TheVariants.{Format, Run, Script, Soak}
+use Rattle.mfdedup.specs.declared.report.End.TheVariants.{OutOfMemory, Unbuilt}
+use Rattle.bd_words.specs.declared.request.Request.TheVariants.{Format, Run, Script, Soak}
 use Rattle.mfdedup.proofs.Causes.{untouched_cause}
 use Rattle.mfdedup.proofs.Noting.{no_clocks, no_texts}
 
@@ -80,18 +83,15 @@ soak_asks _ seed count p o asks none e = absurd asks
 
 -- ---- refused
 
-of_words : (e : End) (before now : Outside) → IsOfWords e → NoneFailed before now → EndsByCount e before now
-of_words BadWords before now kind none = none
-of_words (BadNumber position) before now kind none = none
-of_words BadName before now kind none = none
-of_words (BadShape field) before now kind none = none
-of_words OutOfMemory before now kind none = none
-of_words _ before now kind none = absurd kind
+of_words : (fault : WordsFault) (before now : Outside) → NoneFailed before now → EndsByCount (end_of_words fault) before now
+of_words BadWords before now none = none
+of_words (BadNumber position) before now none = none
+of_words BadName before now none = none
+of_words (BadShape field) before now none = none
+of_words WordsMemory before now none = none
 
-pub refused_works : {disk files sink : Type 0} (reading : Reading) (p : Progress) (o : Outside) → reading ≡ Refused p.end → IsOfWords p.end → NothingNoted p → Works disk files sink reading p o o
-refused_works {disk} {files} {sink} reading p o is kind none =
-    subst (λ r. Works disk files sink r p o o) (sym is) (at_once (Refused p.end) p o none (of_words p.end o o kind) (record { ends = refl; nothing = none; untouched = refl }) (λ commands asks. asks))
-
-pub ends_early : {disk files sink : Type 0} (reading : Reading) (e : End) (p : Progress) (o : Outside) → p.end ≡ e → NothingNoted p → IsOfWords e → (reading ≡ Refused e) ⊎ (e ≡ OutOfMemory) → Works disk files sink reading p o o ⊎ EndsAtOnce OutOfMemory p o o
-ends_early reading e p o ends none kind (inl is) = inl (refused_works reading p o (is ∙ ap Refused (sym ends)) (subst IsOfWords (sym ends) kind) none)
-ends_early reading e p o ends none kind (inr memory) = inr (record { ends = ends ∙ memory; nothing = none; untouched = refl })
+pub ends_early : {disk files sink : Type 0} (reading : Reading) (fault : WordsFault) (p : Progress) (o : Outside) → p.end ≡ end_of_words fault → NothingNoted p → (reading ≡ Refused fault) ⊎ (fault ≡ WordsMemory) → Works disk files sink reading p o o ⊎ EndsAtOnce OutOfMemory p o o
+ends_early {disk} {files} {sink} reading fault p o ends none (inl is) =
+    inl (subst (λ r. Works disk files sink r p o o) (sym is)
+    (at_once (Refused fault) p o none (subst (λ e. NoneFailed o o → EndsByCount e o o) (sym ends) (of_words fault o o)) (record { ends = ends; nothing = none; untouched = refl }) (λ commands asks. asks)))
+ends_early reading fault p o ends none (inr memory) = inr (record { ends = ends ∙ ap end_of_words memory; nothing = none; untouched = refl })

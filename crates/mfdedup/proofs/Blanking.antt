@@ -9,7 +9,7 @@ use Rattle.mfdedup.specs.Counts.{EndsOnlyByCount}
 use Rattle.mfdedup.specs.Noted.{AnswersAlone, HandsAnswers, NotesAlone, NothingNoted}
 use Rattle.mfdedup.specs.Outside.{Outside}
 use Rattle.mfdedup.specs.Requests.{EndsBlank, IsCarriedOut}
-use Rattle.mfdedup.specs.Words.{ToBlank}
+use Rattle.bd_words.specs.Words.{ToBlank}
 use Rattle.mfdedup.specs.Works.{Works}
 use Rattle.mfdedup.specs.declared.progress.Progress.{Progress}
 use Rattle.mfdedup.specs.declared.report.End.{End}

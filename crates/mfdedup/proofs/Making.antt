@@ -21,7 +21,7 @@ use Rattle.mfdedup.specs.Failing.{end_of_format}
 use Rattle.mfdedup.specs.Noted.{AnswersAlone, HandsAnswers, NotesAlone, NothingNoted}
 use Rattle.mfdedup.specs.Outside.{Outside}
 use Rattle.mfdedup.specs.Requests.{EndsFormat, EndsMaking, Formats, IsCarriedOut}
-use Rattle.mfdedup.specs.Words.{ToFormat}
+use Rattle.bd_words.specs.Words.{ToFormat}
 use Rattle.mfdedup.specs.Works.{Works}
 use Rattle.mfdedup.specs.declared.progress.Progress.{Progress}
 use Rattle.mfdedup.specs.declared.report.End.{End}

@@ -26,7 +26,7 @@ use Rattle.mfdedup.specs.Headline.{Asks, DidNotRun, IsEarlyFault, IsOpeningFault
 use Rattle.mfdedup.specs.Noted.{ClocksRise, HandsAnswers}
 use Rattle.mfdedup.specs.Outside.{Outside, with_store}
 use Rattle.mfdedup.specs.Requests.{EndsAtOnce}
-use Rattle.mfdedup.specs.Words.{Reading, ToRun, ToScript}
+use Rattle.bd_words.specs.Words.{Reading, ToRun, ToScript}
 use Rattle.mfdedup.specs.Works.{Works, WorksByWords}
 use Rattle.mfdedup.specs.declared.progress.Progress.{Progress}
 use Rattle.mfdedup.specs.declared.report.End.{End}

@@ -19,7 +19,7 @@ use Rattle.mfdedup.specs.Noted.{ClocksRise, HandsAnswers}
 use Rattle.mfdedup.specs.Outside.{Outside, with_store}
 use Rattle.mfdedup.specs.Script.{EndsUnread, HasScript}
 use Rattle.mfdedup.specs.ScriptRuns.{ReadsNoScript, RunsAsRead, RunsScript}
-use Rattle.mfdedup.specs.Words.{ToScript}
+use Rattle.bd_words.specs.Words.{ToScript}
 use Rattle.mfdedup.specs.Works.{Works}
 use Rattle.mfdedup.specs.declared.progress.Progress.{Progress}
 use Rattle.mfdedup.specs.declared.report.End.{End}

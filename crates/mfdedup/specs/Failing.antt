@@ -1,12 +1,21 @@
 -- The end that a fault of the crates below brings.
 use Rattle.mfdedup.specs.declared.report.End.{End}
-use Rattle.mfdedup.specs.declared.report.End.TheVariants.{Done, DiskFault, Damaged, SourceFault, TargetFault, OutputFault, OutOfMemory, Unbuilt, NotAStore, AlreadyAStore, TooSmall}
+use Rattle.mfdedup.specs.declared.report.End.TheVariants.{Done, DiskFault, Damaged, SourceFault, TargetFault, OutputFault, OutOfMemory, Unbuilt, NotAStore, AlreadyAStore, TooSmall, BadWords, BadNumber, BadName, BadShape}
 use Rattle.bd_recover.specs.declared.fault.OpenFault.{OpenFault}
 use Rattle.bd_recover.specs.declared.fault.OpenFault.TheVariants.{NotAStore as OpenNotAStore, DiskFault as OpenDisk, OutOfMemory as OpenMemory}
 use Rattle.bd_recover.specs.declared.fault.FormatFault.{FormatFault}
 use Rattle.bd_recover.specs.declared.fault.FormatFault.TheVariants.{AlreadyAStore as FormatMarked, TooSmall as FormatSmall, DiskFault as FormatDisk, OutOfMemory as FormatMemory}
+use Rattle.bd_words.specs.declared.fault.WordsFault.{WordsFault}
+use Rattle.bd_words.specs.declared.fault.WordsFault.TheVariants.{BadWords as NoLine, BadNumber as NoNumber, BadName as NoName, BadShape as NoShape, OutOfMemory as WordsMemory}
 use Rattle.bd_session.specs.declared.report.SessionEnd.{SessionEnd}
 use Rattle.bd_session.specs.declared.report.SessionEnd.TheVariants.{Done as AllDone, SourceFault as SessionSource, TargetFault as SessionTarget, DiskFault as SessionDisk, Damaged as SessionDamaged, OutputFault as SessionOutput, OutOfMemory as SessionMemory, Unbuilt as SessionUnbuilt}
+
+abbrev pub end_of_words : WordsFault → End
+end_of_words NoLine = BadWords
+end_of_words (NoNumber position) = BadNumber position
+end_of_words NoName = BadName
+end_of_words (NoShape field) = BadShape field
+end_of_words WordsMemory = OutOfMemory
 
 abbrev pub end_of_session : SessionEnd → End
 end_of_session AllDone = Done

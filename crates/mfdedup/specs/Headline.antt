@@ -22,7 +22,7 @@ use Rattle.mfdedup.specs.Failing.{end_of_session}
 use Rattle.mfdedup.specs.Noted.{NothingNoted}
 use Rattle.mfdedup.specs.Outside.{Outside, with_store}
 use Rattle.mfdedup.specs.Script.{HasScript}
-use Rattle.mfdedup.specs.Words.{Reading, ToRun, ToScript}
+use Rattle.bd_words.specs.Words.{Reading, ToRun, ToScript}
 use Rattle.mfdedup.specs.declared.progress.Progress.{Progress}
 use Rattle.mfdedup.specs.declared.report.End.{End}
 use Rattle.mfdedup.specs.declared.report.End.TheVariants.{DiskFault, OutOfMemory, SourceFault}

@@ -3,12 +3,10 @@ pub mod Commands
 pub mod Counts
 pub mod Failing
 pub mod Headline
-pub mod Lines
 pub mod Noted
 pub mod Outside
 pub mod Requests
 pub mod Script
 pub mod ScriptRuns
 pub mod Statuses
-pub mod Words
 pub mod Works

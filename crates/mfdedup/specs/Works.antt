@@ -3,13 +3,14 @@ use Rattle.std.specs.Prelude.{◌≡◌, ◌⊎◌, [], ◌∷◌, MatchBool}
 use Rattle.mfdedup.specs.Built.{is_built}
 use Rattle.mfdedup.specs.Commands.{RunsCommands}
 use Rattle.mfdedup.specs.Counts.{EndsOnlyByCount}
+use Rattle.mfdedup.specs.Failing.{end_of_words}
 use Rattle.mfdedup.specs.Headline.{IsTheHeadline}
 use Rattle.mfdedup.specs.Noted.{ClocksRise, HandsAnswers, TellsEnd}
 use Rattle.mfdedup.specs.Outside.{Outside}
 use Rattle.mfdedup.specs.Requests.{BlanksFile, EndsAtOnce, FormatsStore}
 use Rattle.mfdedup.specs.ScriptRuns.{RunsScript}
 use Rattle.mfdedup.specs.Statuses.{end_text}
-use Rattle.mfdedup.specs.Words.{Reading, ToFormat, ToRun, ToScript, ToBlank, ToSoak, Refused}
+use Rattle.bd_words.specs.Words.{Reading, ToFormat, ToRun, ToScript, ToBlank, ToSoak, Refused}
 use Rattle.mfdedup.specs.declared.progress.Progress.{Progress}
 use Rattle.mfdedup.specs.declared.report.End.TheVariants.{OutOfMemory, Unbuilt}
 use Rattle.mfdedup.specs.declared.report.Report.{Report}
@@ -21,7 +22,7 @@ WorksByWords disk files sink (ToRun command) p before now = MatchBool (is_built 
 WorksByWords disk files sink (ToScript name) p before now = RunsScript disk files sink name p before now
 WorksByWords disk files sink (ToBlank count name) p before now = BlanksFile files count name p before now
 WorksByWords disk files sink (ToSoak seed count) p before now = EndsAtOnce Unbuilt p before now
-WorksByWords disk files sink (Refused ending) p before now = EndsAtOnce ending p before now
+WorksByWords disk files sink (Refused fault) p before now = EndsAtOnce (end_of_words fault) p before now
 
 -- All that comes of the words, but for the text of the end. `disk`, `files` and `sink` are that these tell what they hold.
 pub record Works (disk files sink : Type 0) (reading : Reading) (p : Progress) (before now : Outside) : Type 0 where

@@ -9,8 +9,6 @@ mod run;
 mod script;
 mod status;
 mod telling;
-mod values;
-mod words;
 
 use bd_disk::{Disk, FileDisk, MemDisk};
 use bd_files::{FileIdentity, RealFiles, StdSink};

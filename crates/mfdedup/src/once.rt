@@ -6,7 +6,7 @@ ghost use Rattle.bd_files.specs.Files.{ChangesOnly, IsFinished};
 ghost use Rattle.bd_model.specs.Sizes.{sizes_of};
 ghost use Rattle.mfdedup.specs.Failing.{end_of_format};
 ghost use Rattle.mfdedup.specs.Outside.{Outside, outside, with_disk};
-ghost use Rattle.mfdedup.specs.Words.{ToFormat, ToBlank};
+ghost use Rattle.bd_words.specs.Words.{ToFormat, ToBlank};
 ghost use Rattle.mfdedup.specs.Works.{Works};
 
 use crate::progress::Progress;

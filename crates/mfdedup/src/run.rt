@@ -1,11 +1,12 @@
 //! A run, from its words to its last line.
 ghost use Rattle.std.specs.Prelude.{◌≡◌, ◌⊎◌, [], ◌∷◌, map, string_bytes, Some};
 ghost use Rattle.bd_model.specs.declared.command.Command.{Command as Asked};
+ghost use Rattle.mfdedup.specs.Failing.{end_of_words};
 ghost use Rattle.mfdedup.specs.Noted.{TellsEnd};
 ghost use Rattle.mfdedup.specs.Outside.{Outside, outside, with_disk};
 ghost use Rattle.mfdedup.specs.ScriptRuns.{RunsScript};
 ghost use Rattle.mfdedup.specs.Statuses.{end_text, status_of};
-ghost use Rattle.mfdedup.specs.Words.{AsksFor, Reading, ToRun, reading};
+ghost use Rattle.bd_words.specs.Words.{AsksFor, Reading, ToRun, reading};
 ghost use Rattle.mfdedup.specs.Works.{Did, Works, progress_of};
 ghost use Rattle.mfdedup.specs.declared.report.End.TheVariants.{OutOfMemory};
 
@@ -16,10 +17,10 @@ use crate::report::{End, Report, Request};
 use crate::script::script_under;
 use crate::status::status_of;
 use crate::telling::put_end;
-use crate::words::read;
 use bd_disk::Disk;
 use bd_files::{Files, Sink};
 use bd_model::{Commands, Name};
+use bd_words::{WordsFault, read};
 use std::alloc::Global;
 
 // Carries out the command that is asked for, where it is built.
@@ -128,6 +129,19 @@ pub fn run<D: Disk, F: Files, O: Sink>(
             let progress = act(alloc, &request, disk, files, out);
             report(Some(request), progress, disk, out)
         }
-        Err(end) => report(None, Progress::none(alloc, end), disk, out),
+        Err(fault) => report(None, Progress::none(alloc, end_of_words(fault)), disk, out),
+    }
+}
+
+// The end where the words ask for nothing.
+fn end_of_words(fault: WordsFault) -> End
+    ensures { result ≡ end_of_words fault }
+{
+    match fault {
+        WordsFault::BadWords => End::BadWords,
+        WordsFault::BadNumber { position } => End::BadNumber { position },
+        WordsFault::BadName => End::BadName,
+        WordsFault::BadShape { field } => End::BadShape { field },
+        WordsFault::OutOfMemory => End::OutOfMemory,
     }
 }

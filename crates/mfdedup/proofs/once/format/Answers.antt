@@ -6,7 +6,7 @@ use Rattle.bd_recover.proofs.Found.{unmarked}
 use Rattle.bd_recover.specs.declared.fault.FormatFault.TheVariants.{OutOfMemory}
 use Rattle.bd_model.specs.Sizes.{sizes_of}
 use Rattle.mfdedup.specs.Outside.{with_disk}
-use Rattle.mfdedup.specs.Words.{ToFormat}
+use Rattle.bd_words.specs.Words.{ToFormat}
 use Rattle.mfdedup.specs.Works.{Works}
 use Rattle.mfdedup.specs.declared.progress.Progress.{Progress}
 use Rattle.mfdedup.proofs.Making.{formatted_works, unformatted_works}

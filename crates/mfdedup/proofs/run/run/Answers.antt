@@ -1,6 +1,6 @@
-use Rattle.std.proofs.Common.{inl, map, string_bytes, subst, sym}
+use Rattle.std.proofs.Common.{◌∙◌, inl, map, string_bytes, subst, sym}
 use Rattle.mfdedup.specs.Outside.{outside}
-use Rattle.mfdedup.specs.Words.{reading}
+use Rattle.bd_words.specs.Words.{reading}
 use Rattle.mfdedup.specs.Works.{Did}
 use Rattle.mfdedup.specs.declared.progress.Progress.{Progress}
 use Rattle.mfdedup.proofs.Asking.{ends_early}
@@ -21,6 +21,6 @@ returns-in-Err-clause-did g c =
     subst (λ (p : Progress). Did g.D.Disk.tells g.F.Files.tells g.O.Sink.tells (reading (map string_bytes c.args.words.now)) p before now) (sym c.report-in-Err.ensures.progress)
     (record {
       done = before;
-      works = ends_early (reading (map string_bytes c.args.words.now)) c.in-Err.end c.none.result before c.none.ensures.end (record { commands = c.none.ensures.commands; answers = c.none.ensures.answers; clocks = c.none.ensures.clocks }) c.in-Err.ensures.kind c.in-Err.ensures.refused;
+      works = ends_early (reading (map string_bytes c.args.words.now)) c.in-Err.fault c.none.result before (c.none.ensures.end ∙ c.end_of_words.ensures) (record { commands = c.none.ensures.commands; answers = c.none.ensures.answers; clocks = c.none.ensures.clocks }) c.in-Err.ensures.refused;
       tells = c.report-in-Err.ensures.tells before;
     })

@@ -3,7 +3,7 @@ use Rattle.bd_model.specs.declared.command.Command.{Command}
 use Rattle.bd_session.proofs.Apart.{distinct_marks_tell_apart}
 use Rattle.mfdedup.specs.Commands.{RunsCommands}
 use Rattle.mfdedup.specs.Outside.{outside}
-use Rattle.mfdedup.specs.Words.{ToRun}
+use Rattle.bd_words.specs.Words.{ToRun}
 use Rattle.mfdedup.specs.Works.{Works}
 use Rattle.mfdedup.proofs.Asking.{asked_unbuilt, unopened_memory}
 use Rattle.mfdedup.proofs.Running.{run_works}

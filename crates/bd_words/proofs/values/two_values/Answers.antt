@@ -1,6 +1,6 @@
 use Rattle.std.proofs.Common.{◌∙◌, sym, map, string_bytes}
-use Rattle.mfdedup.proofs.Given.{two_read, two_taken, two_there}
-use Rattle.mfdedup.proofs.values.two_values.Goals as goal
+use Rattle.bd_words.proofs.Given.{two_read, two_taken, two_there}
+use Rattle.bd_words.proofs.values.two_values.Goals as goal
 
 pub parsed-requires : goal.parsed-requires
 parsed-requires c = record { taken = two_taken _ _ c.in_ok-two_values_line.ensures.line c.requires.plain }

@@ -3,10 +3,11 @@ ghost use Rattle.std.specs.Prelude.{◌≡◌, ◌⊎◌, ◌≤◌, ◌<◌, �
 ghost use Rattle.bd_model.specs.Limits.{is_name};
 ghost use Rattle.bd_model.specs.Sizes.{Sizes};
 ghost use Rattle.bd_script.specs.Numbers.{number_of};
-ghost use Rattle.mfdedup.specs.Words.{AsksFor, IsOfWords, ToRun, Refused, are_options, format_request, is_asked_once, is_format, is_option, is_value, reading, reading_alone, reading_one, reading_two, shape_request, size_of, value_of, restore_request, blank_request, soak_request};
-ghost use Rattle.mfdedup.specs.declared.report.End.TheVariants.{BadName, BadNumber, OutOfMemory};
+ghost use Rattle.bd_words.specs.Words.{AsksFor, ToRun, Refused, are_options, format_request, is_asked_once, is_format, is_option, is_value, reading, reading_alone, reading_one, reading_two, shape_request, size_of, value_of, restore_request, blank_request, soak_request};
+ghost use Rattle.bd_words.specs.declared.fault.WordsFault.TheVariants.{BadName, BadNumber, OutOfMemory};
 
-use crate::report::{End, Request};
+use crate::fault::WordsFault;
+use crate::request::Request;
 use crate::values::{one_value, options_of, two_values};
 use bd_model::{Command, Commands, Name, NameFault, Shape};
 use bd_script::number;
@@ -20,22 +21,21 @@ const MOST_TURNS: u64 = 16;
 
 /// Reads the words behind the store's path.
 #[tactic(auto, unfolding(crate::specs::Words::reading))]
-pub fn read(alloc: Global, words: &[String]) -> Result<Request, End>
+pub fn read(alloc: Global, words: &[String]) -> Result<Request, WordsFault>
     ensures asked { IfOk result (λ request. AsksFor (reading (map string_bytes words.now)) (Some request)) }
-    ensures refused { IfErr result (λ ending. (reading (map string_bytes words.now) ≡ Refused ending) ⊎ (ending ≡ OutOfMemory)) }
-    ensures kind { IfErr result IsOfWords }
+    ensures refused { IfErr result (λ fault. (reading (map string_bytes words.now) ≡ Refused fault) ⊎ (fault ≡ OutOfMemory)) }
 {
     if is_format(words) {
         return read_format(alloc, words);
     }
     match words {
-        [] => Err(End::BadWords),
+        [] => Err(WordsFault::BadWords),
         [word] => read_alone(alloc, word.as_str()),
         [word, value] => read_one(alloc, word.as_str(), value.as_str(), words),
         [word, first, second] => {
             read_two(alloc, word.as_str(), first.as_str(), second.as_str(), words)
         }
-        [_, _, _, _, ..] => Err(End::BadWords),
+        [_, _, _, _, ..] => Err(WordsFault::BadWords),
     }
 }
 
@@ -48,10 +48,9 @@ fn is_format(words: &[String]) -> bool
     }
 }
 
-fn read_alone(alloc: Global, word: &str) -> Result<Request, End>
+fn read_alone(alloc: Global, word: &str) -> Result<Request, WordsFault>
     ensures asked { IfOk result (λ request. AsksFor (reading_alone word.now) (Some request)) }
-    ensures refused { IfErr result (λ ending. (reading_alone word.now ≡ Refused ending) ⊎ (ending ≡ OutOfMemory)) }
-    ensures kind { IfErr result IsOfWords }
+    ensures refused { IfErr result (λ fault. (reading_alone word.now ≡ Refused fault) ⊎ (fault ≡ OutOfMemory)) }
 {
     if word == "expire" {
         return run_of(alloc, Command::Expire);
@@ -65,18 +64,17 @@ fn read_alone(alloc: Global, word: &str) -> Result<Request, End>
     if word == "list" {
         return run_of(alloc, Command::List);
     }
-    Err(End::BadWords)
+    Err(WordsFault::BadWords)
 }
 
 // The words are tested by hand, and clap reads their values.
-fn read_one(alloc: Global, word: &str, value: &str, words: &[String]) -> Result<Request, End>
+fn read_one(alloc: Global, word: &str, value: &str, words: &[String]) -> Result<Request, WordsFault>
     requires line { map string_bytes words.now ≡ word.now ∷ value.now ∷ [] }
     ensures asked { IfOk result (λ request. AsksFor (reading_one word.now value.now) (Some request)) }
-    ensures refused { IfErr result (λ ending. (reading_one word.now value.now ≡ Refused ending) ⊎ (ending ≡ OutOfMemory)) }
-    ensures kind { IfErr result IsOfWords }
+    ensures refused { IfErr result (λ fault. (reading_one word.now value.now ≡ Refused fault) ⊎ (fault ≡ OutOfMemory)) }
 {
     if !is_value(value) {
-        return Err(End::BadWords);
+        return Err(WordsFault::BadWords);
     }
     if word == "backup" {
         let name = name_of(alloc, one_value(alloc, words)?)?;
@@ -86,7 +84,7 @@ fn read_one(alloc: Global, word: &str, value: &str, words: &[String]) -> Result<
         let name = name_of(alloc, one_value(alloc, words)?)?;
         return Ok(Request::Script { name });
     }
-    Err(End::BadWords)
+    Err(WordsFault::BadWords)
 }
 
 fn read_two(
@@ -95,14 +93,13 @@ fn read_two(
     first: &str,
     second: &str,
     words: &[String],
-) -> Result<Request, End>
+) -> Result<Request, WordsFault>
     requires line { map string_bytes words.now ≡ word.now ∷ first.now ∷ second.now ∷ [] }
     ensures asked { IfOk result (λ request. AsksFor (reading_two word.now first.now second.now) (Some request)) }
-    ensures refused { IfErr result (λ ending. (reading_two word.now first.now second.now ≡ Refused ending) ⊎ (ending ≡ OutOfMemory)) }
-    ensures kind { IfErr result IsOfWords }
+    ensures refused { IfErr result (λ fault. (reading_two word.now first.now second.now ≡ Refused fault) ⊎ (fault ≡ OutOfMemory)) }
 {
     if !is_value(first) || !is_value(second) {
-        return Err(End::BadWords);
+        return Err(WordsFault::BadWords);
     }
     if word == "restore" {
         let (version, name) = two_values(alloc, words)?;
@@ -116,65 +113,60 @@ fn read_two(
         let (seed, count) = two_values(alloc, words)?;
         return read_soak(seed, count);
     }
-    Err(End::BadWords)
+    Err(WordsFault::BadWords)
 }
 
-fn read_restore(alloc: Global, version: &str, name: &str) -> Result<Request, End>
+fn read_restore(alloc: Global, version: &str, name: &str) -> Result<Request, WordsFault>
     ensures asked { IfOk result (λ request. AsksFor (restore_request version.now name.now) (Some request)) }
-    ensures refused { IfErr result (λ ending. (restore_request version.now name.now ≡ Refused ending) ⊎ (ending ≡ OutOfMemory)) }
-    ensures kind { IfErr result IsOfWords }
+    ensures refused { IfErr result (λ fault. (restore_request version.now name.now ≡ Refused fault) ⊎ (fault ≡ OutOfMemory)) }
 {
     let version = number_at(version, u64::from(u32::MAX), 0)? as u32;
     let name = name_of(alloc, name)?;
     run_of(alloc, Command::Restore { version, name })
 }
 
-fn read_blank(alloc: Global, length: &str, name: &str) -> Result<Request, End>
+fn read_blank(alloc: Global, length: &str, name: &str) -> Result<Request, WordsFault>
     ensures asked { IfOk result (λ request. AsksFor (blank_request length.now name.now) (Some request)) }
-    ensures refused { IfErr result (λ ending. (blank_request length.now name.now ≡ Refused ending) ⊎ (ending ≡ OutOfMemory)) }
-    ensures kind { IfErr result IsOfWords }
+    ensures refused { IfErr result (λ fault. (blank_request length.now name.now ≡ Refused fault) ⊎ (fault ≡ OutOfMemory)) }
 {
     let length = number_at(length, MOST_BLANK, 0)?;
     let name = name_of(alloc, name)?;
     Ok(Request::Blank { length, name })
 }
 
-fn read_soak(seed: &str, count: &str) -> Result<Request, End>
+fn read_soak(seed: &str, count: &str) -> Result<Request, WordsFault>
     ensures asked { IfOk result (λ request. AsksFor (soak_request seed.now count.now) (Some request)) }
-    ensures refused { IfErr result (λ ending. soak_request seed.now count.now ≡ Refused ending) }
-    ensures kind { IfErr result IsOfWords }
+    ensures refused { IfErr result (λ fault. soak_request seed.now count.now ≡ Refused fault) }
 {
     let seed = number_at(seed, u64::MAX, 0)?;
     let count = number_at(count, MOST_TURNS, 1)? as u32;
     if count == 0 {
-        return Err(End::BadNumber { position: 1 });
+        return Err(WordsFault::BadNumber { position: 1 });
     }
     Ok(Request::Soak { seed, count })
 }
 
 // The request for one command.
-fn run_of(alloc: Global, command: Command) -> Result<Request, End>
+fn run_of(alloc: Global, command: Command) -> Result<Request, WordsFault>
     ensures asked { IfOk result (λ request. AsksFor (ToRun command) (Some request)) }
-    ensures refused { IfErr result (λ ending. ending ≡ OutOfMemory) }
-    ensures kind { IfErr result IsOfWords }
+    ensures refused { IfErr result (λ fault. fault ≡ OutOfMemory) }
 {
     let mut commands = Commands::new(alloc);
     if commands.reserve(1).is_err() {
-        return Err(End::OutOfMemory);
+        return Err(WordsFault::OutOfMemory);
     }
     commands.push(command);
     Ok(Request::Run { commands })
 }
 
 // The shape that options ask for.
-fn read_format(alloc: Global, words: &[String]) -> Result<Request, End>
+fn read_format(alloc: Global, words: &[String]) -> Result<Request, WordsFault>
     requires some { 0 < length words.now }
     ensures asked { IfOk result (λ request. AsksFor (format_request (drop 1 (map string_bytes words.now))) (Some request)) }
-    ensures refused { IfErr result (λ ending. (format_request (drop 1 (map string_bytes words.now)) ≡ Refused ending) ⊎ (ending ≡ OutOfMemory)) }
-    ensures kind { IfErr result IsOfWords }
+    ensures refused { IfErr result (λ fault. (format_request (drop 1 (map string_bytes words.now)) ≡ Refused fault) ⊎ (fault ≡ OutOfMemory)) }
 {
     if !has_options(words) {
-        return Err(End::BadWords);
+        return Err(WordsFault::BadWords);
     }
     let options = options_of(alloc, words)?;
     let extent = size_at(options.extent, 1_048_576, 0)?;
@@ -201,22 +193,20 @@ fn shape_request(
     min: u32,
     bits: u32,
     max: u32,
-) -> Result<Request, End>
+) -> Result<Request, WordsFault>
     ensures asked { IfOk result (λ request. AsksFor (shape_request (record { extent = extent; extents = extents; retain = retain; min = min; bits = bits; max = max })) (Some request)) }
-    ensures refused { IfErr result (λ ending. shape_request (record { extent = extent; extents = extents; retain = retain; min = min; bits = bits; max = max }) ≡ Refused ending) }
-    ensures kind { IfErr result IsOfWords }
+    ensures refused { IfErr result (λ fault. shape_request (record { extent = extent; extents = extents; retain = retain; min = min; bits = bits; max = max }) ≡ Refused fault) }
 {
     match Shape::new(extent, extents, retain, min, bits, max) {
         Ok(shape) => Ok(Request::Format { shape }),
-        Err(fault) => Err(End::BadShape { field: fault.field }),
+        Err(fault) => Err(WordsFault::BadShape { field: fault.field }),
     }
 }
 
 // The number of an option, or what stands for it where it is missing.
-fn size_at(value: Option<&str>, missing: u32, position: u32) -> Result<u32, End>
+fn size_at(value: Option<&str>, missing: u32, position: u32) -> Result<u32, WordsFault>
     ensures number { IfOk result (λ n. size_of missing (option_map (λ v. v.now) value.entry) ≡ Some n) }
-    ensures bad { IfErr result (λ ending. (ending ≡ BadNumber position) × (size_of missing (option_map (λ v. v.now) value.entry) ≡ None)) }
-    ensures kind { IfErr result IsOfWords }
+    ensures bad { IfErr result (λ fault. (fault ≡ BadNumber position) × (size_of missing (option_map (λ v. v.now) value.entry) ≡ None)) }
 {
     match value {
         Some(value) => Ok(number_at(value, u64::from(u32::MAX), position)? as u32),
@@ -274,27 +264,25 @@ fn is_value(word: &str) -> bool
     !word.starts_with('-')
 }
 
-fn name_of(alloc: Global, text: &str) -> Result<Name, End>
+fn name_of(alloc: Global, text: &str) -> Result<Name, WordsFault>
     ensures name { IfOk result (λ name. (name ≡ text.now) × (is_name text.now ≡ true)) }
-    ensures bad { IfErr result (λ ending. ((ending ≡ BadName) × (is_name text.now ≡ false)) ⊎ (ending ≡ OutOfMemory)) }
-    ensures kind { IfErr result IsOfWords }
+    ensures bad { IfErr result (λ fault. ((fault ≡ BadName) × (is_name text.now ≡ false)) ⊎ (fault ≡ OutOfMemory)) }
 {
     match Name::new(alloc, text) {
         Ok(name) => Ok(name),
-        Err(NameFault::BadName) => Err(End::BadName),
-        Err(NameFault::OutOfMemory) => Err(End::OutOfMemory),
+        Err(NameFault::BadName) => Err(WordsFault::BadName),
+        Err(NameFault::OutOfMemory) => Err(WordsFault::OutOfMemory),
     }
 }
 
 // The number that the value of this position is, where it is at most `most`.
-fn number_at(text: &str, most: u64, position: u32) -> Result<u64, End>
+fn number_at(text: &str, most: u64, position: u32) -> Result<u64, WordsFault>
     ensures number { IfOk result (λ n. number_of most text.now ≡ Some n) }
     ensures fits { IfOk result (λ n. n ≤ most) }
-    ensures bad { IfErr result (λ ending. (ending ≡ BadNumber position) × (number_of most text.now ≡ None)) }
-    ensures kind { IfErr result IsOfWords }
+    ensures bad { IfErr result (λ fault. (fault ≡ BadNumber position) × (number_of most text.now ≡ None)) }
 {
     match number(text, most) {
         Some(number) => Ok(number),
-        None => Err(End::BadNumber { position }),
+        None => Err(WordsFault::BadNumber { position }),
     }
 }

@@ -3,7 +3,7 @@ use Rattle.std.specs.Prelude.{Bool, ◌&&◌, List, [], ◌∷◌, true, false, 
 use Rattle.clap.specs.Simple.{App, new_app, new_rule, on_top, with_rule}
 use Rattle.clap.specs.Walk.{Rule, Text}
 use Rattle.clap.specs.declared.builder.action.ArgAction.TheVariants.{Set}
-use Rattle.mfdedup.specs.Words.{is_value}
+use Rattle.bd_words.specs.Words.{is_value}
 
 -- an option with a value
 abbrev pub option_rule : Text → Rule

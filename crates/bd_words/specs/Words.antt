@@ -8,10 +8,10 @@ use Rattle.bd_model.specs.Sizes.{Sizes, is_shape, sizes_of}
 use Rattle.bd_model.specs.declared.command.Command.{Command}
 use Rattle.bd_model.specs.declared.command.Command.TheVariants.{Backup, Restore, Expire, Reorganise, Scrub, List as Listing}
 use Rattle.bd_script.specs.Numbers.{number_of}
-use Rattle.mfdedup.specs.declared.report.End.{End}
-use Rattle.mfdedup.specs.declared.report.End.TheVariants.{BadWords, BadNumber, BadName, BadShape, OutOfMemory}
-use Rattle.mfdedup.specs.declared.report.Request.{Request}
-use Rattle.mfdedup.specs.declared.report.Request.TheVariants.{Format, Run, Script, Blank, Soak}
+use Rattle.bd_words.specs.declared.fault.WordsFault.{WordsFault}
+use Rattle.bd_words.specs.declared.fault.WordsFault.TheVariants.{BadWords, BadNumber, BadName, BadShape}
+use Rattle.bd_words.specs.declared.request.Request.{Request}
+use Rattle.bd_words.specs.declared.request.Request.TheVariants.{Format, Run, Script, Blank, Soak}
 
 -- what is asked for, or why it isn't understood
 pub data Reading : Type 0 where
@@ -20,7 +20,7 @@ pub data Reading : Type 0 where
   ToScript : (name : List ℕ) → Reading
   ToBlank : (length : ℕ) → (name : List ℕ) → Reading
   ToSoak : (seed : ℕ) → (count : ℕ) → Reading
-  Refused : (ending : End) → Reading
+  Refused : (fault : WordsFault) → Reading
 
 -- ---- lines
 -- a word that doesn't begin with a dash
@@ -146,14 +146,5 @@ AsksFor (ToRun command) (Some (Run commands)) = commands.items ≡ command ∷ [
 AsksFor (ToScript name) (Some (Script named)) = named ≡ name
 AsksFor (ToBlank length name) (Some (Blank bytes named)) = (bytes ≡ length) × (named ≡ name)
 AsksFor (ToSoak seed count) (Some (Soak drawn turns)) = (drawn ≡ seed) × (turns ≡ count)
-AsksFor (Refused ending) None = Unit {0}
+AsksFor (Refused fault) None = Unit {0}
 AsksFor reading request = ⊥
-
--- the ends that reading words can bring
-abbrev pub IsOfWords : End → Type 0
-IsOfWords BadWords = Unit {0}
-IsOfWords (BadNumber position) = Unit {0}
-IsOfWords BadName = Unit {0}
-IsOfWords (BadShape field) = Unit {0}
-IsOfWords OutOfMemory = Unit {0}
-IsOfWords ending = ⊥

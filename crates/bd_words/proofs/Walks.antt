@@ -14,8 +14,8 @@ use Rattle.std.specs.Option.{option_map_or}
 use Rattle.clap.proofs.TakesLemmas.{leaf_takes}
 use Rattle.clap.specs.Takes.{bundle_passes, default_passes, is_valid, flag_word_passes, long_passes, other_passes, settle_passes, step_passes, takes, turn_passes, use_passes, walk_passes, word_passes}
 use Rattle.clap.specs.Simple.{Shape, with_index, built, filled, matches_of}
-use Rattle.mfdedup.specs.Lines.{format_line, one_value_line, option_rule, two_values_line, value_rule}
-use Rattle.mfdedup.specs.Words.{is_value, is_option, is_asked_once, value_of, are_options}
+use Rattle.bd_words.specs.Lines.{format_line, one_value_line, option_rule, two_values_line, value_rule}
+use Rattle.bd_words.specs.Words.{is_value, is_option, is_asked_once, value_of, are_options}
 
 -- ---- a word that doesn't begin with a dash
 no-dash : (b : ℕ) (bytes : List ℕ) → is_value (b ∷ bytes) ≡ true → (b == 45) ≡ false

@@ -1,6 +1,6 @@
 use Rattle.std.proofs.Common.{◌∙◌, sym, map, string_bytes}
-use Rattle.mfdedup.proofs.Given.{one_read, one_taken, one_there}
-use Rattle.mfdedup.proofs.values.one_value.Goals as goal
+use Rattle.bd_words.proofs.Given.{one_read, one_taken, one_there}
+use Rattle.bd_words.proofs.values.one_value.Goals as goal
 
 pub parsed-requires : goal.parsed-requires
 parsed-requires c = record { taken = one_taken _ _ c.in_ok-one_value_line.ensures.line c.requires.plain }

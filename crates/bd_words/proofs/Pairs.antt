@@ -1,7 +1,7 @@
 -- Words in pairs.
 use Rattle.std.proofs.Common.{◌≡◌, ℕ, ◌<◌, ◌≤◌, List, [], ◌∷◌, ◌-◌, length, map, take, drop, get_or, Bool, ◌&&◌, None, false, refl, arith}
 use Rattle.std.proofs.lemmas.List.{take_rest}
-use Rattle.mfdedup.specs.Words.{are_options, is_asked_once, value_of}
+use Rattle.bd_words.specs.Words.{are_options, is_asked_once, value_of}
 
 -- the first two words and the others
 pub first_two : {A : Type 0} (f : A → List ℕ) (words : List A) (a b : A) → 2 ≤ length words → a ≡ get_or words 0 a → b ≡ get_or words 1 b → map f words ≡ f a ∷ f b ∷ map f (drop 2 words)

@@ -1,6 +1,6 @@
 use Rattle.std.proofs.lemmas.Result.{IfOk-weaker}
-use Rattle.mfdedup.proofs.Given.{line_more}
-use Rattle.mfdedup.proofs.values.format_line.Goals as goal
+use Rattle.bd_words.proofs.Given.{line_more}
+use Rattle.bd_words.proofs.values.format_line.Goals as goal
 
 pub returns-clause-line : goal.returns-clause-line
 returns-clause-line c =

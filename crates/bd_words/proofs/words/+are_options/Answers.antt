@@ -1,6 +1,6 @@
 use Rattle.std.proofs.Common.{◌∙◌, sym, string_bytes, true, false}
-use Rattle.mfdedup.proofs.Pairs.{half_pair, pair_asked}
-use Rattle.mfdedup.proofs.words.+are_options.Goals as goal
+use Rattle.bd_words.proofs.Pairs.{half_pair, pair_asked}
+use Rattle.bd_words.proofs.words.+are_options.Goals as goal
 
 pub returns-in-len1 : goal.returns-in-len1
 returns-in-len1 t c = half_pair string_bytes c.args.words.now c.in-len1.len_at_least c.in-len1.len_below

@@ -7,9 +7,9 @@ use Rattle.clap.specs.Takes.{takes}
 use Rattle.clap.specs.Walk.{Rule, Text, first_of}
 use Rattle.clap.specs.declared.parser.matches.ArgMatches.{ArgMatches}
 use Rattle.clap.proofs.WalkLemmas.{first_value-rows}
-use Rattle.mfdedup.specs.Lines.{format_line, has_one_value, has_two_values, one_value_line, two_values_line}
-use Rattle.mfdedup.specs.Words.{are_options, is_value, value_of}
-use Rattle.mfdedup.proofs.Walks.{format_takes, format_value, one_takes, two_takes, one_value, first_value as first_of_two, second_value}
+use Rattle.bd_words.specs.Lines.{format_line, has_one_value, has_two_values, one_value_line, two_values_line}
+use Rattle.bd_words.specs.Words.{are_options, is_value, value_of}
+use Rattle.bd_words.proofs.Walks.{format_takes, format_value, one_takes, two_takes, one_value, first_value as first_of_two, second_value}
 use Rattle.clap.proofs.WalkLemmas.{both}
 
 -- a line with one more argument

@@ -1,7 +1,7 @@
 use Rattle.std.proofs.Common.{codes, map, string_bytes, refl}
-use Rattle.mfdedup.specs.Lines.{format_line}
-use Rattle.mfdedup.proofs.Given.{format_read, format_taken, value_read}
-use Rattle.mfdedup.proofs.values.options_of.Goals as goal
+use Rattle.bd_words.specs.Lines.{format_line}
+use Rattle.bd_words.proofs.Given.{format_read, format_taken, value_read}
+use Rattle.bd_words.proofs.values.options_of.Goals as goal
 
 pub parsed-requires : goal.parsed-requires
 parsed-requires c = record { taken = format_taken string_bytes _ c.args.words.now c.in_ok-format_line.ensures.line c.requires.some c.requires.plain }
