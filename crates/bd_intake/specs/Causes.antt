@@ -2,13 +2,15 @@
 use Rattle.std.specs.Prelude.{◌≡◌, ℕ, ◌≤◌, Result, Ok, Err}
 use Rattle.bd_disk.specs.Calls.{Rose}
 use Rattle.bd_intake.specs.declared.fault.IntakeFault.{IntakeFault}
-use Rattle.bd_intake.specs.declared.fault.IntakeFault.TheVariants.{SourceFault, DiskFault, OutOfMemory}
+use Rattle.bd_intake.specs.declared.fault.IntakeFault.TheVariants.{Full, SourceFault, DiskFault, OutOfMemory}
 
 -- no disk and no source failed
 abbrev pub IsQuiet : {T : Type 0} → Result T IntakeFault → Type 0
+IsQuiet (Ok value) = Unit {0}
+IsQuiet (Err (Full counted free held)) = Unit {0}
 IsQuiet (Err SourceFault) = ⊥
 IsQuiet (Err DiskFault) = ⊥
-IsQuiet _ = Unit {0}
+IsQuiet (Err OutOfMemory) = Unit {0}
 
 -- memory was refused
 abbrev pub OnlyMemory : IntakeFault → Type 0

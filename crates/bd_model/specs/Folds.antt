@@ -4,7 +4,7 @@ use Rattle.std.specs.FinMap as map
 use Rattle.bd_model.specs.FileMap.{FileMap}
 use Rattle.bd_model.specs.declared.shape.Shape.{Shape}
 use Rattle.bd_model.specs.declared.command.Command.{Command}
-use Rattle.bd_model.specs.declared.command.Command.TheVariants.{Backup}
+use Rattle.bd_model.specs.declared.command.Command.TheVariants.{Backup, Restore, Expire, Reorganise, Scrub, List as Listing}
 use Rattle.bd_model.specs.declared.answer.Answer.{Answer}
 use Rattle.bd_model.specs.declared.layout.Phase.{Phase}
 use Rattle.bd_model.specs.Chunks.{chunks}
@@ -58,7 +58,11 @@ abbrev pub chunks_read : Shape → VersionState → FileMap → Command → List
 chunks_read shape s files (Backup name) =
     if newest (history shape s) == last_number || (retained (history shape s) == shape.retain) then [] else
     unwrap_or (option_map (chunks (cut_of shape)) (map.get files name)) []
-chunks_read shape s files _ = []
+chunks_read shape s files (Restore v name) = []
+chunks_read shape s files Expire = []
+chunks_read shape s files Reorganise = []
+chunks_read shape s files Scrub = []
+chunks_read shape s files Listing = []
 
 -- those that the commands read, each from the files as they are when it runs
 abbrev pub all_read : Shape → VersionState → FileMap → List HeldCommand → List (List ℕ)

@@ -23,9 +23,11 @@ AnswersFormat refusal (Err fault) = refusal ≡ Some fault
 
 -- a disk that tells nothing is still measured
 abbrev pub MeasuresFormat : {T : Type 0} → Sizes → ℕ → Result T FormatFault → Type 0
-MeasuresFormat s have (Err (TooSmall need size)) = (need ≡ disk_bytes s) × (size ≡ have) × (nat_lt have (disk_bytes s) ≡ true)
 MeasuresFormat s have (Ok made) = nat_lt have (disk_bytes s) ≡ false
-MeasuresFormat s have _ = Unit {0}
+MeasuresFormat s have (Err AlreadyAStore) = Unit {0}
+MeasuresFormat s have (Err (TooSmall need size)) = (need ≡ disk_bytes s) × (size ≡ have) × (nat_lt have (disk_bytes s) ≡ true)
+MeasuresFormat s have (Err DiskFault) = Unit {0}
+MeasuresFormat s have (Err OutOfMemory) = Unit {0}
 
 -- whether it is a fault of the disk
 abbrev pub is_disk_fault : FormatFault → Bool
@@ -45,5 +47,8 @@ pub record IsFormatAnswer {D T : Type 0} (g : Ghosts D) (s : Sizes) (old new : D
 
 -- memory isn't asked for
 abbrev pub TakesNoMemory : {T : Type 0} → Result T FormatFault → Type 0
+TakesNoMemory (Ok made) = Unit {0}
+TakesNoMemory (Err AlreadyAStore) = Unit {0}
+TakesNoMemory (Err (TooSmall need have)) = Unit {0}
+TakesNoMemory (Err DiskFault) = Unit {0}
 TakesNoMemory (Err OutOfMemory) = ⊥
-TakesNoMemory _ = Unit {0}

@@ -100,8 +100,13 @@ pub record IsWhole (s : Sizes) (c : Catalogue) (image : List ℕ) (v : ℕ) (ent
 
 -- the body of a record only where some entry has its mark
 abbrev pub IsNeeded : List RecipeEntry → Damage → Type 0
+IsNeeded entries (Entry u index said start) = Unit {0}
+IsNeeded entries (Sum u recorded found) = Unit {0}
+IsNeeded entries (Header who place said left) = Unit {0}
+IsNeeded entries (Row who start recorded found) = Unit {0}
 IsNeeded entries (Body who place recorded found) = IsTrue (has_mark entries recorded.0)
-IsNeeded entries _ = Unit {0}
+IsNeeded entries (Length u m recorded found) = Unit {0}
+IsNeeded entries (Missing u index m) = Unit {0}
 
 -- the bytes that the damage names were read between these moments, or are of the recipe of version v, which was read
 -- before; they break its rule, where a restore of v looks, and the restore came to it

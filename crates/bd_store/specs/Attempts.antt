@@ -28,7 +28,7 @@ use Rattle.bd_restore.specs.Target.{held, HasChunks}
 use Rattle.bd_volume.specs.Headers.{HasGoodHeaders}
 use Rattle.bd_store.specs.Causes.{Counts, counts, FailsOnlyByCount, StraysOnlyBy}
 use Rattle.bd_store.specs.Deeds.{Deed, TakesIn, GivesBack, GivesUp, Settles, Checks, Tells, deed_of, target_of}
-use Rattle.bd_store.specs.Naming.{NamesArranging, NamesDamage}
+use Rattle.bd_store.specs.Naming.{IfFound, NamesArranging, NamesDamage}
 use Rattle.bd_store.specs.Newest.{IsNewestRecipe}
 use Rattle.bd_store.specs.Opens.{KeepsOpening}
 use Rattle.bd_store.specs.Kinds.{Kind, Gained, Lost, Given, Figures, NoRoom, ByNumbers, Shows, Elsewhere, kind_of}
@@ -244,12 +244,7 @@ LooksByCommand a command = LooksOnlyAt (MayLook a.before.store.found (deed_of a.
 
 -- no damage is named
 abbrev pub NamesNone : Result Answer StoreFault → Type 0
-NamesNone (Ok answer) = Unit {0}
-NamesNone (Err SourceFault) = Unit {0}
-NamesNone (Err TargetFault) = Unit {0}
-NamesNone (Err DiskFault) = Unit {0}
-NamesNone (Err (Damaged damage)) = ⊥
-NamesNone (Err OutOfMemory) = Unit {0}
+NamesNone result = IfFound result (λ damage. ⊥)
 
 -- A damage is one that the command looks for, its bytes were read, and they break its rule.
 abbrev pub NamesFor : Attempt → Deed → Type 0

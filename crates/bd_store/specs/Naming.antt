@@ -63,10 +63,18 @@ pub record IsDamageOf (found : Found) (v : ℕ) (damage : Damage) (old new : His
   pub seen : IsSeen found.sizes found.catalogue (contents old) (walk found.catalogue v) damage old new
   pub comes : ComesTo (sought found (contents old) v) (contents old) (walk found.catalogue v) damage seen.places
 
+-- of the damage that is answered
+abbrev pub IfFound : Result Answer StoreFault → (Damage → Type 0) → Type 0
+IfFound (Ok answer) P = Unit {0}
+IfFound (Err SourceFailed) P = Unit {0}
+IfFound (Err TargetFailed) P = Unit {0}
+IfFound (Err DiskFailed) P = Unit {0}
+IfFound (Err (DamageFound damage)) P = P damage
+IfFound (Err MemoryFailed) P = Unit {0}
+
 -- and so is a damage that is answered
 abbrev pub NamesDamage : Found → ℕ → History → History → Result Answer StoreFault → Type 0
-NamesDamage found v old new (Err (DamageFound damage)) = IsDamageOf found v damage old new
-NamesDamage found v old new result = Unit {0}
+NamesDamage found v old new result = IfFound result (λ damage. IsDamageOf found v damage old new)
 
 -- the damage is one of the newest recipe: an entry or its sum; the bytes that it names were read between these moments, and
 -- break its rule
@@ -76,5 +84,4 @@ pub record IsDamageOfNewest (found : Found) (damage : Damage) (old new : History
 
 -- what a command that arranges names is of the newest recipe, or of an open category that was due
 abbrev pub NamesArranging : Found → History → History → Result Answer StoreFault → Type 0
-NamesArranging found old new (Err (DamageFound damage)) = IsDamageOfNewest found damage old new ⊎ IsDamageOfDue found damage old new
-NamesArranging found old new result = Unit {0}
+NamesArranging found old new result = IfFound result (λ damage. IsDamageOfNewest found damage old new ⊎ IsDamageOfDue found damage old new)

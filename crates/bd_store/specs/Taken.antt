@@ -1,10 +1,10 @@
 -- What a backup takes in of its source, whatever image it is.
-use Rattle.std.specs.Prelude.{◌≡◌, ◌<◌, ℕ, ◌+◌, List, length, Result, Ok}
+use Rattle.std.specs.Prelude.{◌≡◌, ◌<◌, ℕ, ◌+◌, List, length, IfOk, Result}
 use Rattle.bd_model.specs.Chunks.{chunks}
 use Rattle.bd_model.specs.Laws.{entries_in}
 use Rattle.bd_model.specs.Room.{counted_of}
 use Rattle.bd_model.specs.declared.answer.Answer.{Answer}
-use Rattle.bd_model.specs.declared.answer.Answer.TheVariants.{BackedUp, FullExtents}
+use Rattle.bd_model.specs.declared.answer.Answer.TheVariants.{BackedUp}
 use Rattle.bd_model.specs.declared.layout.RecipeEntry.{RecipeEntry}
 use Rattle.bd_roll.specs.Catalogue.{all_extents}
 use Rattle.bd_roll.specs.Growing.{after_backup}
@@ -15,6 +15,7 @@ use Rattle.bd_intake.specs.Answers.{HoldsVersion, IsVersion}
 use Rattle.bd_intake.specs.Firsts.{cut_in}
 use Rattle.bd_intake.specs.declared.staged.Staged.{Staged}
 use Rattle.bd_arrange.specs.Arranged.{IsSettledFrom}
+use Rattle.bd_store.specs.Kinds.{Kind, Gained, Lost, Given, Figures, NoRoom, ByNumbers, Shows, Elsewhere, kind_of}
 use Rattle.bd_store.specs.declared.fault.StoreFault.{StoreFault}
 
 -- a source, beside the recipe `old` of the newest version
@@ -49,12 +50,21 @@ pub record CountsVersion (s : Source) (counted free : ℕ) : Type 0 where
   pub fewer : free < counted
   pub counts : counted ≡ counted_of s.found.sizes.extent s.old (entries_in s.old (next_version s) (parts s)) free
 
-abbrev pub TakesStream : Source → Found → List ℕ → Result Answer StoreFault → Type 0
-TakesStream s after image (Ok (BackedUp version bytes chunks fresh need)) = TakesVersion s (BackedUp version bytes chunks fresh need) after image
-TakesStream s after image (Ok (FullExtents counted free held)) = CountsVersion s counted free
-TakesStream s after image result = Unit {0}
+-- what holds of a version that was taken in, and of a refusal for room
+abbrev pub WhereCut : Type 0 → (ℕ → ℕ → Type 0) → Kind → Type 0
+WhereCut taken full (Gained bytes chunks fresh) = taken
+WhereCut taken full (Lost extents) = Unit {0}
+WhereCut taken full Given = Unit {0}
+WhereCut taken full (Figures owned free) = Unit {0}
+WhereCut taken full (NoRoom counted free held) = full counted free
+WhereCut taken full ByNumbers = Unit {0}
+WhereCut taken full Shows = Unit {0}
+WhereCut taken full Elsewhere = Unit {0}
 
+-- a source that is there: its version is taken in, or its chunks are counted
+abbrev pub TakesStream : Source → Found → List ℕ → Result Answer StoreFault → Type 0
+TakesStream s after image result = IfOk result (λ answer. WhereCut (TakesVersion s answer after image) (CountsVersion s) (kind_of answer))
+
+-- one that isn't
 abbrev pub TakesNothing : Result Answer StoreFault → Type 0
-TakesNothing (Ok (BackedUp version bytes chunks fresh need)) = ⊥
-TakesNothing (Ok (FullExtents counted free held)) = ⊥
-TakesNothing result = Unit {0}
+TakesNothing result = IfOk result (λ answer. WhereCut ⊥ (λ counted free. ⊥) (kind_of answer))
