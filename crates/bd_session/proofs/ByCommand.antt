@@ -50,10 +50,10 @@ ready_beyond Checks found writes = nothing_within _ writes
 ready_beyond Tells found writes = nothing_within _ writes
 
 first_beyond : (held : ℕ) (found after : Found) (command : Command) (result : Result Answer StoreFault) {old new : History} → IsArrangedFirst held found after command old new result → WritesOnly (λ place. 64 ≤ place) old new
-first_beyond held found after command result is = made_both (writes_wider _ (λ place beside. beside.begins) is.first) (ready_beyond (deed_of is.arranged command) is.arranged is.second)
+first_beyond held found after command result is = made_both (writes_wider _ (λ place spared. spared.beside.begins) is.first) (ready_beyond (deed_of is.arranged command) is.arranged is.second)
 
 arranging_beyond : (held : ℕ) (found after : Found) (command : Command) (result : Result Answer StoreFault) {old new : History} → WritesArranging held found after command old new result → WritesOnly (λ place. 64 ≤ place) old new
-arranging_beyond held found after command result is = ⊎_elim (λ first. first_beyond held found after command result first) (λ unarranged. writes_wider _ (λ place beside. beside.begins) unarranged.1.writes) is
+arranging_beyond held found after command result is = ⊎_elim (λ first. first_beyond held found after command result first) (λ unarranged. writes_wider _ (λ place spared. spared.beside.begins) unarranged.1.writes) is
 
 pub writes_beyond : {held : ℕ} (found : Found) {after : Found} (command : Command) {result : Result Answer StoreFault} {old new : History} → WritesByCommand held found after command old new result → WritesOnly (λ place. 64 ≤ place) old new
 writes_beyond {held} found {after} command {result} {old} {new} writes =

@@ -25,8 +25,7 @@ use Rattle.bd_catalog.specs.Opening.{Found}
 use Rattle.bd_catalog.specs.Standing.{Stands, StandsFor}
 use Rattle.bd_catalog.proofs.Standing.{stands-shows}
 use Rattle.bd_recipe.specs.Marked.{Marked}
-use Rattle.bd_volume.specs.Named.{IsBeside}
-use Rattle.bd_arrange.specs.Arranged.{IsArrangedFrom, IsSettledFrom, KeepsStates}
+use Rattle.bd_arrange.specs.Arranged.{IsArrangedFrom, IsSettledFrom, IsSpared, KeepsStates}
 use Rattle.bd_store.specs.Attempts.{IsAnswerOf, KeepsVersions}
 use Rattle.bd_store.specs.Deeds.{Deed, TakesIn, GivesBack, GivesUp, Settles, Checks, Tells, deed_of}
 use Rattle.bd_store.specs.Following.{EndsReady, MakesReady, ReadiesFor}
@@ -172,7 +171,7 @@ module _ (held : ℕ) (found mid after : Found) (h0 h1 h2 : History) (command : 
       writing_both (deed_of found command) found h0 h1 h2 (quiet_writing (deed_of found command) found (quiet is)) (subst (λ (f : Found). WritesFor (deed_of f command) f h1 h2) (as_it_was is) second)
 
   pub writes_before : (result : Result Answer StoreFault) → EndsReady result → StepsTo mid.catalogue after.catalogue result → (found.catalogue.phase ≡ Settled → mid ≡ found) → (found.catalogue.phase ≡ Settled → WritesNothing h0 h1) →
-      (found.catalogue.phase ≢ Settled → IsArrangedFrom held found mid (contents h0) (contents h1)) → Agrees mid h1 → WritesOnly (IsBeside found) h0 h1 → WritesByCommand held found after command h0 h2 result
+      (found.catalogue.phase ≢ Settled → IsArrangedFrom held found mid (contents h0) (contents h1)) → Agrees mid h1 → WritesOnly (IsSpared found) h0 h1 → WritesByCommand held found after command h0 h2 result
   writes_before result ends step as_it_was quiet arranged agrees first = record {
     ready = written_settled as_it_was quiet;
     step = λ rests. subst (λ (f : Found). StepsTo f.catalogue after.catalogue result) (as_it_was (ready_settled found (deed_of found command) makes rests)) step;

@@ -2,7 +2,6 @@
 use Rattle.std.proofs.Common.{◌↔◌, true, false, ◌≡◌, ◌∙◌, ℕ, Bool, List, refl, sym, ap, subst, Result, Ok, Err}
 use Rattle.std.proofs.lemmas.Bool.{false_from_ne_true}
 use Rattle.bd_recipe.specs.Reading.{is_disk_fault}
-use Rattle.bd_volume.specs.Named.{IsBeside}
 use Rattle.bd_recipe.specs.declared.fault.ReadFault.{ReadFault}
 use Rattle.bd_recipe.specs.declared.fault.ReadFault.TheVariants.{DiskFault as ReadDisk}
 use Rattle.bd_disk.specs.Calls.{FailsByCount}
@@ -17,6 +16,7 @@ use Rattle.bd_model.specs.declared.layout.RecipeEntry.{RecipeEntry}
 use Rattle.bd_catalog.specs.Agreement.{Agrees}
 use Rattle.bd_catalog.specs.Opening.{Found}
 use Rattle.bd_recipe.specs.Marked.{Marked}
+use Rattle.bd_arrange.specs.Arranged.{IsSpared}
 use Rattle.bd_store.specs.Attempts.{Beside, scene_beside, Attempt, Meets, Scene, attempt, EndsFor, MayLook, NamesFor, TransfersByCommand, NewestEnds, ReadsByCommand}
 use Rattle.bd_store.specs.Deeds.{Deed, TakesIn, GivesBack, GivesUp, Settles, Checks, Tells, deed_of}
 use Rattle.bd_store.specs.Following.{Follows, IsMadeReady, IsMadeReadyOn, MakesReady, ReadiesFor}
@@ -188,7 +188,7 @@ followed {disk} {files} {command} {before} {now} {after} {neighbour} {result} ma
     (subst (λ (s : Scene). Follows disk files (attempt command result s after)) (sym same) follows)
 
 -- a store and its disk that were made ready, whatever files are beside them
-pub made_ready : {D : Type 0} (d : DiskGhosts D) (beside : Beside) (old new : Shown) (disk0 disk1 : D) (result : Result Marked ReadFault) → Works d (InArranging old.found) (IsBeside old.found) disk0 disk1 →
+pub made_ready : {D : Type 0} (d : DiskGhosts D) (beside : Beside) (old new : Shown) (disk0 disk1 : D) (result : Result Marked ReadFault) → Works d (InArranging old.found) (IsSpared old.found) disk0 disk1 →
     FailsByCount is_disk_fault (d.faults disk0) (d.faults disk1) result → (new.worn ≡ true) ↔ (result ≡ Err ReadDisk) → new.held ≡ old.held → Readies old new result →
     (d.tells → ReadiesOn old.held old.found new.found (d.history disk0) (d.history disk1) result) → IsMadeReady d.tells (scene_beside d beside old disk0) (scene_beside d beside new disk1) result
 made_ready d beside old new disk0 disk1 result works cause worn held store told = record {

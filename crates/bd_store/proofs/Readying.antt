@@ -35,7 +35,6 @@ use Rattle.bd_recipe.specs.Reading.{IfDamaged, InRecipe, recipe_found}
 use Rattle.bd_recipe.specs.declared.fault.ReadFault.{ReadFault}
 use Rattle.bd_recipe.specs.declared.fault.ReadFault.TheVariants.{DiskFault, Damaged, OutOfMemory}
 use Rattle.bd_restore.proofs.Standing.{recipe_stands}
-use Rattle.bd_volume.specs.Named.{IsBeside}
 use Rattle.bd_volume.proofs.Copying.{wider_work}
 use Rattle.bd_arrange.specs.Arranged.{AnswersDue, Arranges, ButDiskFault, InDue, IsArrangedFrom, IsDamageOfDue, IsSettledFrom, IsSpared, KeepsStates}
 use Rattle.bd_arrange.specs.Turns.{due}
@@ -46,11 +45,11 @@ use Rattle.bd_store.proofs.Giving.{agrees_quiet}
 use Rattle.bd_store.proofs.Staying.{newest_stays}
 
 -- what it reads and writes, with the newest recipe and with what is due
-pub reads_ready : {D : Type 0} {d : DiskGhosts D} (found : Found) {a b : D} → Reads d (InRecipe found.sizes found.catalogue found.catalogue.newest) a b → Works d (InArranging found) (IsBeside found) a b
-reads_ready found read = reads_work (IsBeside found) (wider_reads (InArranging found) (λ place inside. record { so = inl (record { so = inside }) }) read)
+pub reads_ready : {D : Type 0} {d : DiskGhosts D} (found : Found) {a b : D} → Reads d (InRecipe found.sizes found.catalogue found.catalogue.newest) a b → Works d (InArranging found) (IsSpared found) a b
+reads_ready found read = reads_work (IsSpared found) (wider_reads (InArranging found) (λ place inside. record { so = inl (record { so = inside }) }) read)
 
-pub due_ready : {D : Type 0} {d : DiskGhosts D} (found : Found) {a b : D} → Works d (InDue found) (IsSpared found) a b → Works d (InArranging found) (IsBeside found) a b
-due_ready found works = wider_work (InArranging found) (IsBeside found) (λ place inside. record { so = inr inside }) (λ place inside. inside.beside) works
+pub due_ready : {D : Type 0} {d : DiskGhosts D} (found : Found) {a b : D} → Works d (InDue found) (IsSpared found) a b → Works d (InArranging found) (IsSpared found) a b
+due_ready found works = wider_work (InArranging found) (IsSpared found) (λ place inside. record { so = inr inside }) (λ place inside. inside) works
 
 module _ {D : Type 0} (d : DiskGhosts D) (found : Found) (held : ℕ) (disk0 disk1 : D) (agrees : d.tells → Agrees found (d.history disk0)) (read : Reads d (InRecipe found.sizes found.catalogue found.catalogue.newest) disk0 disk1) where
   abbrev h0 : History

@@ -18,8 +18,7 @@ use Rattle.bd_recipe.specs.Marked.{Marked}
 use Rattle.bd_recipe.specs.Reading.{is_disk_fault}
 use Rattle.bd_recipe.specs.declared.fault.ReadFault.{ReadFault}
 use Rattle.bd_recipe.specs.declared.fault.ReadFault.TheVariants.{DiskFault as ReadDisk, Damaged as ReadDamaged, OutOfMemory as ReadMemory}
-use Rattle.bd_volume.specs.Named.{IsBeside}
-use Rattle.bd_arrange.specs.Arranged.{Arranges, ButDiskFault, KeepsStates}
+use Rattle.bd_arrange.specs.Arranged.{Arranges, ButDiskFault, IsSpared, KeepsStates}
 use Rattle.bd_store.specs.Attempts.{Attempt, EndsInDamage, IsAnswerOf, KeepsVersions, SettlesBy, TellsFigures, Meets, Scene, attempt, EndsFor, Finishes, MayLook, NamesFor, NewestEnds, ReadsByCommand, TransfersFor}
 use Rattle.bd_store.specs.Causes.{counts, FailsOnlyByCount}
 use Rattle.bd_store.specs.Deeds.{Deed, TakesIn, GivesBack, GivesUp, Settles, Checks, Tells, deed_of, target_of}
@@ -110,7 +109,7 @@ unready_step_to old new (ReadDamaged damage) is = ap (λ (s : Shown). s.found.ca
 unready_step_to old new ReadMemory is = ap (λ (s : Shown). s.found.catalogue) is
 
 pub unready_writes : (held : ℕ) (command : Command) (old new : Shown) (h0 h1 : History) (fault : ReadFault) → MakesReady old.found command → Readies old new (Err fault) → (old.found.catalogue.phase ≡ Settled → WritesNothing h0 h1) →
-    WritesOnly (IsBeside old.found) h0 h1 → WritesByCommand held old.found new.found command h0 h1 (Err (fault_of_reading fault))
+    WritesOnly (IsSpared old.found) h0 h1 → WritesByCommand held old.found new.found command h0 h1 (Err (fault_of_reading fault))
 unready_writes held command old new h0 h1 fault makes readies quiet writes = record {
   ready = λ rests.
       quiet_writing (deed_of old.found command) old.found (quiet (ready_settled old.found (deed_of old.found command) makes rests));

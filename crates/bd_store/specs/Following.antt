@@ -12,7 +12,7 @@ use Rattle.bd_recipe.specs.Marked.{Marked}
 use Rattle.bd_recipe.specs.Reading.{is_disk_fault}
 use Rattle.bd_recipe.specs.declared.fault.ReadFault.{ReadFault}
 use Rattle.bd_recipe.specs.declared.fault.ReadFault.TheVariants.{DiskFault as ReadDisk}
-use Rattle.bd_volume.specs.Named.{IsBeside}
+use Rattle.bd_arrange.specs.Arranged.{IsSpared}
 use Rattle.bd_store.specs.Attempts.{Attempt, IsAnswerOf, KeepsStore, MeetsOnFiles, Scene, TransfersByCommand}
 use Rattle.bd_store.specs.Causes.{FailsOnlyByCount}
 use Rattle.bd_store.specs.Deeds.{Deed, TakesIn, GivesBack, GivesUp, Settles, Checks, Tells, deed_of}
@@ -49,7 +49,7 @@ pub record StaysBeside (before after : Scene) : Type 0 where
 -- where the disk tells: what is read and written for it, and what it leaves
 pub record IsMadeReadyOn (before after : Scene) (result : Result Marked ReadFault) : Type 0 where
   pub looks : LooksOnlyAt (InArranging before.store.found) before.disk after.disk
-  pub writes : WritesOnly (IsBeside before.store.found) before.disk after.disk
+  pub writes : WritesOnly (IsSpared before.store.found) before.disk after.disk
   pub readies : ReadiesOn before.store.held before.store.found after.store.found before.disk after.disk result
 
 -- a store that was made ready, or not

@@ -11,8 +11,7 @@ use Rattle.bd_roll.specs.Catalogue.{Catalogue, OpenEntry, all_extents, retained_
 use Rattle.bd_roll.specs.Growing.{after_backup}
 use Rattle.bd_catalog.specs.Opening.{Found}
 use Rattle.bd_roll.specs.Splitting.{after_expire, expired}
-use Rattle.bd_volume.specs.Named.{IsBeside}
-use Rattle.bd_arrange.specs.Arranged.{IsArrangedFrom}
+use Rattle.bd_arrange.specs.Arranged.{IsArrangedFrom, IsSpared}
 use Rattle.bd_store.specs.Deeds.{Deed, TakesIn, GivesBack, GivesUp, Settles, Checks, Tells, deed_of}
 use Rattle.bd_store.specs.Kinds.{Kind, Gained, Lost, Given, Figures, NoRoom, ByNumbers, Shows, Elsewhere, kind_of}
 use Rattle.bd_store.specs.Touches.{is_waiting}
@@ -72,19 +71,19 @@ StepsTo c c_now (Err DiskFault) = Unit {0}
 StepsTo c c_now (Err (Damaged damage)) = c_now ≡ c
 StepsTo c c_now (Err OutOfMemory) = c_now ≡ c
 
--- The store was arranged, by writes beside what is found before, and went on as one that is.
+-- The store was arranged, by writes in places that are spared, and went on as one that is.
 pub record IsArrangedFirst (held : ℕ) (found after : Found) (command : Command) (old new : History) (result : Result Answer StoreFault) : Type 0 where
   pub arranged : Found
   pub middle : History
-  pub first : WritesOnly (IsBeside found) old middle
+  pub first : WritesOnly (IsSpared found) old middle
   pub made : IsArrangedFrom held found arranged (contents old) (contents middle)
   pub agrees : Agrees arranged middle
   pub second : WritesReady arranged command middle new
   pub step : StepsTo arranged.catalogue after.catalogue result
 
--- it was only written beside what is found
+-- only spared places were written
 pub record IsUnarranged (found after : Found) (old new : History) (result : Result Answer StoreFault) : Type 0 where
-  pub writes : WritesOnly (IsBeside found) old new
+  pub writes : WritesOnly (IsSpared found) old new
   pub step : StepsTo found.catalogue after.catalogue result
 
 -- the answers that may come before the store is arranged
@@ -106,7 +105,7 @@ MayBeUnarranged (Err DiskFault) = Unit {0}
 MayBeUnarranged (Err (Damaged damage)) = Unit {0}
 MayBeUnarranged (Err OutOfMemory) = Unit {0}
 
--- it was arranged first, or, where the answer may come before that, only written beside what is found
+-- it was arranged first, or, where the answer may come before that, only spared places were written
 abbrev pub WritesArranging : ℕ → Found → Found → Command → History → History → Result Answer StoreFault → Type 0
 WritesArranging held found after command old new result = IsArrangedFirst held found after command old new result ⊎ (MayBeUnarranged result × IsUnarranged found after old new result)
 

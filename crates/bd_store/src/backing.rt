@@ -8,7 +8,7 @@ ghost use Rattle.bd_model.specs.declared.command.Command.TheVariants.{Backup, Re
 ghost use Rattle.bd_model.specs.declared.layout.Phase.TheVariants.{Settled};
 ghost use Rattle.bd_roll.specs.Catalogue.{retained_in};
 ghost use Rattle.bd_recipe.specs.Reading.{is_disk_fault as is_read_disk_fault};
-ghost use Rattle.bd_volume.specs.Named.{IsBeside};
+ghost use Rattle.bd_arrange.specs.Arranged.{IsSpared};
 ghost use Rattle.bd_intake.specs.Given.{IsRecipeOrNone};
 ghost use Rattle.bd_store.specs.Attempts.{Beside, Meets, attempt, scene, scene_beside};
 ghost use Rattle.bd_store.specs.Following.{Follows};
@@ -36,7 +36,7 @@ impl Store {
     // Reads the newest recipe, and arranges the store where it waits.
     pub(crate) fn ready<D: Disk>(&mut self, disk: &mut D) -> Result<Neighbour, ReadFault>
         requires opened { IsOpenOn D.Disk self.old disk.old }
-        ensures disk { Works D.Disk (InArranging self.old.found) (IsBeside self.old.found) disk.old disk.new }
+        ensures disk { Works D.Disk (InArranging self.old.found) (IsSpared self.old.found) disk.old disk.new }
         ensures cause { FailsByCount is_read_disk_fault (D.faults disk.old) (D.faults disk.new) result }
         ensures worn { (self.new.worn ≡ true) ↔ (result ≡ Err ReadFault.DiskFault) }
         ensures held { self.new.held ≡ self.old.held }

@@ -5,7 +5,7 @@ use Rattle.bd_model.specs.Sizes.{Sizes}
 use Rattle.bd_space.specs.Allotment.{held_count}
 use Rattle.bd_catalog.specs.Agreement.{Agrees}
 use Rattle.bd_catalog.specs.Opening.{Found}
-use Rattle.bd_volume.specs.Named.{IsBeside}
+use Rattle.bd_arrange.specs.Arranged.{IsSpared}
 use Rattle.bd_store.specs.Readying.{IsReady, ReadiesOn}
 use Rattle.bd_store.specs.Shown.{Shown}
 use Rattle.bd_store.specs.Touches.{InArranging}
@@ -14,7 +14,7 @@ use Rattle.bd_store.proofs.store.Store.ready.Goals as goal
 
 pub returns-in-Err-clause-disk : goal.returns-in-Err-clause-disk
 returns-in-Err-clause-disk g c =
-    subst (λ (s : Shown). Works g.D.Disk (InArranging s.found) (IsBeside s.found) c.args.disk.now c.newest_recipe.new.disk) c.self.view_is (reads_ready c.self.inside.catalog.found c.newest_recipe.ensures.disk)
+    subst (λ (s : Shown). Works g.D.Disk (InArranging s.found) (IsSpared s.found) c.args.disk.now c.newest_recipe.new.disk) c.self.view_is (reads_ready c.self.inside.catalog.found c.newest_recipe.ensures.disk)
 
 pub returns-in-Err-clause-told : goal.returns-in-Err-clause-told
 returns-in-Err-clause-told g c =
@@ -38,7 +38,7 @@ arrange-requires-clause-newest g c = λ told waiting.
 pub returns-in-Ok-arrange-clause-disk : goal.returns-in-Ok-arrange-clause-disk
 returns-in-Ok-arrange-clause-disk g c =
     let found : Found = c.self.inside.catalog.found in
-    subst (λ (s : Shown). Works g.D.Disk (InArranging s.found) (IsBeside s.found) c.args.disk.now c.arrange.new.disk) c.self.view_is (both_work (reads_ready found c.newest_recipe.ensures.disk) (due_ready found c.arrange.ensures.disk))
+    subst (λ (s : Shown). Works g.D.Disk (InArranging s.found) (IsSpared s.found) c.args.disk.now c.arrange.new.disk) c.self.view_is (both_work (reads_ready found c.newest_recipe.ensures.disk) (due_ready found c.arrange.ensures.disk))
 
 pub returns-in-Ok-arrange-clause-store : goal.returns-in-Ok-arrange-clause-store
 returns-in-Ok-arrange-clause-store g c =
@@ -63,7 +63,7 @@ returns-in-Ok-arrange-clause-told g c =
 pub returns-in-Err-arrange-clause-disk : goal.returns-in-Err-arrange-clause-disk
 returns-in-Err-arrange-clause-disk g c =
     let found : Found = c.self.inside.catalog.found in
-    subst (λ (s : Shown). Works g.D.Disk (InArranging s.found) (IsBeside s.found) c.args.disk.now c.arrange.new.disk) c.self.view_is (both_work (reads_ready found c.newest_recipe.ensures.disk) (due_ready found c.arrange.ensures.disk))
+    subst (λ (s : Shown). Works g.D.Disk (InArranging s.found) (IsSpared s.found) c.args.disk.now c.arrange.new.disk) c.self.view_is (both_work (reads_ready found c.newest_recipe.ensures.disk) (due_ready found c.arrange.ensures.disk))
 
 pub returns-in-Err-arrange-clause-told : goal.returns-in-Err-arrange-clause-told
 returns-in-Err-arrange-clause-told g c =
