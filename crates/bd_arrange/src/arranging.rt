@@ -56,7 +56,6 @@ pub fn arrange<D: Disk>(
     if let Phase::Settled = catalog.phase() {
         return Ok(());
     }
-    let _shape = catalog.shape();
     catalog.reserve()?;
     let mut desk = desk_for(alloc, catalog)?;
     match arrange_all(&mut desk, disk, catalog, space, neighbour) {
@@ -73,7 +72,6 @@ fn desk_for(alloc: Global, catalog: &Catalog) -> Result<Desk, OutOfMemory>
     requires waits { catalog.now.found.catalogue.phase ≢ Settled }
     ensures { IfOk result (λ desk. HasSplits catalog.now.found.catalogue [] desk) }
 {
-    let _shape = catalog.shape();
     let volumes = catalog.volumes();
     let oldest = catalog.newest() - volumes.len() as u32;
     Desk::new(alloc, &volumes[volumes.len() - 1], oldest)

@@ -1,5 +1,6 @@
 -- What contracts see of a catalogue that is held in memory.
 use Rattle.std.specs.Prelude.{◌≡◌, ◌+◌, ◌≤◌, ◌<◌, ℕ, length, false, IsTrue}
+use Rattle.bd_model.specs.Limits.{IsShape}
 use Rattle.bd_model.specs.Sizes.{Sizes, half_bytes, half_place, payload_room}
 use Rattle.bd_gate.specs.Halves.{Half, log_place}
 use Rattle.bd_roll.specs.Capacity.{IsRoom, Room}
@@ -8,10 +9,12 @@ use Rattle.bd_catalog.specs.Opening.{Found}
 use Rattle.bd_roll.specs.Spelling.{spelled}
 use Rattle.bd_roll.specs.Rules.{obeys}
 
--- what an opening finds, and the room that was made
+-- what an opening finds, and the room that was made; the catalogue obeys the rules for the sizes, which are a shape's
 pub record Ledger : Type 0 where
   pub found : Found
   pub room : Room
+  pub rules : IsTrue (obeys found.sizes found.catalogue)
+  pub shaped : IsShape found.sizes.extent found.sizes.extents found.sizes.retain found.sizes.min found.sizes.bits found.sizes.max
 
 -- the half is one of the two, its turn is one of the three, and its log begins behind its payload and ends within it
 pub record IsPlaced (s : Sizes) (half : Half) (log_end : ℕ) : Type 0 where
@@ -20,9 +23,8 @@ pub record IsPlaced (s : Sizes) (half : Half) (log_end : ℕ) : Type 0 where
   pub begins : log_place s half ≤ log_end
   pub ends : log_end < half_place s half.number + half_bytes s
 
--- the catalogue obeys the rules and has its place, and the buffer has room for a payload with what stands round it in a half
-pub record IsKept (s : Sizes) (c : Catalogue) (half : Half) (log_end buffer : ℕ) : Type 0 where
-  pub obeys_rules : IsTrue (obeys s c)
+-- the catalogue has its place, and the buffer has room for a payload with what stands round it in a half
+pub record IsKept (s : Sizes) (half : Half) (log_end buffer : ℕ) : Type 0 where
   pub place : IsPlaced s half log_end
   pub frame : buffer ≡ payload_room s + 10
 

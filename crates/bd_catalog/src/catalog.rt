@@ -38,6 +38,7 @@ pub struct Catalog {
     log_end: u64,
     // what a commit writes, from the turn to the first gate of the log
     frame: Vec<u8>,
+    pub ghost rules: { IsTrue (obeys (sizes_of shape) (catalogue_of_contents contents)) },
 }
 
 impl Model for Catalog {
@@ -57,9 +58,11 @@ impl Model for Catalog {
         log_end = c.log_end;
       };
       room = room_of c.contents;
+      rules = c.rules;
+      shaped = c.shape.in_range;
     } };
 
-    ghost invariant = { λ c. IsKept (sizes_of c.shape) (catalogue_of_contents c.contents) c.half c.log_end (length c.frame.items) };
+    ghost invariant = { λ c. IsKept (sizes_of c.shape) c.half c.log_end (length c.frame.items) };
 }
 
 impl Catalog {
@@ -234,10 +237,9 @@ impl Catalog {
         Ok(())
     }
 
-    /// The shape of the store. The catalogue obeys the rules for it.
+    /// The shape of the store.
     pub fn shape(&self) -> Shape
-        ensures sizes { sizes_of result ≡ self.now.found.sizes }
-        ensures rules { IsTrue (obeys self.now.found.sizes self.now.found.catalogue) }
+        ensures { sizes_of result ≡ self.now.found.sizes }
     {
         self.shape
     }

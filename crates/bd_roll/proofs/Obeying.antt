@@ -8,6 +8,7 @@ use Rattle.std.proofs.lemmas.List.Folds.{list_all-append}
 use Rattle.std.proofs.lemmas.Map.Steps.{length-le_from_distinct_below}
 use Rattle.bd_model.proofs.ListLemmas.{left_and, right_and}
 use Rattle.bd_model.specs.declared.shape.Shape.{Shape}
+use Rattle.bd_model.specs.Limits.{IsShape}
 use Rattle.bd_model.specs.Sizes.{Sizes, sizes_of}
 use Rattle.bd_model.specs.declared.layout.Phase.{Phase}
 use Rattle.bd_model.specs.declared.layout.Phase.TheVariants.{Settled, Waiting}
@@ -140,8 +141,11 @@ pub record IsBounded (s : Sizes) : Type 0 where
   pub extent_high : s.extent ≤ 16777216
   pub chunk : s.max ≤ 65536
 
+pub bounded_in : (s : Sizes) → IsShape s.extent s.extents s.retain s.min s.bits s.max → IsBounded s
+bounded_in s shaped = record { retain = shaped.retain_high; extents = shaped.extents_high; extent = omega (arith, shaped.extent_low); extent_high = shaped.extent_high; chunk = shaped.max_high }
+
 pub bounded_of : (shape : Shape) → IsBounded (sizes_of shape)
-bounded_of shape = record { retain = shape.in_range.retain_high; extents = shape.in_range.extents_high; extent = omega (arith, shape.in_range.extent_low); extent_high = shape.in_range.extent_high; chunk = shape.in_range.max_high }
+bounded_of shape = bounded_in (sizes_of shape) shape.in_range
 
 -- the lists of one owner after the other
 pub record OwnFew (top : ℕ) (numbers : List ℕ) : Type 0 where

@@ -1,5 +1,5 @@
 -- A store is made ready, at each of the ends of that: the newest recipe couldn't be read, the store was arranged, or not.
-use Rattle.std.proofs.Common.{◌≡◌, ◌∙◌, ◌≤◌, ℕ, ◌+◌, ◌-◌, ◌&&◌, List, [], length, nat_le, nat_lt, slice_index_or, inl, inr, refl, sym, ap, subst, arith, Result, Ok, Err}
+use Rattle.std.proofs.Common.{◌≡◌, ◌↔◌, ◌∙◌, ◌≤◌, ℕ, ◌+◌, ◌-◌, Bool, true, ◌&&◌, List, [], length, nat_le, nat_lt, slice_index_or, inl, inr, refl, sym, ap, subst, arith, Result, Ok, Err}
 use Rattle.std.proofs.lemmas.Bool.{and_parts, leb-true}
 use Rattle.std.specs.Prelude.{map, All, IsTrue}
 use Rattle.bd_disk.specs.History.{History, contents}
@@ -36,11 +36,14 @@ use Rattle.bd_recipe.specs.declared.fault.ReadFault.{ReadFault}
 use Rattle.bd_recipe.specs.declared.fault.ReadFault.TheVariants.{DiskFault, Damaged, OutOfMemory}
 use Rattle.bd_restore.proofs.Standing.{recipe_stands}
 use Rattle.bd_volume.proofs.Copying.{wider_work}
-use Rattle.bd_arrange.specs.Arranged.{AnswersDue, Arranges, ButDiskFault, InDue, IsArrangedFrom, IsDamageOfDue, IsSettledFrom, IsSpared, KeepsStates}
+use Rattle.bd_arrange.specs.Arranged.{AnswersDue, Arranges, ButDiskFault, InDue, IsAllotted, IsArrangedFrom, IsDamageOfDue, IsSettledFrom, IsSpared, KeepsStates}
 use Rattle.bd_arrange.specs.Turns.{due}
+use Rattle.bd_space.specs.Allotment.{Allotment}
+use Rattle.bd_store.specs.Kept.{IsKept}
 use Rattle.bd_store.specs.Newest.{newest_places, AnswersNewest, IsNewestRecipe}
 use Rattle.bd_store.specs.Readying.{AnswersReady, IsThatDamage, ReadiesOn}
 use Rattle.bd_store.specs.Touches.{InArranging}
+use Rattle.bd_store.proofs.Ending.{not_both}
 use Rattle.bd_store.proofs.Giving.{agrees_quiet}
 use Rattle.bd_store.proofs.Staying.{newest_stays}
 
@@ -204,6 +207,12 @@ recipe_as_before old new {entries} is recipe = record {
         sum = before.sum ∙ (λ k. slice_index_or (map (λ (e : VersionEntry). e.length) (sym is.versions k)) (sym is.newest k - (sym is.newest k + 1 - length (sym is.versions k))) 0);
       };
 }
+
+-- where a refused arranging leaves the store sound, it keeps what it kept
+pub kept_refused : (found : Found) (space : Allotment) (fault : ReadFault) (worn : Bool) → (worn ≡ true) ↔ (fault ≡ DiskFault) → ButDiskFault {T = Unit {0}} (Err fault) (IsAllotted found space) → IsKept found space worn
+kept_refused found space DiskFault worn is left = record { count = λ sound. not_both (is.1 refl) sound; owners = λ sound. not_both (is.1 refl) sound }
+kept_refused found space (Damaged damage) worn is left = record { count = λ sound. left.count; owners = λ sound. left.owners }
+kept_refused found space OutOfMemory worn is left = record { count = λ sound. left.count; owners = λ sound. left.owners }
 
 -- a store that waits has two versions
 pub waits_with_two : (found : Found) → IsTrue (obeys found.sizes found.catalogue) → (found.catalogue.phase ≡ Settled → ⊥) → 2 ≤ retained_in found.catalogue

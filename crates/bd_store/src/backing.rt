@@ -43,7 +43,6 @@ impl Store {
         ensures store { Readies self.old self.new result }
         ensures told { D.tells → ReadiesOn self.old.held self.old.found self.new.found (D.history disk.old) (D.history disk.new) result }
     {
-        let _shape = self.catalog.shape();
         let neighbour = match newest_recipe(self.alloc, disk, &self.catalog) {
             Ok(neighbour) => neighbour,
             Err(fault) => {
@@ -123,7 +122,6 @@ impl Store {
         requires newest { D.tells → IsNewestRecipe self.old.found (contents (D.history disk.old)) neighbour.now.entries }
         ensures follows { Follows D.tells F.tells (attempt (Backup name.now) result (scene D.Disk F.Files self.old disk.old files.old) (scene D.Disk F.Files self.new disk.new files.new)) }
     {
-        let _shape = self.catalog.shape();
         if self.catalog.reserve().is_err() {
             return Err(StoreFault::OutOfMemory);
         }

@@ -20,7 +20,6 @@ impl Store {
         requires opened { IsOpenOn D.Disk self.old disk.old }
         ensures meets { (beside : Beside) → Meets D.tells (Unit {0}) (attempt Expire result (scene_beside D.Disk beside self.old disk.old) (scene_beside D.Disk beside self.new disk.new)) }
     {
-        let _shape = self.catalog.shape();
         let retained = self.catalog.retained();
         if retained == 0 {
             return Ok(Answer::NothingRetained { asked: None });
@@ -49,7 +48,6 @@ impl Store {
         requires opened { IsOpenOn D.Disk self.old disk.old }
         ensures meets { (beside : Beside) → Meets D.tells (Unit {0}) (attempt Expire result (scene_beside D.Disk beside self.old disk.old) (scene_beside D.Disk beside self.new disk.new)) }
     {
-        let _shape = self.catalog.shape();
         let version = self.catalog.newest() - (self.catalog.retained() - 1);
         let extents = drop_volume(&self.catalog);
         let named = self.catalog.commit(disk, &mut self.space, Step::Expire);

@@ -11,7 +11,6 @@ use std::alloc::{AllocError as OutOfMemory, Global};
 pub(crate) fn lines_of(alloc: Global, catalog: &Catalog) -> Result<VersionLines, OutOfMemory>
     ensures { IfOk result (λ lines. lines.items ≡ lines_from (oldest_in catalog.now.found.catalogue) catalog.now.found.catalogue.versions) }
 {
-    let _shape = catalog.shape();
     let retained = catalog.retained();
     let oldest = u64::from(catalog.newest()) + 1 - u64::from(retained);
     let mut lines = VersionLines::new(alloc);

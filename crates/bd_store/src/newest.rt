@@ -31,7 +31,6 @@ pub(crate) fn newest_recipe<D: Disk>(
     ensures places { OnOk result (D.tells → ReadsOnly (newest_places catalog.now.found) (D.history disk.old) (D.history disk.new)) }
     ensures seen { IfDamaged result (λ damage. D.tells → IsSeen catalog.now.found.sizes catalog.now.found.catalogue (contents (D.history disk.old)) [] damage (D.history disk.old) (D.history disk.new)) }
 {
-    let _shape = catalog.shape();
     if catalog.retained() == 0 {
         let none = Neighbour::of(alloc, Recipe::new(alloc))?;
         return Ok(none);

@@ -104,7 +104,6 @@ impl Store {
         requires opened { IsOpenOn D.Disk self.old disk.old }
         ensures meets { Meets D.tells F.tells (attempt (Restore version name.now) result (scene D.Disk F.Files self.old disk.old files.old) (scene D.Disk F.Files self.new disk.new files.new)) }
     {
-        let _shape = self.catalog.shape();
         let retained = self.catalog.retained();
         let newest = self.catalog.newest();
         if retained == 0 {

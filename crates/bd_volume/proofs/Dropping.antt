@@ -7,8 +7,7 @@ use Rattle.std.proofs.lemmas.List.{length-map, take_more}
 use Rattle.std.proofs.lemmas.List.Folds.{flat_map-map}
 use Rattle.std.proofs.lemmas.List.Sorted.{length_permutation}
 use Rattle.bd_model.proofs.ListLemmas.{left_and, right_and}
-use Rattle.bd_model.specs.Sizes.{Sizes, sizes_of}
-use Rattle.bd_model.specs.declared.shape.Shape.{Shape}
+use Rattle.bd_model.specs.Sizes.{Sizes}
 use Rattle.bd_roll.specs.declared.rows.ActiveCategory.{ActiveCategory}
 use Rattle.bd_roll.specs.declared.rows.ClosedVolume.{ClosedVolume}
 use Rattle.bd_roll.specs.declared.rows.VersionRow.{VersionRow}
@@ -46,13 +45,13 @@ at_most_one f (y ∷ []) few = λ k. f y ++ []
 at_most_one f (y ∷ z ∷ ys) few = absurd (omega (arith, few))
 
 -- no more go than there are
-pub few_expired : (shape : Shape) (s : Sizes) (c : Catalogue) → sizes_of shape ≡ s → IsTrue (obeys s c) → length (expired c) < 2 ^ 64
-few_expired shape s c same rules =
+pub few_expired : (s : Sizes) (c : Catalogue) → s.extents ≤ 65536 → IsTrue (obeys s c) → length (expired c) < 2 ^ 64
+few_expired s c bounded rules =
     let extents : extents_hold s c ≡ true = (rules_of s c rules).extents in
     let below : Bool = list_all (λ n. nat_lt n s.extents) (all_extents c) in
     let all : length (all_extents c) ≤ s.extents = count_of s.extents (all_extents c) (left_and below (all_differ (all_extents c)) extents) (right_and below (all_differ (all_extents c)) extents) in
     let gone : length (all_extents (after_expire c) ++ expired c) ≡ length (all_extents c ++ []) = length_permutation (all_extents c ++ []) (all_extents (after_expire c) ++ expired c) (own-expire c) in
-    omega (arith, shape.in_range.extents_high, ap (λ (t : Sizes). t.extents) same, all, gone, length-append (all_extents (after_expire c)) (expired c), length-append (all_extents c) [])
+    omega (arith, bounded, all, gone, length-append (all_extents (after_expire c)) (expired c), length-append (all_extents c) [])
 
 module _ (s : Sizes) (c : Catalogue) (rules : IsTrue (obeys s c)) (some : 1 ≤ retained_in c) (rows : List VersionRow) (v : VersionRow) (are : map version_entry rows ≡ c.versions) (is : v ≡ get_or rows 0 v) where
   abbrev versions : List ℕ

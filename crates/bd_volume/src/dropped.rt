@@ -24,7 +24,6 @@ pub fn drop_volume(catalog: &Catalog) -> u64
     requires { 1 ≤ retained_in catalog.now.found.catalogue }
     ensures { result ≡ length (expired catalog.now.found.catalogue) }
 {
-    let _shape = catalog.shape();
     let recipe = catalog.versions()[0].recipe.len() as u64;
     if let Some(volume) = catalog.volumes().first() {
         return recipe + volume.extents.len() as u64;

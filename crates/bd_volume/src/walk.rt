@@ -110,8 +110,6 @@ pub fn front(alloc: Global, catalog: &Catalog, version: u32) -> Result<Pieces, O
     requires newest { version ≤ catalog.now.found.catalogue.newest }
     ensures { IfOk result (λ pieces. map (place_of catalog.now.found.catalogue) pieces.items ≡ walk catalog.now.found.catalogue version) }
 {
-    // The catalogue obeys the rules for it.
-    let _shape = catalog.shape();
     let count = rows_ahead(catalog, version).ok_or(OutOfMemory)?;
     let mut pieces = Pieces::new(alloc);
     pieces.reserve(count)?;

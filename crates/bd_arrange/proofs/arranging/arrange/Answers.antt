@@ -10,7 +10,7 @@ use Rattle.bd_catalog.specs.Agreement.{Agrees}
 use Rattle.bd_catalog.specs.Opening.{Found}
 use Rattle.bd_roll.specs.Rules.{obeys}
 use Rattle.bd_catalog.proofs.Committing.{number-small}
-use Rattle.bd_roll.proofs.Obeying.{IsBounded, bounded_of}
+use Rattle.bd_roll.proofs.Obeying.{IsBounded, bounded_in}
 use Rattle.bd_recipe.specs.Reading.{recipe_found}
 use Rattle.bd_recipe.specs.declared.fault.ReadFault.{ReadFault}
 use Rattle.bd_recipe.specs.declared.fault.ReadFault.TheVariants.{OutOfMemory}
@@ -55,8 +55,8 @@ name_all-requires-clause-fits g c =
     let found : Found = c.reserve.new.self.found in
     let same : found ≡ c.args.catalog.now.found = c.reserve.ensures.found in
     let waits : found.catalogue.phase ≢ Settled = subst (λ (f : Found). f.catalogue.phase ≢ Settled) (sym same) (λ settled. c.in_default.not-Settled (c.phase.ensures ∙ settled)) in
-    let rules : IsTrue (obeys found.sizes found.catalogue) = subst (λ (f : Found). IsTrue (obeys f.sizes f.catalogue)) (sym same) c.shape-shape.ensures.rules in
-    let bounded : IsBounded found.sizes = subst (λ (f : Found). IsBounded f.sizes) (sym same) (subst IsBounded c.shape-shape.ensures.sizes (bounded_of c.shape-shape.result)) in
+    let rules : IsTrue (obeys found.sizes found.catalogue) = c.reserve.new.self.rules in
+    let bounded : IsBounded found.sizes = bounded_in found.sizes c.reserve.new.self.shaped in
     let u = c.in-Ok.ensures.arranged in
     fits_desk found.sizes found.catalogue u.splits c.arrange_all.new.desk bounded rules waits u.has u.may u.ascend
 

@@ -38,8 +38,8 @@ returns c =
     let vs : List ClosedVolume = c.volumes-volumes.result.now in
     let v : ClosedVolume = c.index-volumes-volumes.result in
     let count : length vs ≡ length cat.volumes = sym (length-map vs volume_entry) ∙ ap length c.volumes-volumes.ensures in
-    let some : 1 ≤ length cat.volumes = waiting_volume found.sizes cat c.shape-shape.ensures.rules c.requires.waits in
-    let numbers : NumbersHold found.sizes cat = numbers_of found.sizes cat (rules_of found.sizes cat c.shape-shape.ensures.rules).numbers in
+    let some : 1 ≤ length cat.volumes = waiting_volume found.sizes cat c.args.catalog.now.rules c.requires.waits in
+    let numbers : NumbersHold found.sizes cat = numbers_of found.sizes cat (rules_of found.sizes cat c.args.catalog.now.rules).numbers in
     let is : IsLast vs v = last_at vs (length vs - 1) v (omega (arith, count, some)) c.index-volumes-volumes.is in
     let oldest : c.newest.result - length vs ≡ oldest_in cat = omega (arith, c.newest.ensures, count, numbers.volumes, numbers.base, some) in
     begun cat v.rows.items v.extents.numbers (c.newest.result - length vs) (is.rows ∙ ap last_rows c.volumes-volumes.ensures) (is.extents ∙ ap last_extents c.volumes-volumes.ensures) oldest c.new.result

@@ -32,7 +32,7 @@ stage-requires-clause-staging g c =
     let terms : Terms = record { shape = c.shape.result; gear = c.args.gear; neighbour = c.args.neighbour; version = c.newest.result + 1; free = c.free.result } in
     begin_staging (given terms) (all_extents c.args.catalog.now.found.catalogue) c.args.space.now c.in_ok-staging.staging (omega (arith, c.shape.result.in_range.extent_low))
     (c.in_ok-staging.ensures.taken (given terms) (sym (c.len.ensures ∙ ap length c.entries.ensures.entries))) c.in_ok-staging.ensures.recipe c.in_ok-staging.ensures.fresh c.in_ok-staging.ensures.entries c.in_ok-staging.ensures.records c.requires.owners
-    (c.requires.size ∙ ap (λ (s : Sizes). s.extents) (sym c.shape.ensures.sizes)) c.free.ensures
+    (c.requires.size ∙ ap (λ (s : Sizes). s.extents) (sym c.shape.ensures)) c.free.ensures
 
 pub stage-requires-clause-nothing : goal.stage-requires-clause-nothing
 stage-requires-clause-nothing g c = λ image.
@@ -42,8 +42,8 @@ stage-requires-clause-nothing g c = λ image.
 pub stage-requires-clause-sums : goal.stage-requires-clause-sums
 stage-requires-clause-sums g c =
     let catalogue = c.args.catalog.now.found.catalogue in
-    let sizes = c.shape.ensures.sizes in
-    recipe_fits c.shape.result catalogue c.args.neighbour.now.entries (ap (λ s. obeys s catalogue) sizes ∙ c.shape.ensures.rules) (subst (λ s. IsRecipeOrNone s catalogue c.args.neighbour.now.entries) (sym sizes) c.requires.entries)
+    let sizes = c.shape.ensures in
+    recipe_fits c.shape.result catalogue c.args.neighbour.now.entries (ap (λ s. obeys s catalogue) sizes ∙ c.args.catalog.now.rules) (subst (λ s. IsRecipeOrNone s catalogue c.args.neighbour.now.entries) (sym sizes) c.requires.entries)
 
 pub finished-requires : goal.finished-requires
 finished-requires g c =
@@ -66,7 +66,7 @@ pub returns-in-Err-clause-disk : goal.returns-in-Err-clause-disk
 returns-in-Err-clause-disk g c =
     let base = all_extents c.args.catalog.now.found.catalogue in
     let owns = c.stage.ensures.grows.owners base c.args.space.now (first_owns base c.args.space.now c.in_ok-staging.staging c.in_ok-staging.ensures.recipe c.in_ok-staging.ensures.fresh c.requires.owners) in
-    subst (λ s. Writes g.D.Disk (InFree s c.args.space.now) c.args.disk.now c.stage.new.disk) c.shape.ensures.sizes
+    subst (λ s. Writes g.D.Disk (InFree s c.args.space.now) c.args.disk.now c.stage.new.disk) c.shape.ensures
     (in_free (sizes_of c.shape.result) base c.args.space.now c.stage.new.space c.stage.new.staging.recipe.numbers c.stage.new.staging.fresh.numbers owns c.stage.ensures.disk)
 
 pub returns-in-Err-clause-counted : goal.returns-in-Err-clause-counted
@@ -75,7 +75,7 @@ returns-in-Err-clause-counted g c = λ t stream holds.
     let old = c.args.neighbour.now.entries in
     let s = sizes_of c.shape.result in
     let held = held_count c.args.space.now in
-    subst (λ z. RefusesVersion z old (found.catalogue.newest + 1) (chunks (cut_in z) stream) (free_count c.args.space.now) held c.in-Err.fault) c.shape.ensures.sizes
+    subst (λ z. RefusesVersion z old (found.catalogue.newest + 1) (chunks (cut_in z) stream) (free_count c.args.space.now) held c.in-Err.fault) c.shape.ensures
     (subst (λ n. RefusesVersion s old (n + 1) (chunks (cut_in s) stream) (free_count c.args.space.now) held c.in-Err.fault) c.newest.ensures
     (subst (λ n. RefusesVersion s old (c.newest.result + 1) (chunks (cut_in s) stream) n held c.in-Err.fault) c.free.ensures
     (c.in-Err.ensures.refused t stream holds)))
@@ -84,7 +84,7 @@ pub returns-in-Ok-clause-disk : goal.returns-in-Ok-clause-disk
 returns-in-Ok-clause-disk g c =
     let base = all_extents c.args.catalog.now.found.catalogue in
     let owns = c.stage.ensures.grows.owners base c.args.space.now (first_owns base c.args.space.now c.in_ok-staging.staging c.in_ok-staging.ensures.recipe c.in_ok-staging.ensures.fresh c.requires.owners) in
-    subst (λ s. Writes g.D.Disk (InFree s c.args.space.now) c.args.disk.now c.stage.new.disk) c.shape.ensures.sizes
+    subst (λ s. Writes g.D.Disk (InFree s c.args.space.now) c.args.disk.now c.stage.new.disk) c.shape.ensures
     (in_free (sizes_of c.shape.result) base c.args.space.now c.stage.new.space c.stage.new.staging.recipe.numbers c.stage.new.staging.fresh.numbers owns c.stage.ensures.disk)
 
 pub returns-in-Ok-clause-space : goal.returns-in-Ok-clause-space
@@ -108,11 +108,11 @@ returns-in-Ok-clause-fits g c = λ room.
     let base = all_extents c.args.catalog.now.found.catalogue in
     let found = c.args.catalog.now.found in
     let staged = c.finished.result in
-    let sizes = c.shape.ensures.sizes in
+    let sizes = c.shape.ensures in
     let owns = c.stage.ensures.grows.owners base c.args.space.now (first_owns base c.args.space.now c.in_ok-staging.staging c.in_ok-staging.ensures.recipe c.in_ok-staging.ensures.fresh c.requires.owners) in
     subst (λ s. FitsBackup s found.catalogue (version_entry staged.version) (fresh_entries staged.fresh)) sizes
     (version_fits terms found.catalogue base c.args.space.now c.stage.new.space c.stage.new.staging staged
-    (ap (λ s. obeys s found.catalogue) sizes ∙ c.shape.ensures.rules) (subst (λ (s : Sizes). retained_in found.catalogue < s.retain) (sym sizes) room) c.requires.number (ap (λ n. n + 1) c.newest.ensures) c.in-Ok.ensures.staging (λ k. base)
+    (ap (λ s. obeys s found.catalogue) sizes ∙ c.args.catalog.now.rules) (subst (λ (s : Sizes). retained_in found.catalogue < s.retain) (sym sizes) room) c.requires.number (ap (λ n. n + 1) c.newest.ensures) c.in-Ok.ensures.staging (λ k. base)
     (c.requires.size ∙ ap (λ (s : Sizes). s.extents) (sym sizes)) owns c.finished.ensures.version c.finished.ensures.entries c.finished.ensures.extents)
 
 pub returns-in-Ok-clause-counted : goal.returns-in-Ok-clause-counted
@@ -123,7 +123,7 @@ returns-in-Ok-clause-counted g c = λ t stream holds.
     let s = sizes_of c.shape.result in
     let staged = c.finished.result in
     let whole = c.in-Ok.ensures.whole t stream holds in
-    subst (λ z. IsVersion z old (found.catalogue.newest + 1) stream (chunks (cut_in z) stream) (free_count c.args.space.now) staged) c.shape.ensures.sizes
+    subst (λ z. IsVersion z old (found.catalogue.newest + 1) stream (chunks (cut_in z) stream) (free_count c.args.space.now) staged) c.shape.ensures
     (subst (λ n. IsVersion s old (n + 1) stream (chunks (cut_in s) stream) (free_count c.args.space.now) staged) c.newest.ensures
     (subst (λ n. IsVersion s old (c.newest.result + 1) stream (chunks (cut_in s) stream) n staged) c.free.ensures
     (version_counted terms c.stage.new.space stream c.stage.new.staging staged c.in-Ok.need c.in-Ok.ensures.staging whole.1 whole.0
@@ -138,7 +138,7 @@ returns-in-Ok-clause-stored g c = λ told t stream holds.
     let staged = c.finished.result in
     let image = contents (g.D.Disk.history c.stage.new.disk) in
     let whole = c.in-Ok.ensures.whole t stream holds in
-    subst (λ z. HoldsVersion z old (found.catalogue.newest + 1) (chunks (cut_in z) stream) staged image) c.shape.ensures.sizes
+    subst (λ z. HoldsVersion z old (found.catalogue.newest + 1) (chunks (cut_in z) stream) staged image) c.shape.ensures
     (subst (λ n. HoldsVersion s old (n + 1) (chunks (cut_in s) stream) staged image) c.newest.ensures
     (version_stored (given terms) (chunks (cut_in s) stream) c.stage.new.staging staged image (whole.2 told)
     c.finished.ensures.version c.finished.ensures.extents))

@@ -1,4 +1,4 @@
-use Rattle.std.proofs.Common.{◌∙◌, arith}
+use Rattle.std.proofs.Common.{◌∙◌}
 use Rattle.bd_model.specs.Records.{spelled_entry}
 use Rattle.bd_recipe.proofs.Spelling.{overwritten_whole}
 use Rattle.bd_recipe.proofs.entry.entry_bytes.Goals as goal

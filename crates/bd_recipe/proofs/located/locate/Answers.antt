@@ -6,4 +6,4 @@ pub returns : goal.returns
 returns c =
     let found = c.args.catalog.now.found in
     located found.sizes found.catalogue c.args.version c.shape.result c.version.result c.unwrap-row.result c.numbers.result.now c.of.result (omega arith)
-    c.shape.ensures.sizes c.shape.ensures.rules c.version.ensures.row c.unwrap-row.ensures c.numbers.ensures c.of.ensures
+    c.shape.ensures c.args.catalog.now.rules c.version.ensures.row c.unwrap-row.ensures c.numbers.ensures c.of.ensures

@@ -22,7 +22,7 @@ use Rattle.bd_catalog.specs.Steps.{catalogue_calls, InOtherHalf, LeavesBeside, S
 use Rattle.bd_catalog.proofs.Committing.{other-beside, other-next, is-made, leaves-either}
 use Rattle.bd_catalog.proofs.Framing.{length-written_back}
 use Rattle.bd_roll.proofs.Lengths.{length-spelled}
-use Rattle.bd_roll.proofs.Obeying.{IsBounded, bounded_of}
+use Rattle.bd_roll.proofs.Obeying.{IsBounded, bounded_in, bounded_of}
 use Rattle.bd_catalog.proofs.catalog.Catalog.commit.Goals as goal
 
 pub write_beside-requires-clause-ready : goal.write_beside-requires-clause-ready
@@ -40,17 +40,16 @@ write_beside-requires-clause-next g c = λ told.
 pub log_place-self-inside-requires-clause-fits : goal.log_place-self-inside-requires-clause-fits
 log_place-self-inside-requires-clause-fits g c =
     let s = sizes_of c.self.inside.shape in
-    omega (arith, ap (λ (h : Half). h.length) c.in_ok-half.ensures.half, length-spelled s (bounded_of c.self.inside.shape) (catalogue_of_contents c.self.inside.contents) c.self.invariant.obeys_rules)
+    omega (arith, ap (λ (h : Half). h.length) c.in_ok-half.ensures.half, length-spelled s (bounded_of c.self.inside.shape) (catalogue_of_contents c.self.inside.contents) c.self.inside.rules)
 
 pub invariant_of-self-2 : goal.invariant_of-self-2
 invariant_of-self-2 g c =
     let s = sizes_of c.self.inside.shape in
-    let fits = length-spelled s (bounded_of c.self.inside.shape) (catalogue_of_contents c.self.inside.contents) c.self.invariant.obeys_rules in
+    let fits = length-spelled s (bounded_of c.self.inside.shape) (catalogue_of_contents c.self.inside.contents) c.self.inside.rules in
     let number : c.in_ok-half.half.number ≡ 1 - c.self.inside.half.number = ap (λ (h : Half). h.number) c.in_ok-half.ensures.half in
     let turn : c.in_ok-half.half.turn ≡ (c.self.inside.half.turn + 1) % 3 = ap (λ (h : Half). h.turn) c.in_ok-half.ensures.half in
     let size : c.in_ok-half.half.length ≡ length (spelled (catalogue_of_contents c.self.inside.contents)) = ap (λ (h : Half). h.length) c.in_ok-half.ensures.half in
     record {
-      obeys_rules = c.self.invariant.obeys_rules;
       place = record {
         number = omega (arith, number);
         turn = omega (arith, turn, mod-lt (c.self.inside.half.turn + 1) {m = 3} (omega arith));
@@ -77,8 +76,8 @@ returns-in_err-half-clause-either g c = λ told.
     let old : History = g.D.Disk.history c.args.disk.now in
     let new : History = g.D.Disk.history c.write_beside.new.disk in
     let same = ap (λ (l : Ledger). l.found) c.self.view_is ∙ c.make.ensures.found in
-    let bounded : IsBounded found.sizes = subst (λ (f : Found). IsBounded f.sizes) same (bounded_of c.self.inside.shape) in
-    let rules : IsTrue (obeys found.sizes after) = subst (λ (f : Found). IsTrue (obeys f.sizes f.catalogue)) same c.self.invariant.obeys_rules in
+    let bounded : IsBounded found.sizes = bounded_in found.sizes c.args.self.now.shaped in
+    let rules : IsTrue (obeys found.sizes after) = subst (λ (f : Found). IsTrue (obeys f.sizes f.catalogue)) same c.self.inside.rules in
     leaves-either found old (c.requires.agrees told) after bounded rules new
     (subst (λ (f : Found). WritesOnly (InOtherHalf f) old new) same (written c.write_beside.ensures.disk told))
     (subst (λ (f : Found). StopsBeside f.sizes f.half f.catalogue old new) same (c.write_beside.ensures.stops told))
@@ -95,8 +94,8 @@ returns-clause-either g c = λ told.
     let old : History = g.D.Disk.history c.args.disk.now in
     let new : History = g.D.Disk.history c.write_beside.new.disk in
     let same = ap (λ (l : Ledger). l.found) c.self.view_is ∙ c.make.ensures.found in
-    let bounded : IsBounded found.sizes = subst (λ (f : Found). IsBounded f.sizes) same (bounded_of c.self.inside.shape) in
-    let rules : IsTrue (obeys found.sizes after) = subst (λ (f : Found). IsTrue (obeys f.sizes f.catalogue)) same c.self.invariant.obeys_rules in
+    let bounded : IsBounded found.sizes = bounded_in found.sizes c.args.self.now.shaped in
+    let rules : IsTrue (obeys found.sizes after) = subst (λ (f : Found). IsTrue (obeys f.sizes f.catalogue)) same c.self.inside.rules in
     leaves-either found old (c.requires.agrees told) after bounded rules new
     (subst (λ (f : Found). WritesOnly (InOtherHalf f) old new) same (written c.write_beside.ensures.disk told))
     (subst (λ (f : Found). StopsBeside f.sizes f.half f.catalogue old new) same (c.write_beside.ensures.stops told))
@@ -108,8 +107,8 @@ returns-clause-done g c = λ told.
     let old : History = g.D.Disk.history c.args.disk.now in
     let new : History = g.D.Disk.history c.write_beside.new.disk in
     let same = ap (λ (l : Ledger). l.found) c.self.view_is ∙ c.make.ensures.found in
-    let bounded : IsBounded found.sizes = subst (λ (f : Found). IsBounded f.sizes) same (bounded_of c.self.inside.shape) in
-    let rules : IsTrue (obeys found.sizes after) = subst (λ (f : Found). IsTrue (obeys f.sizes f.catalogue)) same c.self.invariant.obeys_rules in
+    let bounded : IsBounded found.sizes = bounded_in found.sizes c.args.self.now.shaped in
+    let rules : IsTrue (obeys found.sizes after) = subst (λ (f : Found). IsTrue (obeys f.sizes f.catalogue)) same c.self.inside.rules in
     is-made found old (c.requires.agrees told) after bounded rules new
     (subst (λ (f : Found). Makes (catalogue_calls f f.catalogue) old new) same (c.in_ok-half.ensures.calls told))
     (subst (λ (f : Found). LeavesBeside f.sizes f.half f.catalogue old new) same (c.in_ok-half.ensures.done told))

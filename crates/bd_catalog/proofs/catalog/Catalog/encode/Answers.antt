@@ -8,14 +8,14 @@ use Rattle.bd_catalog.proofs.catalog.Catalog.encode.Goals as goal
 
 pub put_contents-requires-clause-fits : goal.put_contents-requires-clause-fits
 put_contents-requires-clause-fits c =
-    spellable (sizes_of c.self.inside.shape) (bounded_of c.self.inside.shape) (catalogue_of_contents c.self.inside.contents) c.self.invariant.obeys_rules
+    spellable (sizes_of c.self.inside.shape) (bounded_of c.self.inside.shape) (catalogue_of_contents c.self.inside.contents) c.self.inside.rules
 
 pub put_contents-requires-clause-room : goal.put_contents-requires-clause-room
 put_contents-requires-clause-room c =
     let same = ap (λ (l : Ledger). payload_room l.found.sizes) c.self.view_is in
-    omega (arith, c.requires, length-spelled (sizes_of c.self.inside.shape) (bounded_of c.self.inside.shape) (catalogue_of_contents c.self.inside.contents) c.self.invariant.obeys_rules)
+    omega (arith, c.requires, length-spelled (sizes_of c.self.inside.shape) (bounded_of c.self.inside.shape) (catalogue_of_contents c.self.inside.contents) c.self.inside.rules)
 
 pub returns-clause-room : goal.returns-clause-room
 returns-clause-room c =
     let same = ap (λ (l : Ledger). payload_room l.found.sizes) c.self.view_is in
-    omega (arith, c.put_contents.ensures.behind, length-spelled (sizes_of c.self.inside.shape) (bounded_of c.self.inside.shape) (catalogue_of_contents c.self.inside.contents) c.self.invariant.obeys_rules)
+    omega (arith, c.put_contents.ensures.behind, length-spelled (sizes_of c.self.inside.shape) (bounded_of c.self.inside.shape) (catalogue_of_contents c.self.inside.contents) c.self.inside.rules)

@@ -21,19 +21,15 @@ pub expire-requires-clause-sums : goal.expire-requires-clause-sums
 expire-requires-clause-sums c =
     let s : Sizes = sizes_of c.self.inside.shape in
     let contents = c.self.inside.contents in
-    all_sums_fit s (bounded_of c.self.inside.shape) contents.volumes.items (rules_of s (catalogue_of_contents contents) c.self.invariant.obeys_rules).volumes
+    all_sums_fit s (bounded_of c.self.inside.shape) contents.volumes.items (rules_of s (catalogue_of_contents contents) c.self.inside.rules).volumes
 
-pub invariant_of-self-in-Expire : goal.invariant_of-self-in-Expire
-invariant_of-self-in-Expire c =
+pub invariant_of-self-inside-in-Expire : goal.invariant_of-self-inside-in-Expire
+invariant_of-self-inside-in-Expire c =
     let s : Sizes = sizes_of c.self.inside.shape in
     let d : Catalogue = catalogue_of_contents c.self.inside.contents in
     let same = ap (λ (l : Ledger). l.found) c.self.view_is in
     let fits : FitsExpire d = subst (λ (f : Found). FitsExpire f.catalogue) (sym same) (subst (λ step. Fits c.args.self.now.found.sizes c.args.self.now.found.catalogue step) c.in-Expire.is c.requires.fits) in
-    record {
-      obeys_rules = subst (λ e. obeys s e ≡ true) (sym c.expire.ensures.catalogue) (expired_rules s (bounded_of c.self.inside.shape) d c.self.invariant.obeys_rules fits);
-      place = c.self.invariant.place;
-      frame = c.self.invariant.frame;
-    }
+    (subst (λ e. obeys s e ≡ true) (sym c.expire.ensures.catalogue) (expired_rules s (bounded_of c.self.inside.shape) d c.self.inside.rules fits), tt)
 
 pub arrange-requires-clause-room : goal.arrange-requires-clause-room
 arrange-requires-clause-room c =
@@ -48,10 +44,10 @@ arrange-requires-clause-room c =
     let room : HasRoom c.args.self.now = subst (λ step. NeedsRoom step → HasRoom c.args.self.now) c.in-Arrange.is c.requires.reserved tt in
     let made : RoomIs s.extents c.self.inside.contents =
     subst (λ n. IsRoom s.extents n (room_of c.self.inside.contents)) (length-map c.self.inside.contents.volumes.items volume_entry) (subst HasRoom (sym c.self.view_is) room) in
-    let some : 1 ≤ length d.volumes = waiting_volume s d c.self.invariant.obeys_rules fits.waits in
+    let some : 1 ≤ length d.volumes = waiting_volume s d c.self.inside.rules fits.waits in
     omega (
       arith,
-      few_added s (bounded_of c.self.inside.shape) d rows added es c.self.invariant.obeys_rules fits,
+      few_added s (bounded_of c.self.inside.shape) d rows added es c.self.inside.rules fits,
       made.extents (omega (arith, some, length-map c.self.inside.contents.volumes.items volume_entry)),
     )
 
@@ -65,7 +61,7 @@ arrange-requires-clause-splits c =
     let same = ap (λ (l : Ledger). l.found) c.self.view_is in
     let fits : FitsArrange s d rows added es =
     subst (λ (f : Found). FitsArrange f.sizes f.catalogue rows added es) (sym same) (subst (λ step. Fits c.args.self.now.found.sizes c.args.self.now.found.catalogue step) c.in-Arrange.is c.requires.fits) in
-    fit_splits s d rows added es c.self.invariant.obeys_rules fits
+    fit_splits s d rows added es c.self.inside.rules fits
 
 -- ---- what is owned
 
@@ -73,7 +69,7 @@ pub expire-requires-clause-owned : goal.expire-requires-clause-owned
 expire-requires-clause-owned c =
     let found : Found = c.args.self.now.found in
     let same = ap (λ (l : Ledger). l.found) c.self.view_is in
-    let rules : obeys found.sizes found.catalogue ≡ true = subst (λ (f : Found). obeys f.sizes f.catalogue ≡ true) same c.self.invariant.obeys_rules in
+    let rules : obeys found.sizes found.catalogue ≡ true = c.args.self.now.rules in
     let owned : AreOwned c.args.space.now (dropped found.catalogue c.args.step) = step_owned found.sizes found.catalogue c.args.step c.args.space.now rules c.requires.fits c.requires.owners in
     subst (λ (f : Found). AreOwned c.args.space.now (expired f.catalogue)) (sym same) (subst (λ step. AreOwned c.args.space.now (dropped found.catalogue step)) c.in-Expire.is owned)
 
@@ -82,7 +78,7 @@ arrange-requires-clause-owned c =
     let found : Found = c.args.self.now.found in
     let es = map kept_entry c.in-Arrange.splits.items in
     let same = ap (λ (l : Ledger). l.found) c.self.view_is in
-    let rules : obeys found.sizes found.catalogue ≡ true = subst (λ (f : Found). obeys f.sizes f.catalogue ≡ true) same c.self.invariant.obeys_rules in
+    let rules : obeys found.sizes found.catalogue ≡ true = c.args.self.now.rules in
     let owned : AreOwned c.args.space.now (dropped found.catalogue c.args.step) = step_owned found.sizes found.catalogue c.args.step c.args.space.now rules c.requires.fits c.requires.owners in
     subst (λ (f : Found). AreOwned c.args.space.now (replaced es f.catalogue.actives)) (sym same) (subst (λ step. AreOwned c.args.space.now (dropped found.catalogue step)) c.in-Arrange.is owned)
 
@@ -90,7 +86,7 @@ pub returns-in-Backup-clause-owners : goal.returns-in-Backup-clause-owners
 returns-in-Backup-clause-owners c =
     let found : Found = c.args.self.now.found in
     let same = ap (λ (l : Ledger). l.found) c.self.view_is in
-    let rules : obeys found.sizes found.catalogue ≡ true = subst (λ (f : Found). obeys f.sizes f.catalogue ≡ true) same c.self.invariant.obeys_rules in
+    let rules : obeys found.sizes found.catalogue ≡ true = c.args.self.now.rules in
     let gives : GivesUp (dropped found.catalogue c.args.step) c.args.space.now c.args.space.now = subst (λ step. GivesUp (dropped found.catalogue step) c.args.space.now c.args.space.now) (sym c.in-Backup.is) (gives_none c.args.space.now) in
     step_owners found.sizes found.catalogue c.args.step c.args.space.now c.args.space.now rules c.requires.fits c.requires.owners gives
 
@@ -98,7 +94,7 @@ pub returns-in-Expire-clause-owners : goal.returns-in-Expire-clause-owners
 returns-in-Expire-clause-owners c =
     let found : Found = c.args.self.now.found in
     let same = ap (λ (l : Ledger). l.found) c.self.view_is in
-    let rules : obeys found.sizes found.catalogue ≡ true = subst (λ (f : Found). obeys f.sizes f.catalogue ≡ true) same c.self.invariant.obeys_rules in
+    let rules : obeys found.sizes found.catalogue ≡ true = c.args.self.now.rules in
     let old = c.args.space.now in
     let new = c.expire.new.space in
     let gives : GivesUp (dropped found.catalogue c.args.step) old new =
@@ -110,7 +106,7 @@ returns-in-Arrange-clause-owners c =
     let found : Found = c.args.self.now.found in
     let es = map kept_entry c.in-Arrange.splits.items in
     let same = ap (λ (l : Ledger). l.found) c.self.view_is in
-    let rules : obeys found.sizes found.catalogue ≡ true = subst (λ (f : Found). obeys f.sizes f.catalogue ≡ true) same c.self.invariant.obeys_rules in
+    let rules : obeys found.sizes found.catalogue ≡ true = c.args.self.now.rules in
     let old = c.args.space.now in
     let new = c.arrange.new.space in
     let gives : GivesUp (dropped found.catalogue c.args.step) old new =

@@ -19,14 +19,14 @@ pub overflow_sub-row : goal.overflow_sub-row
 overflow_sub-row g c =
     let found = c.args.catalog.now.found in
     let mine : IsRowOf (sizes_of c.shape-shape.result) found.catalogue (place_of found.catalogue c.args.piece) =
-    is_row (sizes_of c.shape-shape.result) found.sizes found.catalogue c.args.self.now.version (place_of found.catalogue c.args.piece) (omega arith) c.shape-shape.ensures.sizes c.shape-shape.ensures.rules c.requires.retained c.requires.numbered c.requires.row in
+    is_row (sizes_of c.shape-shape.result) found.sizes found.catalogue c.args.self.now.version (place_of found.catalogue c.args.piece) (omega arith) c.shape-shape.ensures c.args.catalog.now.rules c.requires.retained c.requires.numbered c.requires.row in
     omega (arith, mine.some)
 
 pub extents_of-requires-clause-owner : goal.extents_of-requires-clause-owner
 extents_of-requires-clause-owner g c =
     let found = c.args.catalog.now.found in
     let mine : IsRowOf (sizes_of c.shape-shape.result) found.catalogue (place_of found.catalogue c.args.piece) =
-    is_row (sizes_of c.shape-shape.result) found.sizes found.catalogue c.args.self.now.version (place_of found.catalogue c.args.piece) (omega arith) c.shape-shape.ensures.sizes c.shape-shape.ensures.rules c.requires.retained c.requires.numbered c.requires.row in
+    is_row (sizes_of c.shape-shape.result) found.sizes found.catalogue c.args.self.now.version (place_of found.catalogue c.args.piece) (omega arith) c.shape-shape.ensures c.args.catalog.now.rules c.requires.retained c.requires.numbered c.requires.row in
     mine.owner
 
 pub run_row-requires-clause-inside : goal.run_row-requires-clause-inside
@@ -34,5 +34,5 @@ run_row-requires-clause-inside g c =
     let found = c.args.catalog.now.found in
     let p = place_of found.catalogue c.args.piece in
     let mine : IsRowOf (sizes_of c.shape-shape.result) found.catalogue p =
-    is_row (sizes_of c.shape-shape.result) found.sizes found.catalogue c.args.self.now.version p (omega arith) c.shape-shape.ensures.sizes c.shape-shape.ensures.rules c.requires.retained c.requires.numbered c.requires.row in
+    is_row (sizes_of c.shape-shape.result) found.sizes found.catalogue c.args.self.now.version p (omega arith) c.shape-shape.ensures c.args.catalog.now.rules c.requires.retained c.requires.numbered c.requires.row in
     subst (λ l. IsInRoom (sizes_of c.shape-shape.result) (row_place c.args.piece.who l c.args.piece.from p.row)) (sym c.extents_of.ensures) mine.inside

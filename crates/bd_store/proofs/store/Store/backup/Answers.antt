@@ -24,7 +24,7 @@ returns-then-retained-retain g c =
     let below : c.args.self.now.found.catalogue.newest < last_number = omega (arith, c.newest.ensures, c.if-newest.false, c.newest.type_inv, ap (λ (s : Shown). s.found.catalogue.newest) c.self.view_is) in
     let count : retained_in c.args.self.now.found.catalogue ≡ c.retained-retained.result = ap (λ (s : Shown). retained_in s.found.catalogue) (sym c.self.view_is) ∙ sym c.retained-retained.ensures in
     let used : retained_in c.args.self.now.found.catalogue ≡ c.args.self.now.found.sizes.retain =
-    count ∙ c.if-retained-retain.true ∙ c.retain.ensures ∙ ap (λ s. s.retain) c.shape-shape.ensures.sizes ∙ ap (λ (s : Shown). s.found.sizes.retain) c.self.view_is in
+    count ∙ c.if-retained-retain.true ∙ c.retain.ensures ∙ ap (λ s. s.retain) c.shape-shape.ensures ∙ ap (λ (s : Shown). s.found.sizes.retain) c.self.view_is in
     record {
       meets = meets_untouched _ _ _ c.requires.opened.sound c.requires.opened.agrees
           (record { cause = refl; has_disk = tt; answer = (ne_eqb _ _ (λ e. absurd (omega (arith, e, below))), eq-eqb _ _ used, sym count ∙ used); versions = same_versions c.args.self.now; settles = tt; figures = tt; reads = refl; damage = tt; recipe = λ damage some is. tt; step = refl; arranging = λ _. inr (tt, record { writes = made_none _ _; step = refl }); finished = tt; transfers = takes_nothing (λ s. tt) tt })

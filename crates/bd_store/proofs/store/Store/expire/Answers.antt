@@ -29,6 +29,6 @@ give_up_oldest-requires-clause-fits g c =
     let fits : FitsExpire found.catalogue =
     elim c.else-retained-eq2.branch [
       | else-retained-eq2-via-then-retained-eq2+else-ne w ↦ let settled : w.phase.result ≡ Settled = search rules in record { some = some; arranged = inl (sym w.phase.ensures ∙ settled) }
-      | else-retained-eq2-via-else-retained-eq2 w ↦ fits_but_two found.sizes found.catalogue c.shape-shape.ensures.rules some (λ two. w.if-retained-eq2.false (c.retained-retained.ensures ∙ two))
+      | else-retained-eq2-via-else-retained-eq2 w ↦ fits_but_two found.sizes found.catalogue c.self.inside.catalog.rules some (λ two. w.if-retained-eq2.false (c.retained-retained.ensures ∙ two))
     ] in
     subst (λ (f : Found). FitsExpire f.catalogue) same fits

@@ -11,7 +11,7 @@ all : (c : After-from) → c.from-free.result + length (all_extents c.self.insid
 all c =
     let found : Found = c.self.inside.catalog.found in
     let sound : c.self.inside.worn ≡ false = ap (λ (s : Shown). s.worn) c.self.view_is ∙ c.requires.sound in
-    let extents : c.shape.result.extents ≡ found.sizes.extents = ap (λ (s : Sizes). s.extents) c.shape.ensures.sizes in
+    let extents : c.shape.result.extents ≡ found.sizes.extents = ap (λ (s : Sizes). s.extents) c.shape.ensures in
     omega (arith, all_counted found c.self.inside.space (c.self.invariant.count sound) (c.self.invariant.owners sound), c.from-free.ensures, c.free.ensures, c.from-held.ensures, c.held.ensures, c.from.ensures, c.extents.ensures, extents)
 
 waiting : (c : After-from) → c.match-phase.waiting ≡ cursor_of c.self.inside.catalog.found.catalogue.phase
@@ -22,7 +22,7 @@ has c =
     subst (λ (s : Shown). HasFigures s (record { owned = c.from.result - c.from-free.result - c.from-held.result; free = c.from-free.result; held = c.from-held.result; waiting = c.match-phase.waiting })) c.self.view_is
     (record {
       owned = omega (arith, all c);
-      free = record { so = omega (arith, all c, c.from-held.ensures, c.held.ensures, c.from.ensures, c.extents.ensures, ap (λ (s : Sizes). s.extents) c.shape.ensures.sizes) };
+      free = record { so = omega (arith, all c, c.from-held.ensures, c.held.ensures, c.from.ensures, c.extents.ensures, ap (λ (s : Sizes). s.extents) c.shape.ensures) };
       held = c.from-held.ensures ∙ c.held.ensures;
       waiting = waiting c;
     })

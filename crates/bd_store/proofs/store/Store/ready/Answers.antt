@@ -1,7 +1,6 @@
 use Rattle.std.proofs.Common.{sym, ap, subst, arith, Ok, Err}
 use Rattle.bd_disk.specs.Runs.{Works}
 use Rattle.bd_disk.proofs.RunLemmas.{both_work}
-use Rattle.bd_model.specs.Sizes.{Sizes}
 use Rattle.bd_space.specs.Allotment.{held_count}
 use Rattle.bd_catalog.specs.Agreement.{Agrees}
 use Rattle.bd_catalog.specs.Opening.{Found}
@@ -9,7 +8,7 @@ use Rattle.bd_arrange.specs.Arranged.{IsSpared}
 use Rattle.bd_store.specs.Readying.{IsReady, ReadiesOn}
 use Rattle.bd_store.specs.Shown.{Shown}
 use Rattle.bd_store.specs.Touches.{InArranging}
-use Rattle.bd_store.proofs.Readying.{agrees_behind, arranged_told, due_ready, reads_ready, recipe_as_before, recipe_behind, unarranged_told, unread_told, waits_with_two}
+use Rattle.bd_store.proofs.Readying.{agrees_behind, arranged_told, due_ready, kept_refused, reads_ready, recipe_as_before, recipe_behind, unarranged_told, unread_told, waits_with_two}
 use Rattle.bd_store.proofs.store.Store.ready.Goals as goal
 
 pub returns-in-Err-clause-disk : goal.returns-in-Err-clause-disk
@@ -33,7 +32,7 @@ pub arrange-requires-clause-newest : goal.arrange-requires-clause-newest
 arrange-requires-clause-newest g c = λ told waiting.
     (recipe_behind g.D.Disk c.self.inside.catalog.found (held_count c.self.inside.space) c.args.disk.now c.newest_recipe.new.disk
     (λ told. subst (λ (s : Shown). Agrees s.found (g.D.Disk.history c.args.disk.now)) (sym c.self.view_is) (c.requires.opened.agrees told)) c.newest_recipe.ensures.disk
-    told (c.in-Ok.ensures.entries told)).some (omega (arith, waits_with_two c.self.inside.catalog.found c.shape-shape.ensures.rules waiting))
+    told (c.in-Ok.ensures.entries told)).some (omega (arith, waits_with_two c.self.inside.catalog.found c.self.inside.catalog.rules waiting))
 
 pub returns-in-Ok-arrange-clause-disk : goal.returns-in-Ok-arrange-clause-disk
 returns-in-Ok-arrange-clause-disk g c =
@@ -57,7 +56,7 @@ returns-in-Ok-arrange-clause-told g c =
     (arranged_told g.D.Disk found (held_count c.self.inside.space) c.args.disk.now c.newest_recipe.new.disk
     (λ told. subst (λ (s : Shown). Agrees s.found (g.D.Disk.history c.args.disk.now)) (sym c.self.view_is) (c.requires.opened.agrees told)) c.newest_recipe.ensures.disk
     c.in-Ok.neighbour c.in-Ok.ensures.entries c.arrange.new.disk mid c.arrange.ensures.disk
-    (omega (arith, c.shape-shape.result.in_range.extent_low, ap (λ (s : Sizes). s.extent) c.shape-shape.ensures.sizes))
+    (omega (arith, c.self.inside.catalog.shaped.extent_low))
     c.in-Ok.ensures.places (λ settled. (c.arrange.ensures.settled settled).1) c.in-Ok-arrange.ensures.found c.in-Ok-arrange.ensures.agrees c.in-Ok-arrange.ensures.answer c.in-Ok-arrange.ensures.states)
 
 pub returns-in-Err-arrange-clause-disk : goal.returns-in-Err-arrange-clause-disk
@@ -74,3 +73,7 @@ returns-in-Err-arrange-clause-told g c =
     (λ told. subst (λ (s : Shown). Agrees s.found (g.D.Disk.history c.args.disk.now)) (sym c.self.view_is) (c.requires.opened.agrees told)) c.newest_recipe.ensures.disk
     c.in-Ok.neighbour c.in-Ok.ensures.entries c.arrange.new.disk mid
     c.in-Err-arrange.fault (λ settled. (c.arrange.ensures.settled settled).1) c.in-Err-arrange.ensures.agrees c.in-Err-arrange.ensures.answer c.in-Err-arrange.ensures.states)
+
+pub invariant_of-self-in-Err-arrange : goal.invariant_of-self-in-Err-arrange
+invariant_of-self-in-Err-arrange g c =
+    kept_refused c.arrange.new.catalog.found c.arrange.new.space c.in-Err-arrange.fault c.is_read_fault-self-inside-in-Err-arrange.result c.is_read_fault-self-inside-in-Err-arrange.ensures c.in-Err-arrange.ensures.space.2
