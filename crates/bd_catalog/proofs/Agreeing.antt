@@ -15,7 +15,7 @@ use Rattle.bd_model.specs.declared.place.Place.TheVariants.{Payload}
 use Rattle.bd_model.proofs.ListLemmas.{same_some}
 use Rattle.bd_gate.specs.Superblock.{open_gate, byte_at, four_at, sizes_at}
 use Rattle.bd_gate.specs.Standing.{Standing, SameStanding, behind}
-use Rattle.bd_gate.specs.Halves.{Half, half_at, newest_half, newest_by, is_open, turn_at, payload_of, log_place}
+use Rattle.bd_gate.specs.Halves.{Half, half_at, newest_half, newest_by, is_open, turn_at, payload_of, log_place, half_of}
 use Rattle.bd_catalog.specs.Agreement.{InExtents}
 use Rattle.bd_roll.specs.Catalogue.{Catalogue}
 use Rattle.bd_roll.specs.Rules.{catalogue_of}
@@ -135,12 +135,7 @@ module _ (s : Sizes) (old new : List ℕ) (agree : Agree (InFront s) old new) wh
   same_newest = λ k. newest_by (same_open 0 (omega arith) k) (same_turn 0 (omega arith) k) (same_open 1 (omega arith) k) (same_turn 1 (omega arith) k)
 
   same_half : (k : ℕ) → k ≤ 1 → half_at s new k ≡ half_at s old k
-  same_half k le = λ i. record {
-    number = k;
-    turn = same_turn k le i;
-    length = from_be_bytes w64 (same_at (half_place s k + 2) 8 (omega (arith, half_within k le)) i);
-    other_open = same_open (1 - k) (omega arith) i;
-  }
+  same_half k le = λ i. half_of k (same_turn k le i) (from_be_bytes w64 (same_at (half_place s k + 2) 8 (omega (arith, half_within k le)) i)) (same_open (1 - k) (omega arith) i)
 
   same_payload : (half : Half) → half.number ≤ 1 → half.length ≤ payload_room s → payload_of s half new ≡ payload_of s half old
   same_payload half le fits = same_at (half_place s half.number + 10) half.length (omega (arith, half_within half.number le))

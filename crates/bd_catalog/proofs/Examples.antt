@@ -1,11 +1,11 @@
 -- The formats on small values, computed.
 use Rattle.std.proofs.Common.{◌≡◌, ℕ, List, [], ◌∷◌, ◌++◌, refl, replicate, map, get_or, Some, None}
 use Rattle.std.specs.List.{range_with_len}
-use Rattle.bd_model.specs.History.{History}
+use Rattle.bd_model.specs.History.{History, no_versions}
 use Rattle.bd_model.specs.Sizes.{Sizes, payload_room, half_bytes, disk_bytes, extent_place}
 use Rattle.bd_model.specs.declared.layout.Phase.TheVariants.{Settled, Waiting}
 use Rattle.bd_gate.specs.Superblock.{superblock}
-use Rattle.bd_roll.specs.Catalogue.{Catalogue, empty_catalogue}
+use Rattle.bd_roll.specs.Catalogue.{Catalogue, empty_catalogue, entry_with}
 use Rattle.bd_roll.specs.Spelling.{spelled}
 use Rattle.bd_roll.specs.Rules.{catalogue_of}
 use Rattle.bd_catalog.specs.Walks.{restore_reads, bodies_read}
@@ -39,7 +39,7 @@ one_version = record {
   base = 0;
   newest = 1;
   phase = Settled;
-  versions = record { length = 12; chunks = 3; fresh = 3; extents = 0 ∷ 1 ∷ [] } ∷ [];
+  versions = entry_with 12 3 3 (0 ∷ 1 ∷ []) ∷ [];
   volumes = [];
   actives = record { row = record { start = 1; chunks = 3; bytes = 120 }; extents = 2 ∷ 3 ∷ [] } ∷ [];
 }
@@ -59,7 +59,7 @@ abbrev abc : List (List ℕ)
 abc = (65 ∷ 65 ∷ 65 ∷ 65 ∷ []) ∷ (66 ∷ 66 ∷ 66 ∷ 66 ∷ []) ∷ (67 ∷ 67 ∷ 67 ∷ 67 ∷ []) ∷ []
 
 abbrev one : History
-one = record { base = 0; versions = abc ∷ []; expired = 0 }
+one = record (no_versions 0) { versions = abc ∷ [] }
 
 -- the 120 bytes of the recipe, then header and body of each chunk
 pub one_reads : restore_reads small one_version one 1 ≡ range_with_len 132870 120 ++ range_with_len 132998 120
@@ -74,7 +74,7 @@ abbrev acd : List (List ℕ)
 acd = (65 ∷ 65 ∷ 65 ∷ 65 ∷ []) ∷ (67 ∷ 67 ∷ 67 ∷ 67 ∷ []) ∷ (68 ∷ 68 ∷ 68 ∷ 68 ∷ []) ∷ []
 
 abbrev two : History
-two = record { base = 0; versions = abc ∷ acd ∷ []; expired = 0 }
+two = record (no_versions 0) { versions = abc ∷ acd ∷ [] }
 
 abbrev two_versions : Catalogue
 two_versions = record {
@@ -82,8 +82,8 @@ two_versions = record {
   newest = 2;
   phase = Waiting 1;
   versions =
-      record { length = 12; chunks = 3; fresh = 3; extents = 0 ∷ 1 ∷ [] }
-      ∷ record { length = 12; chunks = 3; fresh = 1; extents = 4 ∷ 5 ∷ [] } ∷ [];
+      entry_with 12 3 3 (0 ∷ 1 ∷ [])
+      ∷ entry_with 12 3 1 (4 ∷ 5 ∷ []) ∷ [];
   volumes = record { rows = []; extents = [] } ∷ [];
   actives =
       record { row = record { start = 1; chunks = 3; bytes = 120 }; extents = 2 ∷ 3 ∷ [] }
@@ -103,7 +103,7 @@ two_bodies = refl
 
 -- a third version, with the chunk of 66s back
 abbrev three : History
-three = record { base = 0; versions = abc ∷ acd ∷ ((66 ∷ 66 ∷ 66 ∷ 66 ∷ []) ∷ (65 ∷ 65 ∷ 65 ∷ 65 ∷ []) ∷ (68 ∷ 68 ∷ 68 ∷ 68 ∷ []) ∷ []) ∷ []; expired = 0 }
+three = record (no_versions 0) { versions = abc ∷ acd ∷ ((66 ∷ 66 ∷ 66 ∷ 66 ∷ []) ∷ (65 ∷ 65 ∷ 65 ∷ 65 ∷ []) ∷ (68 ∷ 68 ∷ 68 ∷ 68 ∷ []) ∷ []) ∷ [] }
 
 abbrev firsts : List (List ℕ) → List ℕ
 firsts chunks = map (λ c. get_or c 0 0) chunks

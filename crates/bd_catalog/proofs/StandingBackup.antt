@@ -14,7 +14,7 @@ use Rattle.bd_model.specs.Layout.{rows}
 use Rattle.bd_model.specs.Laws.{grown}
 use Rattle.bd_model.specs.Recipe.{recipe}
 use Rattle.bd_model.specs.Room.{fresh, need, reserve_left}
-use Rattle.bd_model.specs.State.{VersionState, IsState, history, cut_of, last_number}
+use Rattle.bd_model.specs.State.{VersionState, IsState, history, cut_of, last_number, plain}
 use Rattle.bd_model.specs.Step.{with_version, version_lines, free_extents}
 use Rattle.bd_model.specs.Records.{records_of, spelled_recipe}
 use Rattle.bd_model.proofs.ListLemmas.{numbers-none}
@@ -32,7 +32,7 @@ use Rattle.bd_catalog.proofs.StandingGrown.{numbers-more, recipes-more, actives-
 -- a version more is a legal state where a number is left
 pub with_version-state : (shape : Shape) (st : VersionState) (stream : List ℕ) → IsState st → newest (history shape st) < last_number → IsState (with_version st stream)
 with_version-state shape st stream state below =
-    let long : length (with_version st stream).versions ≡ length st.versions + 1 = length_push st.versions (record { stream = stream }) in
+    let long : length (with_version st stream).versions ≡ length st.versions + 1 = length_push st.versions (plain stream) in
     record {
       some = inl (⊎_elim (λ lt. omega arith) (λ none. omega arith) state.some);
       numbered = omega (arith, below, length-history shape st);
@@ -190,7 +190,7 @@ backup_stands shape st held stream xs ys old new before after stands opened_old 
     let h : History = history shape st in
     let w : List (List ℕ) = chunks (cut_of shape) stream in
     let c : Catalogue = before.catalogue in
-    let long : length (with_version st stream).versions ≡ length st.versions + 1 = length_push st.versions (record { stream = stream }) in
+    let long : length (with_version st stream).versions ≡ length st.versions + 1 = length_push st.versions (plain stream) in
     let shown : Shows shape st Settled held before old = stands-shows stands opened_old in
     let count : retained_in c ≡ retained h = shown.numbers.retained in
     let at : Phase → Type 0 = λ phase. StandsFor shape (with_version st stream) phase held new in

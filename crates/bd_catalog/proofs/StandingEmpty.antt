@@ -22,11 +22,11 @@ use Rattle.bd_model.specs.State.{empty}
 
 -- the state where nothing is retained and the last number was `base`
 abbrev pub nothing_from : ℕ → VersionState
-nothing_from base = record { base = base; versions = []; expired = 0 }
+nothing_from base = record empty { base = base }
 
 -- its catalogue
 abbrev pub catalogue_from : ℕ → Catalogue
-catalogue_from base = record { base = base; newest = base; phase = Settled; versions = []; volumes = []; actives = [] }
+catalogue_from base = record empty_catalogue { base = base; newest = base }
 
 module _ (shape : Shape) (base : ℕ) where
   abbrev nothing : History

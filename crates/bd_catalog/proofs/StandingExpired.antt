@@ -22,14 +22,14 @@ use Rattle.bd_model.specs.Recipe.{recipe}
 use Rattle.bd_model.specs.Records.{records_of, spelled_recipe}
 use Rattle.bd_model.specs.Sizes.{Sizes, sizes_of}
 use Rattle.bd_model.specs.State.{VersionState, history}
-use Rattle.bd_model.specs.Step.{drop_oldest, expired_extents, Outcome, unchanged, version_line}
+use Rattle.bd_model.specs.Step.{drop_oldest, expired_extents, Outcome, unchanged, version_line, emptied, one_fewer}
 use Rattle.bd_model.proofs.ExpiryLemmas.{expiry_takes_only_the_oldest}
 use Rattle.bd_model.proofs.GrownLemmas.{lines_stay}
 use Rattle.bd_model.proofs.ListLemmas.{not_nil, numbers-cons}
 use Rattle.bd_model.proofs.StepLemmas.{length-history}
 use Rattle.bd_gate.specs.Halves.{InHalves}
 use Rattle.bd_gate.proofs.Kept.{within_halves}
-use Rattle.bd_roll.specs.Catalogue.{Catalogue, VersionEntry, VolumeEntry, all_extents, empty_catalogue, oldest_in, recipe_extents, retained_in, volume_extents}
+use Rattle.bd_roll.specs.Catalogue.{Catalogue, VersionEntry, VolumeEntry, all_extents, emptied_catalogue, oldest_in, recipe_extents, retained_in, volume_extents}
 use Rattle.bd_catalog.specs.Opening.{Found, opened}
 use Rattle.bd_roll.specs.Splitting.{FitsExpire, after_expire, begun_from, expired}
 use Rattle.bd_catalog.specs.Standing.{BeginWith, HasNumbers, HasVersions, HasVolumes, StandsFor, lines_from}
@@ -39,7 +39,7 @@ use Rattle.bd_roll.proofs.GivenUp.{same_tail}
 use Rattle.bd_roll.proofs.Owning.{own-expire}
 use Rattle.bd_catalog.proofs.Standing.{Shows, halves_agree, stands-shows, stands_by_parts}
 use Rattle.bd_catalog.proofs.StandingAnswers.{IsAnswered}
-use Rattle.bd_catalog.proofs.StandingEmpty.{nothing_stands}
+use Rattle.bd_catalog.proofs.StandingEmpty.{nothing_stands, catalogue_from}
 use Rattle.bd_catalog.proofs.StandingFound.{opened-found}
 use Rattle.bd_catalog.proofs.StandingLists.{map-numbers}
 use Rattle.bd_roll.proofs.Obeying.{settled_with_few}
@@ -114,7 +114,7 @@ module _ (shape : Shape) (st : VersionState) (phase : Phase) (held : ℕ) (old n
   rest = without_oldest c
 
   abbrev later : VersionState
-  later = record st { expired = st.expired + 1 }
+  later = one_fewer st
 
   shows : Shows shape st phase held found old
   shows = stands-shows stands opens
@@ -130,11 +130,11 @@ module _ (shape : Shape) (st : VersionState) (phase : Phase) (held : ℕ) (old n
 
   pub dropped-is : drop_oldest st ≡ later
   dropped-is =
-      ap (λ t. cond t (record st { base = st.base + length st.versions; versions = []; expired = 0 }) later)
+      ap (λ t. cond t (emptied st) later)
       (ne_eqb (st.expired + 1) (length st.versions) (λ e. absurd (omega (arith, several, length-history shape st, e))))
 
   rest-is : after_expire c ≡ rest
-  rest-is = ap (λ t. cond t (record empty_catalogue { base = c.newest; newest = c.newest }) rest) (ne_eqb (retained_in c) 1 (λ e. absurd (omega (arith, e, two))))
+  rest-is = ap (λ t. cond t (emptied_catalogue c) rest) (ne_eqb (retained_in c) 1 (λ e. absurd (omega (arith, e, two))))
 
   fewer : length (drop 1 c.versions) ≡ length c.versions - 1
   fewer = length-drop 1 c.versions
@@ -199,12 +199,11 @@ last_expired shape st phase held old new found after stands opens one made sizes
     let shows : Shows shape st phase held found old = stands-shows stands opens in
     let last : st.expired + 1 ≡ length st.versions = omega (arith, one, shows.numbers.retained, length-history shape st) in
     let base : ℕ = st.base + length st.versions in
-    let nothing : Catalogue = record empty_catalogue { base = c.newest; newest = c.newest } in
     let rest : Catalogue = without_oldest c in
     let newest-is : c.newest ≡ base = omega (arith, shows.numbers.newest, length-history shape st) in
-    let is : after.catalogue ≡ record empty_catalogue { base = base; newest = base } =
-    catalogue ∙ ap (λ t. cond t nothing rest) (eq-eqb (retained_in c) 1 one) ∙ ap (λ n. record empty_catalogue { base = n; newest = n }) newest-is in
-    subst (λ t. StandsFor shape (cond t (record st { base = base; versions = []; expired = 0 }) (record st { expired = st.expired + 1 })) Settled held new) (sym (eq-eqb (st.expired + 1) (length st.versions) last))
+    let is : after.catalogue ≡ catalogue_from base =
+    catalogue ∙ ap (λ t. cond t (emptied_catalogue c) rest) (eq-eqb (retained_in c) 1 one) ∙ ap catalogue_from newest-is in
+    subst (λ t. StandsFor shape (cond t (emptied st) (one_fewer st)) Settled held new) (sym (eq-eqb (st.expired + 1) (length st.versions) last))
     (nothing_stands shape base held new after stands.state.numbered (omega (arith, shows.reserve.fits)) made.opens (sizes ∙ shows.sizes) is)
 
 -- ---- any expiry
@@ -230,10 +229,10 @@ module _ (shape : Shape) (st : VersionState) (phase : Phase) (held : ℕ) (old n
       let one : retained_in found.catalogue ≡ 1 = omega (arith, few, fits.some) in
       let last : st.expired + 1 ≡ length st.versions = omega (arith, one, found_shows.numbers.retained, length-history shape st) in
       let settled : left (drop_oldest st) ≡ Settled =
-      ap (λ t. left (cond t (record st { base = st.base + length st.versions; versions = []; expired = 0 }) (record st { expired = st.expired + 1 }))) (eq-eqb (st.expired + 1) (length st.versions) last) in
+      ap (λ t. left (cond t (emptied st) (one_fewer st))) (eq-eqb (st.expired + 1) (length st.versions) last) in
       subst (λ p. StandsFor shape (drop_oldest st) p held new) (sym settled) (last_expired shape st phase held old new found after stands opens one made sizes catalogue))
       (λ two.
-      let later : VersionState = record st { expired = st.expired + 1 } in
+      let later = one_fewer st in
       let is : drop_oldest st ≡ later = dropped-is shape st phase held old new found after stands opens two fits.arranged made sizes catalogue in
       let same : left (drop_oldest st) ≡ phase = ap left is ∙ stays (length st.versions - (st.expired + 1)) (λ few. settled_two (omega (arith, few, found_shows.numbers.retained, length-history shape st))) in
       subst (λ p. StandsFor shape (drop_oldest st) p held new) (sym same)

@@ -11,7 +11,7 @@ use Rattle.bd_model.proofs.ListLemmas.{left_and, right_and}
 use Rattle.bd_model.proofs.ChunkListLemmas.{bytes_eq-same}
 use Rattle.bd_gate.specs.Superblock.{open_gate, magic, byte_at, four_at, sizes_at}
 use Rattle.bd_gate.specs.Halves.{half_at, newest_half, newest_by, newer, payload_of, log_place}
-use Rattle.bd_roll.specs.Catalogue.{Catalogue, oldest_in, retained_in}
+use Rattle.bd_roll.specs.Catalogue.{Catalogue, oldest_in, retained_in, empty_catalogue}
 use Rattle.bd_roll.specs.Spelling.{spelled, read_catalogue}
 use Rattle.bd_roll.specs.Rules.{ascends, obeys, catalogue_of, numbers_hold, phase_holds, version_holds, starts_hold, actives_hold, volume_holds, active_holds, extents_hold}
 use Rattle.std.specs.List.{list_all}
@@ -123,7 +123,7 @@ no_phase c (Waiting cursor) holds none =
     absurd (omega (arith, none, leb-true 2 (length c.versions) two))
 
 -- a catalogue without versions has nothing else either
-pub nothing-else : (s : Sizes) (c : Catalogue) → Obeys s c → retained_in c ≡ 0 → c ≡ record { base = c.base; newest = c.base; phase = Settled; versions = []; volumes = []; actives = [] }
+pub nothing-else : (s : Sizes) (c : Catalogue) → Obeys s c → retained_in c ≡ 0 → c ≡ record empty_catalogue { base = c.base; newest = c.base }
 nothing-else s c rules none =
     let numbered : Numbered s c = numbers-each s c rules.numbers in
     let ascending = ascends (c.base + 1) c.newest (map (λ e. e.row.start) c.actives) in

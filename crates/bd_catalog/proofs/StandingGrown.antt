@@ -28,8 +28,8 @@ use Rattle.bd_model.proofs.RowLemmas.{rows_over, rows_over-same}
 use Rattle.bd_model.proofs.StepLemmas.{length-history, history-grown}
 use Rattle.bd_roll.specs.Catalogue.{Catalogue, VersionEntry, VolumeEntry, OpenEntry, oldest_in, recipe_extents, volume_extents, active_extents}
 use Rattle.bd_roll.specs.Growing.{with_entries, entry_for, empty_volume, own_category}
-use Rattle.bd_catalog.specs.Standing.{BeginWith, HasNumbers, HasVolumes, HasActives, lines_from, open_rows}
-use Rattle.bd_catalog.proofs.StandingLists.{line_of, lines_from-push, map-numbers, rows_over-push, rows_over-past, filter-map_none, rows-earlier, newest_rows-empty, newest_volume-empty}
+use Rattle.bd_catalog.specs.Standing.{BeginWith, HasNumbers, HasVolumes, HasActives, lines_from, open_rows, line_of}
+use Rattle.bd_catalog.proofs.StandingLists.{lines_from-push, map-numbers, rows_over-push, rows_over-past, filter-map_none, rows-earlier, newest_rows-empty, newest_volume-empty}
 
 -- what is nothing begins everywhere
 begin_with_nothing : (s : Sizes) (extents bytes image : List ℕ) → bytes ≡ [] → BeginWith s extents bytes image

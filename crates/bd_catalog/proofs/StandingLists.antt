@@ -11,7 +11,6 @@ use Rattle.bd_model.specs.Category.{category}
 use Rattle.bd_model.specs.Layout.{closed_volume, is_closed, is_arranged, row_chunks, row_of, rows}
 use Rattle.bd_model.specs.Laws.{grown}
 use Rattle.bd_model.specs.Room.{archived}
-use Rattle.bd_model.specs.declared.answer.VersionLine.{VersionLine}
 use Rattle.bd_model.specs.declared.layout.CategoryRow.{CategoryRow}
 use Rattle.bd_model.specs.declared.layout.Phase.{Phase}
 use Rattle.bd_model.specs.declared.layout.Phase.TheVariants.{Settled, Waiting}
@@ -21,11 +20,7 @@ use Rattle.bd_model.proofs.CategoryLemmas.{category-earlier}
 use Rattle.bd_model.proofs.LawLemmas.{closed_volumes_grow}
 use Rattle.bd_model.proofs.RowLemmas.{rows_over, rows_over-same, recorded_as-numbers, rows_describe_the_volume}
 use Rattle.bd_roll.specs.Catalogue.{VersionEntry}
-use Rattle.bd_catalog.specs.Standing.{lines_from}
-
--- an entry as a line of this version
-abbrev pub line_of : ℕ → VersionEntry → VersionLine
-line_of v e = record { version = v; bytes = e.length; chunks = e.chunks; fresh = e.fresh }
+use Rattle.bd_catalog.specs.Standing.{lines_from, line_of}
 
 pub lines_from-push : (v : ℕ) (es : List VersionEntry) (e : VersionEntry) → lines_from v (es ++ e ∷ []) ≡ lines_from v es ++ line_of (v + length es) e ∷ []
 lines_from-push v [] e = ap (λ n. line_of n e ∷ []) (sym (add-zero v))

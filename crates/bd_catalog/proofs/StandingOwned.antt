@@ -26,10 +26,9 @@ use Rattle.bd_space.proofs.Uses.{counts-all}
 use Rattle.bd_roll.specs.Catalogue.{Catalogue, VersionEntry, VolumeEntry, OpenEntry, all_extents, bytes_of_rows, oldest_in}
 use Rattle.bd_catalog.specs.Opening.{Found, opened}
 use Rattle.bd_roll.specs.Rules.{active_holds, version_holds, volume_holds}
-use Rattle.bd_catalog.specs.Standing.{StandsFor, lines_from}
+use Rattle.bd_catalog.specs.Standing.{StandsFor, lines_from, line_of}
 use Rattle.bd_roll.proofs.Obeying.{bounded_of, count_in_category, count_in_volume, version_of}
 use Rattle.bd_catalog.proofs.Standing.{Shows, stands-shows}
-use Rattle.bd_catalog.proofs.StandingLists.{line_of}
 use Rattle.bd_catalog.proofs.StandingFound.{Obeys, obeys-each, opened-found}
 
 module _ (shape : Shape) (st : VersionState) (phase : Phase) where

@@ -2,7 +2,7 @@
 use Rattle.std.specs.Prelude.{◌≡◌, ◌+◌, ◌≤◌, ◌<◌, ℕ, length, false, IsTrue}
 use Rattle.bd_model.specs.Limits.{IsShape}
 use Rattle.bd_model.specs.Sizes.{Sizes, half_bytes, half_place, payload_room}
-use Rattle.bd_gate.specs.Halves.{Half, log_place}
+use Rattle.bd_gate.specs.Halves.{Half, log_place, half_of}
 use Rattle.bd_roll.specs.Capacity.{IsRoom, Room}
 use Rattle.bd_roll.specs.Catalogue.{Catalogue}
 use Rattle.bd_catalog.specs.Opening.{Found}
@@ -30,7 +30,7 @@ pub record IsKept (s : Sizes) (half : Half) (log_end buffer : ℕ) : Type 0 wher
 
 -- a catalogue that stands in half 0 alone, behind it an empty log
 abbrev pub half_zero : Catalogue → Half
-half_zero c = record { number = 0; turn = 0; length = length (spelled c); other_open = false }
+half_zero c = half_of 0 0 (length (spelled c)) false
 
 abbrev pub found_in : Sizes → Half → Catalogue → ℕ → Found
 found_in s half c log_end = record { sizes = s; half = half; catalogue = c; log_end = log_end }

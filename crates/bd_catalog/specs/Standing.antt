@@ -11,7 +11,7 @@ use Rattle.bd_model.specs.Layout.{closed_volume, open_category, rows, row_of}
 use Rattle.bd_model.specs.Recipe.{recipe}
 use Rattle.bd_model.specs.Room.{owned, reserve_left}
 use Rattle.bd_model.specs.State.{VersionState, IsState, history}
-use Rattle.bd_model.specs.Step.{version_lines}
+use Rattle.bd_model.specs.Step.{version_lines, line_for}
 use Rattle.bd_roll.specs.Catalogue.{Catalogue, VersionEntry, retained_in, oldest_in, recipe_extents, volume_extents, active_extents}
 use Rattle.bd_catalog.specs.Opening.{Found, opened}
 use Rattle.bd_model.specs.Extents.{owner_bytes}
@@ -27,11 +27,14 @@ pub record HasNumbers (h : History) (c : Catalogue) : Type 0 where
   pub newest : c.newest ≡ newest h
   pub retained : retained_in c ≡ retained h
 
+-- the line of version v by its entry
+abbrev pub line_of : ℕ → VersionEntry → VersionLine
+line_of v e = line_for v e.length e.chunks e.fresh
+
 -- versions as their entries show them, the first of them of this number
 abbrev pub lines_from : ℕ → List VersionEntry → List VersionLine
 lines_from v [] = []
-lines_from v (e ∷ es) =
-    record { version = v; bytes = e.length; chunks = e.chunks; fresh = e.fresh } ∷ lines_from (v + 1) es
+lines_from v (e ∷ es) = line_of v e ∷ lines_from (v + 1) es
 
 -- each retained version has its bytes, chunks and fresh chunks, and its extents begin with its recipe
 pub record HasVersions (shape : Shape) (st : VersionState) (c : Catalogue) (image : List ℕ) : Type 0 where

@@ -5,7 +5,7 @@ use Rattle.bd_disk.specs.Images.{AgreeBut}
 use Rattle.bd_disk.specs.Made.{IsSettled, LeavesSince, Makes}
 use Rattle.bd_model.specs.Sizes.{Sizes}
 use Rattle.bd_gate.specs.Commits.{commit_calls, frame_of}
-use Rattle.bd_gate.specs.Halves.{Half, InHalf, log_place}
+use Rattle.bd_gate.specs.Halves.{Half, InHalf, log_place, half_of}
 use Rattle.bd_gate.specs.Standing.{KeepsOrCommits, LeavesCommitted}
 use Rattle.bd_roll.specs.declared.step.Step.{Step}
 use Rattle.bd_roll.specs.Catalogue.{Catalogue}
@@ -16,7 +16,7 @@ use Rattle.bd_catalog.specs.Opening.{Found, opened}
 
 -- the half that a commit of so many bytes of payload makes the newest
 abbrev pub next_half : Half → ℕ → Half
-next_half half bytes = record { number = 1 - half.number; turn = (half.turn + 1) % 3; length = bytes; other_open = true }
+next_half half bytes = half_of (1 - half.number) ((half.turn + 1) % 3) bytes true
 
 -- the frame that a commit of this catalogue writes beside this half
 abbrev pub frame_beside : Half → Catalogue → List ℕ

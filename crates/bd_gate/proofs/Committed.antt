@@ -8,7 +8,7 @@ use Rattle.bd_model.specs.Records.{eight}
 use Rattle.bd_model.specs.Sizes.{Sizes, half_bytes, half_place}
 use Rattle.bd_gate.specs.Superblock.{eight_at, closed_gate}
 use Rattle.bd_gate.specs.Commits.{frame_of}
-use Rattle.bd_gate.specs.Halves.{Half, half_at, newest_half, is_open, payload_of, InHalf}
+use Rattle.bd_gate.specs.Halves.{half_at, newest_half, is_open, payload_of, InHalf, half_of}
 use Rattle.bd_gate.specs.Standing.{IsCommitted}
 use Rattle.bd_gate.proofs.Newest.{place, places, newest_is_open}
 use Rattle.bd_gate.proofs.Kept.{half_of_frame}
@@ -48,7 +48,7 @@ other_still_open s number old image lt is but =
 -- an opening of the image finds this half, with its turn and payload
 pub record FindsPayload (s : Sizes) (number turn : ℕ) (payload image : List ℕ) : Type 0 where
   pub newest : newest_half s image ≡ Some number
-  pub half : ◌≡◌ {A = Half} (half_at s image number) (record { number = number; turn = turn; length = length payload; other_open = true })
+  pub half : half_at s image number ≡ half_of number turn (length payload) true
   pub bytes : payload_of s (half_at s image number) image ≡ payload
 
 pub committed_payload : (s : Sizes) (number turn : ℕ) (payload old image : List ℕ) → number < 2 → length payload < 2 ^ 64 → newest_half s old ≡ Some (1 - number) → IsCommitted s number (frame_of turn payload) old image
@@ -57,18 +57,13 @@ committed_payload s number turn payload old image lt fits is committed =
     let frame = frame_of turn payload in
     let long = length-frame_of turn payload in
     let framed = half_of_frame s number frame image committed.stands in
-    let same : ◌≡◌ {A = Half} (half_at s image number) (record { number = number; turn = turn; length = length payload; other_open = true }) =
-    λ i. record {
-      number = number;
-      turn = framed.turn (omega arith) i;
-      length = (framed.payload_length (omega arith) ∙ frame_length turn payload fits) i;
-      other_open = other_still_open s number old image lt is committed.elsewhere i;
-    } in
+    let same : half_at s image number ≡ half_of number turn (length payload) true =
+    λ i. half_of number (framed.turn (omega arith) i) ((framed.payload_length (omega arith) ∙ frame_length turn payload fits) i) (other_still_open s number old image lt is committed.elsewhere i) in
     record {
       newest = framed.newest;
       half = same;
       bytes = ap (λ half. payload_of s half image) same
-          ∙ framed.payload (record { number = number; turn = turn; length = length payload; other_open = true }) refl (omega arith)
+          ∙ framed.payload (half_of number turn (length payload) true) refl (omega arith)
           ∙ frame_payload turn payload;
     }
 

@@ -6,7 +6,7 @@ use Rattle.bd_disk.specs.Images.{InRange, bytes_at}
 use Rattle.bd_model.specs.Sizes.{Sizes, half_bytes, half_place}
 use Rattle.bd_model.proofs.ListLemmas.{same_some}
 use Rattle.bd_gate.specs.Superblock.{byte_at, eight_at}
-use Rattle.bd_gate.specs.Halves.{Half, half_at, is_open, turn_at, newest_by, newest_half, InFronts, InHalves}
+use Rattle.bd_gate.specs.Halves.{half_at, is_open, turn_at, newest_by, newest_half, InFronts, InHalves, half_of}
 use Rattle.bd_gate.specs.declared.half.Front.{Front}
 use Rattle.bd_gate.proofs.Newest.{place, places, none_or_half}
 
@@ -45,12 +45,12 @@ newest_of_fronts s image first second f = sym (λ i. newest_by (eqb (f.first_gat
 
 -- and what there is to say of it
 pub first_half : (s : Sizes) (image : List ℕ) (first second : Front) → AreFronts s image first second → (opened : Bool) → opened ≡ eqb second.gate 79
-    → ◌≡◌ {A = Half} (record { number = 0; turn = first.turn; length = first.length; other_open = opened }) (half_at s image 0)
-first_half s image first second f opened is = λ i. record { number = 0; turn = f.first_turn i; length = f.first_length i; other_open = (is ∙ ap (λ g. eqb g 79) f.second_gate) i }
+    → half_of 0 first.turn first.length opened ≡ half_at s image 0
+first_half s image first second f opened is = λ i. half_of 0 (f.first_turn i) (f.first_length i) ((is ∙ ap (λ g. eqb g 79) f.second_gate) i)
 
 pub second_half : (s : Sizes) (image : List ℕ) (first second : Front) → AreFronts s image first second → (opened : Bool) → opened ≡ eqb first.gate 79
-    → ◌≡◌ {A = Half} (record { number = 1; turn = second.turn; length = second.length; other_open = opened }) (half_at s image 1)
-second_half s image first second f opened is = λ i. record { number = 1; turn = f.second_turn i; length = f.second_length i; other_open = (is ∙ ap (λ g. eqb g 79) f.first_gate) i }
+    → half_of 1 second.turn second.length opened ≡ half_at s image 1
+second_half s image first second f opened is = λ i. half_of 1 (f.second_turn i) (f.second_length i) ((is ∙ ap (λ g. eqb g 79) f.first_gate) i)
 
 -- of the two numbers it's the other one
 pub second_number : (k : ℕ) (first second : Front) → Some k ≡ newest_front first second → (k ≡ 0 → ⊥) → newest_front first second ≡ Some 1

@@ -9,6 +9,9 @@ use Rattle.bd_gate.specs.declared.half.Half.{Half as StructHalf}
 abbrev pub Half : Type 0
 Half = StructHalf
 
+abbrev pub half_of : ℕ → ℕ → ℕ → Bool → Half
+half_of number turn length other_open = record { number = number; turn = turn; length = length; other_open = other_open }
+
 abbrev pub is_open : Sizes → List ℕ → ℕ → Bool
 is_open s image k = byte_at image (half_place s k) == open_gate
 
@@ -16,12 +19,7 @@ abbrev pub turn_at : Sizes → List ℕ → ℕ → ℕ
 turn_at s image k = byte_at image (half_place s k + 1)
 
 abbrev pub half_at : Sizes → List ℕ → ℕ → Half
-half_at s image k = record {
-  number = k;
-  turn = turn_at s image k;
-  length = eight_at image (half_place s k + 2);
-  other_open = is_open s image (1 - k);
-}
+half_at s image k = half_of k (turn_at s image k) (eight_at image (half_place s k + 2)) (is_open s image (1 - k))
 
 -- of two turns the newer one is one ahead, modulo 3
 abbrev pub newer : ℕ → ℕ → Option ℕ

@@ -6,12 +6,12 @@ use Rattle.std.specs.List.{flat_map}
 use Rattle.bd_model.specs.declared.layout.Phase.{Phase}
 use Rattle.bd_model.specs.declared.layout.Phase.TheVariants.{Settled, Waiting}
 use Rattle.bd_model.specs.Chunks.{numbers}
-use Rattle.bd_model.specs.History.{History, version, newest, oldest, retained}
+use Rattle.bd_model.specs.History.{History, version, newest, oldest, retained, no_versions}
 use Rattle.bd_model.specs.Category.{category}
 use Rattle.bd_model.specs.State.{history}
 use Rattle.bd_model.specs.Layout.{closed_volume, open_category, is_arranged, is_closed, record_bytes}
 use Rattle.bd_model.specs.Room.{up, owned, recipe_bytes, reserve_left}
-use Rattle.bd_model.specs.Step.{dropped_extents}
+use Rattle.bd_model.specs.Step.{dropped_extents, emptied, one_fewer}
 use Rattle.bd_model.specs.Laws.{given_up, TakesOnlyTheOldest, ExpiryTakesOnlyTheOldest}
 use Rattle.bd_model.proofs.ListLemmas.{numbers-cons, numbers-none, filter-same}
 use Rattle.bd_model.proofs.RowLemmas.{rows-given_up}
@@ -58,13 +58,13 @@ takes h phase more same =
       rows = rows-given_up h phase;
     }
 
-pub nothing_owned : (extent base : ℕ) → owned extent (record { base = base; versions = []; expired = 0 }) Settled ≡ 0
+pub nothing_owned : (extent base : ℕ) → owned extent (no_versions base) Settled ≡ 0
 unfolding owned
 nothing_owned extent base =
     let recipes : numbers (base + 0 + 1) (base + 0) ≡ [] = numbers-none _ _ (omega arith) in
     let volumes : numbers (base + 0 + 1) (base + 0 - 1) ≡ [] = numbers-none _ _ (omega arith) in
     let opens : numbers (base + 1) (base + 0) ≡ [] = numbers-none _ _ (omega arith) in
-    let h : History = record { base = base; versions = []; expired = 0 } in
+    let h = no_versions base in
     λ k. sum_by (λ v. up extent (recipe_bytes (version h v))) (recipes k)
     + sum_by (λ j. up extent (record_bytes (closed_volume h Settled j))) (volumes k)
     + sum_by (λ i. up extent (record_bytes (open_category h Settled i))) (opens k)
@@ -75,13 +75,13 @@ expiry_takes_only_the_oldest = record {
   waiting = λ h phase more. takes h phase (omega arith) (oldest_volume h phase more);
   state = λ shape s more.
       let other : nat_eq (s.expired + 1) (length s.versions) ≡ false = ne_eqb _ _ (λ e. absurd (omega (arith, length-history shape s))) in
-      ap (λ t. history shape (cond t (record s { base = s.base + length s.versions; versions = []; expired = 0 }) (record s { expired = s.expired + 1 }))) other;
+      ap (λ t. history shape (cond t (emptied s) (one_fewer s))) other;
   answer = λ extent h more.
       let other : nat_eq (retained h) 1 ≡ false = ne_eqb _ _ (λ e. absurd (omega arith)) in
       ap (λ t. cond t (owned extent h Settled) (dropped_extents extent h (oldest h))) other;
   last_answer = λ extent h one. ap (λ t. cond t (owned extent h Settled) (dropped_extents extent h (oldest h))) (eq-eqb (retained h) 1 one);
   last_state = λ shape s extent one.
       let last : nat_eq (s.expired + 1) (length s.versions) ≡ true = eq-eqb _ _ (omega (arith, length-history shape s)) in
-      ap (λ t. owned extent (history shape (cond t (record s { base = s.base + length s.versions; versions = []; expired = 0 }) (record s { expired = s.expired + 1 }))) Settled) last
+      ap (λ t. owned extent (history shape (cond t (emptied s) (one_fewer s))) Settled) last
       ∙ nothing_owned extent (s.base + length s.versions);
 }

@@ -15,8 +15,8 @@ use Rattle.bd_model.specs.Folds.{HeldCommand, chunks_read, all_read, given}
 use Rattle.bd_model.specs.History.{newest, oldest, retained, contains, version}
 use Rattle.bd_model.specs.Marks.{Distinct}
 use Rattle.bd_model.specs.Room.{counted, need, fresh}
-use Rattle.bd_model.specs.State.{Version, VersionState, history, cut_of, last_number}
-use Rattle.bd_model.specs.Step.{Outcome, unchanged, restore, backup, free_extents, with_version, drop_oldest, expired_extents, step}
+use Rattle.bd_model.specs.State.{Version, VersionState, history, cut_of, last_number, plain}
+use Rattle.bd_model.specs.Step.{Outcome, unchanged, restore, backup, free_extents, with_version, drop_oldest, expired_extents, step, emptied, one_fewer}
 use Rattle.bd_model.specs.CommandLaws.{GivenChunksStayApart}
 use Rattle.bd_model.proofs.ChunkListLemmas.{contains-append}
 use Rattle.bd_model.proofs.FoldLemmas.{along}
@@ -68,7 +68,7 @@ module _ (shape : Shape) where
       elim (nat_lt free count) as (λ t. Leaves s parts (let result : Answer × VersionState = cond t (FullExtents count free held, s) (BackedUp (newest h + 1) (length stream) (length parts) (length (fresh h parts)) (need shape.extent h parts), with_version s stream) in
       record { answer = result.0; state = result.1; files = files })) [
         | true ↦ in_left (all_chunks s.versions) parts
-        | false ↦ pushed s.versions (record { stream = stream })
+        | false ↦ pushed s.versions (plain stream)
       ]
 
   leaves : (held : ℕ) (s : VersionState) (files : FileMap) (command : Command) → IfSome (step shape held s files command) (Leaves s (chunks_read shape s files command))
@@ -109,7 +109,7 @@ module _ (shape : Shape) where
         | true ↦ in_left (all_chunks s.versions) []
         | false ↦
             elim (nat_eq (s.expired + 1) (length s.versions))
-            as (λ t. Within (all_chunks (cond t (record { base = s.base + length s.versions; versions = []; expired = 0 }) (record s { expired = s.expired + 1 })).versions) (all_chunks s.versions ++ [])) [
+            as (λ t. Within (all_chunks (cond t (emptied s) (one_fewer s)).versions) (all_chunks s.versions ++ [])) [
               | true ↦ λ c has. absurd (false≢true has)
               | false ↦ in_left (all_chunks s.versions) []
             ]

@@ -10,8 +10,8 @@ use Rattle.bd_model.specs.History.{History, version, newest, contains, distinct}
 use Rattle.bd_model.specs.Marks.{mark, Distinct}
 use Rattle.bd_model.specs.Recipe.{start_of, entry_of, recipe}
 use Rattle.bd_model.specs.Room.{fresh}
-use Rattle.bd_model.specs.State.{Version, VersionState, history, streams, stream_of, cut_of}
-use Rattle.bd_model.specs.Step.{with_version, version_line}
+use Rattle.bd_model.specs.State.{Version, VersionState, history, streams, stream_of, cut_of, plain}
+use Rattle.bd_model.specs.Step.{with_version, version_line, emptied, one_fewer, line_for}
 use Rattle.bd_model.specs.Laws.{grown, start_in, entries_in, RecipesStay, LinesStay}
 use Rattle.bd_model.proofs.ChunkListLemmas.{bytes_eq-refl, bytes_eq-same, contains-append}
 use Rattle.bd_model.proofs.HistoryLemmas.{version-grown, version-newest}
@@ -98,25 +98,25 @@ module _ (shape : Shape) (s : VersionState) (stream : List ℕ) where
 
   stream-earlier : (v : ℕ) → v ≤ newest h → stream_of next v ≡ stream_of s v
   stream-earlier v le =
-      ap (λ ss. get_or ([] ∷ ss) (v - s.base) []) (streams-pushed s.versions (record { stream = stream }))
+      ap (λ ss. get_or ([] ∷ ss) (v - s.base) []) (streams-pushed s.versions (plain stream))
       ∙ get_or_append_left ([] ∷ streams s) (stream ∷ []) [] (v - s.base) (omega (arith, count))
 
   stream-own : stream_of next (newest h + 1) ≡ stream
   stream-own =
-      ap (λ ss. get_or ([] ∷ ss) (newest h + 1 - s.base) []) (streams-pushed s.versions (record { stream = stream }))
+      ap (λ ss. get_or ([] ∷ ss) (newest h + 1 - s.base) []) (streams-pushed s.versions (plain stream))
       ∙ get_or_at ([] ∷ streams s) stream [] [] (newest h + 1 - s.base) (omega (arith, count))
 
   line-earlier : (v : ℕ) → v ≤ newest h → version_line next (history shape next) v ≡ version_line s h v
   line-earlier v le =
       let here = version-earlier v le in
       let before = version-earlier (v - 1) (omega arith) in
-      λ k. record { version = v; bytes = length (stream-earlier v le k); chunks = length (here k); fresh = length (filter (λ c. not (contains (before k) c)) (distinct (here k))) }
+      λ k. line_for v (length (stream-earlier v le k)) (length (here k)) (length (filter (λ c. not (contains (before k) c)) (distinct (here k))))
 
-  line-own : version_line next (history shape next) (newest h + 1) ≡ record { version = newest h + 1; bytes = length stream; chunks = length parts; fresh = length (fresh h parts) }
+  line-own : version_line next (history shape next) (newest h + 1) ≡ line_for (newest h + 1) (length stream) (length parts) (length (fresh h parts))
   line-own =
       let last : newest h + 1 - 1 ≡ newest h = omega arith in
       let before : version (history shape next) (newest h + 1 - 1) ≡ version h (newest h) = ap (version (history shape next)) last ∙ version-earlier (newest h) (omega arith) in
-      λ k. record { version = newest h + 1; bytes = length (stream-own k); chunks = length (version-own k); fresh = length (filter (λ c. not (contains (before k) c)) (distinct (version-own k))) }
+      λ k. line_for (newest h + 1) (length (stream-own k)) (length (version-own k)) (length (filter (λ c. not (contains (before k) c)) (distinct (version-own k))))
 
 pub lines_stay : LinesStay
 lines_stay = record {
@@ -124,5 +124,5 @@ lines_stay = record {
   own = line-own;
   expired = λ shape s v more.
       let other : nat_eq (s.expired + 1) (length s.versions) ≡ false = ne_eqb _ _ (λ e. absurd (omega (arith, length-history shape s))) in
-      ap (λ t. let rest : VersionState = cond t (record s { base = s.base + length s.versions; versions = []; expired = 0 }) (record s { expired = s.expired + 1 }) in version_line rest (history shape rest) v) other;
+      ap (λ t. let rest = cond t (emptied s) (one_fewer s) in version_line rest (history shape rest) v) other;
 }

@@ -7,7 +7,7 @@ use Rattle.bd_model.specs.declared.layout.Phase.{Phase}
 use Rattle.bd_model.specs.Category.{category}
 use Rattle.bd_model.proofs.ArrangeLemmas.{arranges_one, all_done}
 use Rattle.bd_model.specs.Chunks.{numbers}
-use Rattle.bd_model.specs.History.{History, version, newest, contains, oldest}
+use Rattle.bd_model.specs.History.{History, version, newest, contains, oldest, no_versions}
 use Rattle.bd_model.specs.declared.layout.Phase.TheVariants.{Settled, Waiting}
 use Rattle.bd_model.specs.Layout.{closed_volume, open_category, record_bytes, is_arranged}
 use Rattle.bd_model.specs.Room.{up, recipe_bytes, owned, need, fresh, kept, archived, lacks_some, reserve_left}
@@ -53,10 +53,10 @@ closed_volumes_grow = record {
 }
 
 -- the first version needs what it owns afterwards
-pub need-first : (extent base : ℕ) (w : List (List ℕ)) → 1 ≤ extent → let h : History = record { base = base; versions = []; expired = 0 } in need extent h w ≡ owned extent (grown h w) Settled
+pub need-first : (extent base : ℕ) (w : List (List ℕ)) → 1 ≤ extent → let h = no_versions base in need extent h w ≡ owned extent (grown h w) Settled
 unfolding need owned
 need-first extent base w some =
-    let h : History = record { base = base; versions = []; expired = 0 } in
+    let h = no_versions base in
     let none : numbers (base + 1) (base + 0) ≡ [] = numbers-none _ _ (omega arith) in
     let none_closed : numbers (base + 0 + 1) (base + 1 - 1) ≡ [] = numbers-none _ _ (omega arith) in
     let last : newest h + 1 ≡ base + 1 = omega arith in

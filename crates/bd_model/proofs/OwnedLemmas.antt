@@ -1,5 +1,5 @@
 -- A settled store never owns more extents than there are.
-use Rattle.std.proofs.Common.{◌≡◌, ◌≢◌, ℕ, ◌+◌, ◌≤◌, true, false, cond, ◌&&◌, List, [], refl, sym, ap, subst, arith, map, length, nat_eq, nat_lt, nat_le, Some, None, IfSome, option_map, ⊎_elim}
+use Rattle.std.proofs.Common.{◌≡◌, ◌≢◌, ℕ, ◌+◌, ◌≤◌, true, false, cond, ◌&&◌, List, refl, sym, ap, subst, arith, map, length, nat_eq, nat_lt, nat_le, Some, None, IfSome, option_map, ⊎_elim}
 use Rattle.std.proofs.lemmas.Bool.{eqb-false, ltb-false, cases_lt}
 use Rattle.std.specs.FinMap as map
 use Rattle.bd_model.specs.declared.shape.Shape.{Shape}
@@ -10,10 +10,10 @@ use Rattle.bd_model.specs.declared.command.Command.TheVariants.{Backup, Restore,
 use Rattle.bd_model.specs.declared.layout.Phase.TheVariants.{Settled}
 use Rattle.bd_model.specs.Chunks.{chunks}
 use Rattle.bd_model.specs.FileMap.{FileMap}
-use Rattle.bd_model.specs.History.{newest, oldest, retained}
+use Rattle.bd_model.specs.History.{newest, oldest, retained, no_versions}
 use Rattle.bd_model.specs.Room.{owned, need, counted, fresh}
 use Rattle.bd_model.specs.State.{VersionState, IsState, history, cut_of, last_number}
-use Rattle.bd_model.specs.Step.{unchanged, restore, backup, free_extents, with_version, drop_oldest, expired_extents, step}
+use Rattle.bd_model.specs.Step.{unchanged, restore, backup, free_extents, with_version, drop_oldest, expired_extents, step, emptied, one_fewer}
 use Rattle.bd_model.specs.Laws.{grown, TakesOnlyTheOldest, RoomSuffices}
 use Rattle.bd_model.proofs.CountedLemmas.{counted-above}
 use Rattle.bd_model.proofs.ExpiryLemmas.{expiry_takes_only_the_oldest, nothing_owned}
@@ -34,7 +34,7 @@ module _ (shape : Shape) where
       ⊎_elim
       (λ some. omega (arith, owned-settled shape.extent h w one (omega (arith, length-history shape s))))
       (λ none.
-      let nothing : h ≡ record { base = s.base; versions = []; expired = 0 } = λ k. record { base = s.base; versions = map (chunks (cut_of shape)) (map (λ v. v.stream) (none.0 k)); expired = none.1 k } in
+      let nothing : h ≡ no_versions s.base = λ k. record { base = s.base; versions = map (chunks (cut_of shape)) (map (λ v. v.stream) (none.0 k)); expired = none.1 k } in
       omega (arith, ap (λ g. need shape.extent g w) nothing, need-first shape.extent s.base w one, ap (λ g. owned shape.extent (grown g w) Settled) nothing))
       is.some in
       subst (λ g. owned shape.extent g Settled ≤ shape.extents) (sym (history-grown shape s stream)) room
@@ -58,7 +58,7 @@ module _ (shape : Shape) where
   fits-dropped s some fits =
       let h = history shape s in
       elim (nat_eq (s.expired + 1) (length s.versions))
-      as (λ t. nat_eq (s.expired + 1) (length s.versions) ≡ t → Fits (cond t (record { base = s.base + length s.versions; versions = []; expired = 0 }) (record s { expired = s.expired + 1 }))) [
+      as (λ t. nat_eq (s.expired + 1) (length s.versions) ≡ t → Fits (cond t (emptied s) (one_fewer s))) [
         | true ↦ λ e. omega (arith, nothing_owned shape.extent (s.base + length s.versions))
         | false ↦ λ e.
             let others : s.expired + 1 ≢ length s.versions = eqb-false _ _ e in

@@ -14,13 +14,13 @@ use Rattle.bd_model.specs.declared.layout.Phase.TheVariants.{Settled, Waiting}
 use Rattle.bd_model.specs.Chunks.{chunks}
 use Rattle.bd_model.specs.History.{History, newest, oldest, retained, version}
 use Rattle.bd_model.specs.FileMap.{FileMap}
-use Rattle.bd_model.specs.State.{VersionState, IsState, IsPhase, history, streams, cut_of, last_number, Version}
+use Rattle.bd_model.specs.State.{VersionState, IsState, IsPhase, history, streams, cut_of, last_number, Version, plain}
 use Rattle.bd_model.specs.Layout.{open_category}
 use Rattle.bd_model.specs.Room.{counted, need, fresh}
 use Rattle.bd_model.specs.CommandLaws.{Keeps}
 use Rattle.bd_model.specs.Laws.{BackupsGrowTheHistory, grown}
 use Rattle.std.proofs.lemmas.Option.{IfSome_then}
-use Rattle.bd_model.specs.Step.{unchanged, restore, expired_extents, step, backup, free_extents, drop_oldest, with_version, next_start, phase_after, phase_after_step, without_room}
+use Rattle.bd_model.specs.Step.{unchanged, restore, expired_extents, step, backup, free_extents, drop_oldest, with_version, next_start, phase_after, phase_after_step, without_room, emptied, one_fewer}
 use Rattle.bd_model.proofs.ListLemmas.{IfSome-find_range_with_len}
 
 module _ (shape : Shape) where
@@ -32,11 +32,11 @@ module _ (shape : Shape) where
   chunks-pushed (u ∷ versions) v = ap (λ vs. chunks (cut_of shape) u.stream ∷ vs) (chunks-pushed versions v)
 
   pub history-grown : (s : VersionState) (stream : List ℕ) → history shape (with_version s stream) ≡ grown (history shape s) (chunks (cut_of shape) stream)
-  history-grown s stream = λ k. record { base = s.base; versions = chunks-pushed s.versions (record { stream = stream }) k; expired = s.expired }
+  history-grown s stream = λ k. record { base = s.base; versions = chunks-pushed s.versions (plain stream) k; expired = s.expired }
 
   IsState-pushed : (s : VersionState) (stream : List ℕ) → IsState s → newest (history shape s) ≢ last_number → IsState (with_version s stream)
   IsState-pushed s stream is below =
-      let long : length (with_version s stream).versions ≡ length s.versions + 1 = length_push s.versions (record { stream = stream }) in
+      let long : length (with_version s stream).versions ≡ length s.versions + 1 = length_push s.versions (plain stream) in
       record {
         some = inl (⊎_elim (λ lt. omega arith) (λ none. omega arith) is.some);
         numbered = omega (arith, is.numbered, below, length-history s);
@@ -45,7 +45,7 @@ module _ (shape : Shape) where
   IsPhase-pushed : (s : VersionState) (stream : List ℕ) → IsState s →
       IsPhase (history shape (with_version s stream)) (cond (nat_eq (length (with_version s stream).versions - s.expired) 1) Settled (Waiting (s.base + 1)))
   IsPhase-pushed s stream is =
-      let long : length (with_version s stream).versions ≡ length s.versions + 1 = length_push s.versions (record { stream = stream }) in
+      let long : length (with_version s stream).versions ≡ length s.versions + 1 = length_push s.versions (plain stream) in
       let kept : s.expired < length (with_version s stream).versions = ⊎_elim (λ lt. omega arith) (λ none. omega arith) is.some in
       elim (nat_eq (length (with_version s stream).versions - s.expired) 1)
       as (λ t. nat_eq (length (with_version s stream).versions - s.expired) 1 ≡ t → IsPhase (history shape (with_version s stream)) (cond t Settled (Waiting (s.base + 1)))) [
@@ -71,7 +71,7 @@ module _ (shape : Shape) where
   IsState-dropped : (s : VersionState) → IsState s → s.expired < length s.versions → IsState (drop_oldest s)
   IsState-dropped s is some =
       elim (nat_eq (s.expired + 1) (length s.versions))
-      as (λ t. nat_eq (s.expired + 1) (length s.versions) ≡ t → IsState (cond t (record { base = s.base + length s.versions; versions = []; expired = 0 }) (record s { expired = s.expired + 1 }))) [
+      as (λ t. nat_eq (s.expired + 1) (length s.versions) ≡ t → IsState (cond t (emptied s) (one_fewer s))) [
         | true ↦ λ e. record { some = inr (refl, refl); numbered = omega (arith, is.numbered) }
         | false ↦ λ e. let more : s.expired + 1 ≢ length s.versions = eqb-false _ _ e in record { some = inl (omega arith); numbered = is.numbered }
       ] refl
@@ -82,12 +82,12 @@ module _ (shape : Shape) where
   IsPhase-dropped s Settled is = elim (nat_le (length (drop_oldest s).versions - (drop_oldest s).expired) 1) as (λ t. IsPhase (history shape (drop_oldest s)) (cond t Settled Settled)) [ true ↦ tt | false ↦ tt ]
   IsPhase-dropped s (Waiting cursor) is =
       elim (nat_eq (s.expired + 1) (length s.versions))
-      as (λ t. let next : VersionState = cond t (record { base = s.base + length s.versions; versions = []; expired = 0 }) (record s { expired = s.expired + 1 }) in
+      as (λ t. let next : VersionState = cond t (emptied s) (one_fewer s) in
       IsPhase (history shape next) (cond (nat_le (length next.versions - next.expired) 1) Settled (Waiting cursor))) [
         | true ↦ tt
         | false ↦
             elim (nat_le (length s.versions - (s.expired + 1)) 1)
-            as (λ t. nat_le (length s.versions - (s.expired + 1)) 1 ≡ t → IsPhase (history shape (record s { expired = s.expired + 1 })) (cond t Settled (Waiting cursor))) [
+            as (λ t. nat_le (length s.versions - (s.expired + 1)) 1 ≡ t → IsPhase (history shape (one_fewer s)) (cond t Settled (Waiting cursor))) [
               | true ↦ λ e. tt
               | false ↦ λ e. let more : 1 < length s.versions - (s.expired + 1) = leb-false _ 1 e in (omega (arith, length-history s), is.1, is.2)
             ] refl

@@ -1,6 +1,6 @@
 -- The definitions on small histories, computed.
 use Rattle.std.proofs.Common.{◌≡◌, ◌≤◌, ℕ, List, [], ◌∷◌, ◌++◌, refl, ◌∙◌, ap, map}
-use Rattle.bd_model.specs.History.{History}
+use Rattle.bd_model.specs.History.{History, no_versions}
 use Rattle.bd_model.specs.Category.{category}
 use Rattle.bd_model.specs.Layout.{closed_volume, open_category, rows, row_of}
 use Rattle.bd_model.specs.declared.layout.Phase.TheVariants.{Settled, Waiting}
@@ -18,18 +18,14 @@ use Rattle.bd_model.specs.declared.command.Command.TheVariants.{Backup, Restore,
 use Rattle.bd_model.specs.declared.answer.Answer.{Answer}
 use Rattle.bd_model.specs.Folds.{answers_of, outcomes, unheld}
 use Rattle.bd_model.specs.declared.answer.Answer.TheVariants.{BackedUp, Restored, Expired, Arranged, Scrubbed, Listed, FullNumbers, FullVersions, FullExtents, NoVersion, NothingRetained, Formatted}
-use Rattle.bd_model.specs.declared.answer.VersionLine.{VersionLine}
 use Rattle.bd_model.specs.Sizes.{Sizes, sizes_of, payload_room, half_bytes, disk_bytes}
 use Rattle.bd_model.specs.Chunks.{chunks_from}
 use Rattle.bd_model.specs.Laws.{walk, given_up}
 use Rattle.bd_model.specs.Texts.{answer_text, texts}
 use Rattle.bd_model.specs.FileMap.{FileMap}
-use Rattle.bd_model.specs.State.{Version, VersionState, empty, cut_of, last_number}
-use Rattle.bd_model.specs.Step.{Outcome, phase_after_step, step}
+use Rattle.bd_model.specs.State.{VersionState, empty, cut_of, last_number, plain}
+use Rattle.bd_model.specs.Step.{Outcome, phase_after_step, step, line_for}
 use Rattle.bd_model.proofs.PieceLemmas.{pieces_from, chunks_from-pieces}
-
-abbrev line : ℕ → ℕ → ℕ → ℕ → VersionLine
-line v b c w = record { version = v; bytes = b; chunks = c; fresh = w }
 
 abbrev a : List ℕ
 a = 65 ∷ 65 ∷ 65 ∷ 65 ∷ []
@@ -53,7 +49,7 @@ abbrev bad : List (List ℕ)
 bad = b ∷ a ∷ d ∷ []
 
 abbrev history_of : ℕ → List (List (List ℕ)) → History
-history_of base versions = record { base = base; versions = versions; expired = 0 }
+history_of base versions = record (no_versions base) { versions = versions }
 
 abbrev none : History
 none = history_of 0 []
@@ -199,11 +195,8 @@ greatest_sizes = refl
 pieces : (extents : ℕ) (low : 1 ≤ extents) (high : extents ≤ 65536) (s : List ℕ) (start count : ℕ) → chunks_from (cut_of (with_extents extents low high)) s start count ≡ pieces_from 4 s start count
 pieces extents low high s start count = chunks_from-pieces (cut_of (with_extents extents low high)) s start count refl (lit≤ tt)
 
-abbrev given_as : List ℕ → Version
-given_as stream = record { stream = stream }
-
 abbrev state_of : List (List ℕ) → VersionState
-state_of streams = record { base = 0; versions = map given_as streams; expired = 0 }
+state_of streams = record empty { versions = map plain streams }
 
 abbrev after_one : VersionState
 after_one = state_of ((a ++ b ++ c) ∷ [])
@@ -239,10 +232,10 @@ abbrev after_two : VersionState
 after_two = state_of ((a ++ b ++ c) ∷ (a ++ c ++ d) ∷ [])
 
 abbrev emptied_state : VersionState
-emptied_state = record { base = 1; versions = []; expired = 0 }
+emptied_state = record empty { base = 1 }
 
 abbrev refilled : VersionState
-refilled = record { base = 1; versions = given_as (a ++ b ++ c) ∷ []; expired = 0 }
+refilled = record empty { base = 1; versions = plain (a ++ b ++ c) ∷ [] }
 
 abbrev after_expiry : VersionState
 after_expiry = record after_three { expired = 1 }
@@ -268,7 +261,7 @@ module _ (files : FileMap) (x y z : List ℕ) (in_x : map.get files x ≡ Some (
   unfolding need owned reserve_left counted
   arrange_three = simp pieces
 
-  list_three : step small 0 after_three files Listing ≡ outcome (Listed (record { items = line 1 12 3 3 ∷ line 2 12 3 1 ∷ line 3 12 3 1 ∷ []; spare = 0 })) after_three files
+  list_three : step small 0 after_three files Listing ≡ outcome (Listed (record { items = line_for 1 12 3 3 ∷ line_for 2 12 3 1 ∷ line_for 3 12 3 1 ∷ []; spare = 0 })) after_three files
   list_three = simp pieces
 
   expire_first : step small 0 after_three files Expire ≡ outcome (Expired 1 3) after_expiry files
@@ -288,7 +281,7 @@ module _ (files : FileMap) (x y z : List ℕ) (in_x : map.get files x ≡ Some (
   -- a session from an empty store
   three_versions : answers_of small empty files (unheld (Backup x ∷ Backup y ∷ Reorganise ∷ Backup z ∷ Reorganise ∷ Listing ∷ Expire ∷ Reorganise ∷ Restore 1 x ∷ []))
       ≡ BackedUp 1 12 3 3 4 ∷ BackedUp 2 12 3 1 6 ∷ Arranged 8 8 ∷ BackedUp 3 12 3 1 5 ∷ Arranged 11 5
-      ∷ Listed (record { items = line 1 12 3 3 ∷ line 2 12 3 1 ∷ line 3 12 3 1 ∷ []; spare = 0 }) ∷ Expired 1 3 ∷ Arranged 8 8 ∷ NoVersion 1 2 3 ∷ []
+      ∷ Listed (record { items = line_for 1 12 3 3 ∷ line_for 2 12 3 1 ∷ line_for 3 12 3 1 ∷ []; spare = 0 }) ∷ Expired 1 3 ∷ Arranged 8 8 ∷ NoVersion 1 2 3 ∷ []
   three_versions =
       in_a_row small files empty
       (did (Backup x) (BackedUp 1 12 3 3 4) after_one
@@ -296,7 +289,7 @@ module _ (files : FileMap) (x y z : List ℕ) (in_x : map.get files x ≡ Some (
       ∷ did Reorganise (Arranged 8 8) after_two
       ∷ did (Backup z) (BackedUp 3 12 3 1 5) after_three
       ∷ did Reorganise (Arranged 11 5) after_three
-      ∷ did Listing (Listed (record { items = line 1 12 3 3 ∷ line 2 12 3 1 ∷ line 3 12 3 1 ∷ []; spare = 0 })) after_three
+      ∷ did Listing (Listed (record { items = line_for 1 12 3 3 ∷ line_for 2 12 3 1 ∷ line_for 3 12 3 1 ∷ []; spare = 0 })) after_three
       ∷ did Expire (Expired 1 3) after_expiry
       ∷ did Reorganise (Arranged 8 8) after_expiry
       ∷ did (Restore 1 x) (NoVersion 1 2 3) after_expiry
@@ -342,7 +335,7 @@ module _ (files : FileMap) (x y z : List ℕ) (in_x : map.get files x ≡ Some (
   backup_in_three = rw in_x (simp pieces)
 
   -- no number is left
-  numbers_are_full : step small 0 (record { base = last_number; versions = []; expired = 0 }) files (Backup x) ≡ outcome FullNumbers (record { base = last_number; versions = []; expired = 0 }) files
+  numbers_are_full : step small 0 (record empty { base = last_number }) files (Backup x) ≡ outcome FullNumbers (record empty { base = last_number }) files
   numbers_are_full = refl
 
 module _ (files : FileMap) (x y : List ℕ) where
@@ -417,7 +410,7 @@ lines_of_others : map answer_text (Restored 1 12 ∷ Expired 1 3 ∷ Arranged 11
 unfolding digits
 lines_of_others = refl
 
-lines_of_reports : texts (Listed (record { items = line 1 12 3 3 ∷ line 2 12 3 1 ∷ []; spare = 0 }) ∷ Scrubbed (record { records = 5; entries = 9; damaged = 0; findings = record { items = []; spare = 0 } }) ∷ [])
+lines_of_reports : texts (Listed (record { items = line_for 1 12 3 3 ∷ line_for 2 12 3 1 ∷ []; spare = 0 }) ∷ Scrubbed (record { records = 5; entries = 9; damaged = 0; findings = record { items = []; spare = 0 } }) ∷ [])
     ≡ codes "1 12 3 3\n2 12 3 1\n2 versions\nscrub: 5 records, 9 entries, 0 damaged\n"
 unfolding digits
 lines_of_reports = refl

@@ -10,14 +10,14 @@ use Rattle.bd_model.specs.declared.layout.Phase.{Phase}
 use Rattle.bd_model.specs.declared.layout.Phase.TheVariants.{Settled, Waiting}
 use Rattle.bd_model.specs.Chunks.{Cut, numbers, gear, window_hash, chunk_len, is_decided, chunks_after, chunks}
 use Rattle.bd_model.specs.FileMap.{FileMap}
-use Rattle.bd_model.specs.History.{History, version, contains, distinct, newest, oldest, retained}
+use Rattle.bd_model.specs.History.{History, version, contains, distinct, newest, oldest, retained, no_versions}
 use Rattle.bd_model.specs.Category.{category}
 use Rattle.bd_model.specs.Layout.{record_bytes, row_of, rows, row_chunks, closed_volume, open_category, arranged_to, is_arranged}
 use Rattle.bd_model.specs.Marks.{mark, Distinct, Near}
 use Rattle.bd_model.specs.Recipe.{recipe, start_of, has_mark}
 use Rattle.bd_model.specs.Room.{up, owned, recipe_bytes, fresh, kept, archived, lacks_some, need, counted, reserve_left, need_of, counted_of}
 use Rattle.bd_model.specs.State.{VersionState, IsState, history, cut_of}
-use Rattle.bd_model.specs.Step.{with_version, version_line, step, drop_oldest, dropped_extents, expired_extents, next_start}
+use Rattle.bd_model.specs.Step.{with_version, version_line, step, drop_oldest, dropped_extents, expired_extents, next_start, line_for}
 
 -- the least chunk has a byte, and is no longer than the longest
 abbrev pub IsCut : Cut → Type 0
@@ -125,7 +125,7 @@ pub record LinesStay : Type 0 where
       version_line (with_version s stream) (history shape (with_version s stream)) v ≡ version_line s (history shape s) v
   pub own : (shape : Shape) (s : VersionState) (stream : List ℕ) → let parts = chunks (cut_of shape) stream in let h = history shape s in
       version_line (with_version s stream) (history shape (with_version s stream)) (newest h + 1)
-      ≡ record { version = newest h + 1; bytes = length stream; chunks = length parts; fresh = length (fresh h parts) }
+      ≡ line_for (newest h + 1) (length stream) (length parts) (length (fresh h parts))
   pub expired : (shape : Shape) (s : VersionState) (v : ℕ) → 2 ≤ retained (history shape s) →
       version_line (drop_oldest s) (history shape (drop_oldest s)) v ≡ version_line s (history shape s) v
 
@@ -269,7 +269,7 @@ pub record ABackupLeavesItsReserve : Type 0 where
   pub stays_free : (extent : ℕ) (h : History) (w : List (List ℕ)) (i : ℕ) → 1 ≤ extent → h.base + 1 ≤ i → i ≤ newest h → h.expired < length h.versions →
       owned extent (grown h w) (Waiting (i + 1)) + reserve_left extent (grown h w) (Waiting (i + 1)) ≤ owned extent (grown h w) (Waiting i) + reserve_left extent (grown h w) (Waiting i)
   pub settled : (extent : ℕ) (h : History) (w : List (List ℕ)) → 1 ≤ extent → h.expired < length h.versions → owned extent (grown h w) Settled ≤ owned extent h Settled + need extent h w
-  pub first : (extent base : ℕ) (w : List (List ℕ)) → 1 ≤ extent → let h : History = record { base = base; versions = []; expired = 0 } in need extent h w ≡ owned extent (grown h w) Settled
+  pub first : (extent base : ℕ) (w : List (List ℕ)) → 1 ≤ extent → let h = no_versions base in need extent h w ≡ owned extent (grown h w) Settled
 
 -- The state after a backup has the history that is grown by the stream's chunks, and each history with a version is the
 -- one before, grown by that version.

@@ -10,6 +10,10 @@ use Rattle.bd_model.specs.History.{History, newest, retained}
 pub record Version : Type 0 where
   pub stream : List ℕ
 
+-- the version of this stream
+abbrev pub plain : List ℕ → Version
+plain stream = record { stream = stream }
+
 -- the versions backed up since the store was last empty, the oldest first: the first of them has the number base + 1,
 -- and the first `expired` of them are given up. Their streams stay here; a store keeps nothing of them
 pub record VersionState : Type 0 where

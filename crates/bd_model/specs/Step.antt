@@ -13,7 +13,7 @@ use Rattle.bd_model.specs.declared.layout.Phase.{Phase}
 use Rattle.bd_model.specs.declared.layout.Phase.TheVariants.{Settled, Waiting}
 use Rattle.bd_model.specs.Chunks.{chunks, numbers}
 use Rattle.bd_model.specs.History.{History, version, newest, oldest, retained, distinct}
-use Rattle.bd_model.specs.State.{VersionState, history, cut_of, stream_of, last_number}
+use Rattle.bd_model.specs.State.{VersionState, history, cut_of, stream_of, last_number, plain}
 use Rattle.bd_model.specs.Category.{begins}
 use Rattle.bd_model.specs.Layout.{closed_volume, open_category, record_bytes}
 use Rattle.bd_model.specs.Room.{need, counted, owned, fresh, up, recipe_bytes}
@@ -34,7 +34,7 @@ free_extents shape held s = shape.extents - owned shape.extent (history shape s)
 
 -- the state with one version more
 abbrev pub with_version : VersionState → List ℕ → VersionState
-with_version s stream = record s { versions = s.versions ++ record { stream = stream } ∷ [] }
+with_version s stream = record s { versions = s.versions ++ plain stream ∷ [] }
 
 -- a backup of a stream, where numbers and versions are left: it is refused where the count is more than what is free
 abbrev pub backed_up : Shape → ℕ → VersionState → List ℕ → Answer × VersionState
@@ -68,12 +68,16 @@ dropped_extents extent h v = up extent (record_bytes (closed_volume h Settled v)
 abbrev pub expired_extents : ℕ → History → ℕ
 expired_extents extent h = if retained h == 1 then owned extent h Settled else dropped_extents extent h (oldest h)
 
+-- the state after all versions are given up, and after the oldest one of several
+abbrev pub emptied : VersionState → VersionState
+emptied s = record s { base = s.base + length s.versions; versions = []; expired = 0 }
+
+abbrev pub one_fewer : VersionState → VersionState
+one_fewer s = record s { expired = s.expired + 1 }
+
 -- the state after the oldest version is given up
 abbrev pub drop_oldest : VersionState → VersionState
-drop_oldest s =
-    if s.expired + 1 == length s.versions
-    then record s { base = s.base + length s.versions; versions = []; expired = 0 }
-    else record s { expired = s.expired + 1 }
+drop_oldest s = if s.expired + 1 == length s.versions then emptied s else one_fewer s
 
 -- the number of records that a settled store keeps
 abbrev pub record_count : History → ℕ
@@ -93,14 +97,13 @@ scrub_report h = record {
   findings = record { items = []; spare = 0 };
 }
 
--- a version as a list shows it; `fresh` counts the different chunks that the version before lacks
+-- the line of a version of so many bytes and chunks, of which so many are fresh
+abbrev pub line_for : ℕ → ℕ → ℕ → ℕ → VersionLine
+line_for v bytes chunks fresh = record { version = v; bytes = bytes; chunks = chunks; fresh = fresh }
+
+-- a version as a list shows it: fresh are the different chunks that the version before lacks
 abbrev pub version_line : VersionState → History → ℕ → VersionLine
-version_line s h v = record {
-  version = v;
-  bytes = length (stream_of s v);
-  chunks = length (version h v);
-  fresh = length (filter (begins h v) (distinct (version h v)));
-}
+version_line s h v = line_for v (length (stream_of s v)) (length (version h v)) (length (filter (begins h v) (distinct (version h v))))
 
 abbrev pub version_lines : VersionState → History → List VersionLine
 version_lines s h = map (version_line s h) (numbers (oldest h) (newest h))

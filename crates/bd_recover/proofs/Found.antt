@@ -12,7 +12,7 @@ use Rattle.bd_model.specs.Sizes.{Sizes, is_shape, disk_bytes, half_place, payloa
 use Rattle.bd_model.specs.declared.place.Place.{Place}
 use Rattle.bd_model.specs.declared.place.Place.TheVariants.{Short, Gate, Magic, Number, Shape, Padding, Room, Payload}
 use Rattle.bd_gate.specs.Superblock.{byte_at, four_at, open_gate, magic, sizes_at, is_marked}
-use Rattle.bd_gate.specs.Halves.{newest_by, newest_half, half_at, payload_of}
+use Rattle.bd_gate.specs.Halves.{newest_by, newest_half, half_at, payload_of, half_of}
 use Rattle.bd_roll.specs.Catalogue.{empty_catalogue}
 use Rattle.bd_roll.specs.Rules.{catalogue_of}
 use Rattle.bd_catalog.specs.Opening.{Found, opened, opened_half, opened_payload}
@@ -70,7 +70,7 @@ unfolding newest_by
 newest_first _ _ _ turn1 e1 e2 e3 = rw (e1, e2, e3) refl
 
 half_same : (s : Sizes) (turn length : ℕ) (other : Bool) → turn ≡ 0 → length ≡ 21 → other ≡ false
-    → record { number = 0; turn = turn; length = length; other_open = other } ≡ (fresh_found s).half
+    → half_of 0 turn length other ≡ (fresh_found s).half
 half_same s _ _ _ e1 e2 e3 = rw (e1, e2, e3) refl
 
 module _ (s : Sizes) (image : List ℕ) (h : HoldsFresh s image) where

@@ -6,7 +6,7 @@ use Rattle.bd_disk.specs.Made.{IsSettled, LeavesSince}
 use Rattle.bd_model.specs.Records.{four, eight}
 use Rattle.bd_model.specs.Sizes.{Sizes, disk_bytes, extent_place}
 use Rattle.bd_gate.specs.Superblock.{open_gate, magic, is_marked}
-use Rattle.bd_gate.specs.Halves.{Half, log_place, is_open}
+use Rattle.bd_gate.specs.Halves.{log_place, is_open, half_of}
 use Rattle.bd_roll.specs.Catalogue.{empty_catalogue}
 use Rattle.bd_catalog.specs.Opening.{Found, opened}
 
@@ -32,7 +32,7 @@ InParts s place = (1 ≤ place) × (place < extent_place s 0)
 -- what an opening of it finds
 abbrev pub fresh_found : Sizes → Found
 fresh_found s =
-    let half : Half = record { number = 0; turn = 0; length = 21; other_open = false } in
+    let half = half_of 0 0 21 false in
     record { sizes = s; half = half; catalogue = empty_catalogue; log_end = log_place s half }
 
 -- an image that opens as no store, or as the empty one of these sizes

@@ -18,7 +18,7 @@ use Rattle.bd_model.specs.declared.layout.Phase.TheVariants.{Settled, Waiting}
 use Rattle.bd_model.proofs.ListLemmas.{left_and, right_and}
 use Rattle.bd_model.proofs.RoomLemmas.{up-enough}
 use Rattle.bd_space.proofs.Distinct.{distinct_left}
-use Rattle.bd_roll.specs.Catalogue.{Catalogue, VersionEntry, VolumeEntry, OpenEntry, all_extents, bytes_of_rows, empty_catalogue, oldest_in, retained_in, starts_of}
+use Rattle.bd_roll.specs.Catalogue.{Catalogue, VersionEntry, VolumeEntry, OpenEntry, all_extents, bytes_of_rows, emptied_catalogue, oldest_in, retained_in, starts_of}
 use Rattle.bd_roll.specs.Rules.{actives_hold, all_differ, ascends, extents_hold, fits_eight, numbers_hold, obeys, phase_holds, row_holds, starts_hold, version_holds, volume_holds}
 use Rattle.bd_roll.specs.Splitting.{FitsExpire, after_expire, begun_from, expired}
 use Rattle.bd_roll.proofs.Fitting.{all_differ-once, flips}
@@ -214,12 +214,11 @@ waits_on c d (Waiting cursor) h base newest more =
     waits e = cc
 
 -- with the only version everything goes
-nothing_rules : (s : Sizes) (base : ℕ) → base < 2 ^ 32 → obeys s (record empty_catalogue { base = base; newest = base }) ≡ true
-nothing_rules s base small =
-    let c : Catalogue = record empty_catalogue { base = base; newest = base } in
-    let numbers : numbers_hold s c ≡ true =
-    λ k. le-leb 0 s.retain (omega arith) k && le-leb (base + 0) base (omega arith) k && (false || eq-eqb base base refl k) && lt-ltb base (2 ^ 32) small k && true in
-    obeys_by_rules s c (record { numbers = numbers; phase = refl; versions = refl; starts = refl; open_starts = refl; volumes = refl; actives = refl; extents = refl })
+nothing_rules : (s : Sizes) (c : Catalogue) → c.newest < 2 ^ 32 → obeys s (emptied_catalogue c) ≡ true
+nothing_rules s c small =
+    let numbers : numbers_hold s (emptied_catalogue c) ≡ true =
+    λ k. le-leb 0 s.retain (omega arith) k && le-leb (c.newest + 0) c.newest (omega arith) k && (false || eq-eqb c.newest c.newest refl k) && lt-ltb c.newest (2 ^ 32) small k && true in
+    obeys_by_rules s (emptied_catalogue c) (record { numbers = numbers; phase = refl; versions = refl; starts = refl; open_starts = refl; volumes = refl; actives = refl; extents = refl })
 
 later_starts : (o j : ℕ) (es : List VolumeEntry) → starts_hold o j es ≡ true → starts_hold o (j + 1) (drop 1 es) ≡ true
 later_starts o j [] h = refl
@@ -239,7 +238,7 @@ module _ (s : Sizes) (bounded : IsBounded s) (c : Catalogue) (rules : obeys s c 
   rest = record c { versions = drop 1 c.versions; volumes = map (begun_from (oldest_in c + 1)) (drop 1 c.volumes) }
 
   pub after_expire-is : after_expire c ≡ rest
-  after_expire-is = ap (λ t. cond t (record empty_catalogue { base = c.newest; newest = c.newest }) rest) (ne_eqb (retained_in c) 1 (λ e. absurd (omega (arith, e, two))))
+  after_expire-is = ap (λ t. cond t (emptied_catalogue c) rest) (ne_eqb (retained_in c) 1 (λ e. absurd (omega (arith, e, two))))
 
   each : Rules s c
   each = rules_of s c rules
@@ -301,8 +300,7 @@ expired_rules s bounded c rules fits =
     ⊎_elim
     (λ few.
     let one : retained_in c ≡ 1 = omega (arith, few, fits.some) in
-    let nothing : Catalogue = record empty_catalogue { base = c.newest; newest = c.newest } in
-    subst (λ t. obeys s (cond t nothing (record c { versions = drop 1 c.versions; volumes = map (begun_from (oldest_in c + 1)) (drop 1 c.volumes) })) ≡ true) (sym (eq-eqb (retained_in c) 1 one))
-    (nothing_rules s c.newest (numbers_of s c (rules_of s c rules).numbers).newest))
+    subst (λ t. obeys s (cond t (emptied_catalogue c) (record c { versions = drop 1 c.versions; volumes = map (begun_from (oldest_in c + 1)) (drop 1 c.volumes) })) ≡ true) (sym (eq-eqb (retained_in c) 1 one))
+    (nothing_rules s c (numbers_of s c (rules_of s c rules).numbers).newest))
     (λ two. subst (λ d. obeys s d ≡ true) (sym (after_expire-is s bounded c rules fits two)) (rest_rules s bounded c rules fits two))
     (cases_lt (retained_in c) 2)

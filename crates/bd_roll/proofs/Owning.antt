@@ -10,7 +10,7 @@ use Rattle.bd_space.proofs.Distinct.{distinct_cons, distinct_tail}
 use Rattle.std.proofs.lemmas.List.{append-nil}
 use Rattle.std.proofs.lemmas.List.Sorted.{IsPermutation-refl, IsPermutation-append_left, IsPermutation-append_right, IsPermutation-append_comm}
 use Rattle.std.proofs.lemmas.Grind.{flat_map-append}
-use Rattle.bd_roll.specs.Catalogue.{Catalogue, VersionEntry, VolumeEntry, OpenEntry, all_extents, empty_catalogue, oldest_in, retained_in}
+use Rattle.bd_roll.specs.Catalogue.{Catalogue, VersionEntry, VolumeEntry, OpenEntry, all_extents, emptied_catalogue, oldest_in, retained_in}
 use Rattle.bd_model.specs.declared.layout.Phase.{Phase}
 use Rattle.bd_model.specs.declared.layout.Phase.TheVariants.{Settled, Waiting}
 use Rattle.bd_roll.specs.Growing.{with_entries, empty_volume, after_backup}
@@ -157,12 +157,11 @@ same_extents r (e ∷ es) = ap (λ ns. e.extents ++ ns) (same_extents r es)
 
 pub own-expire : (c : Catalogue) → IsPermutation (all_extents c ++ []) (all_extents (after_expire c) ++ expired c)
 own-expire c =
-    let nothing : Catalogue = record empty_catalogue { base = c.newest; newest = c.newest } in
     let rest : Catalogue = record c { versions = drop 1 c.versions; volumes = map (begun_from (oldest_in c + 1)) (drop 1 c.volumes) } in
     let version : VersionEntry → List ℕ = λ e. e.extents in
     let volume : VolumeEntry → List ℕ = λ e. e.extents in
     let gone : List ℕ = flat_map version (take 1 c.versions) ++ flat_map volume (take 1 c.volumes) in
-    elim (retained_in c == 1) as (λ t. IsPermutation (all_extents c ++ []) (all_extents (cond t nothing rest) ++ cond t (all_extents c) gone)) [
+    elim (retained_in c == 1) as (λ t. IsPermutation (all_extents c ++ []) (all_extents (cond t (emptied_catalogue c) rest) ++ cond t (all_extents c) gone)) [
       | true ↦ same_lists (all_extents c ++ []) (all_extents c) (append-nil (all_extents c))
       | false ↦ permutation_by_times _ _ (λ n. omega (
         arith,

@@ -9,7 +9,7 @@ use Rattle.bd_model.specs.declared.layout.Phase.{Phase}
 use Rattle.bd_model.specs.declared.layout.Phase.TheVariants.{Settled, Waiting}
 use Rattle.bd_model.specs.declared.layout.CategoryRow.{CategoryRow}
 use Rattle.bd_model.specs.Records.{four, eight}
-use Rattle.bd_roll.specs.Catalogue.{Catalogue, VersionEntry, VolumeEntry, OpenEntry}
+use Rattle.bd_roll.specs.Catalogue.{Catalogue, VersionEntry, VolumeEntry, OpenEntry, entry_with}
 use Rattle.bd_roll.specs.Spelling.{Read, read_four, read_many, read_list, read_row, read_version, read_volume, read_active, read_catalogue, spelled_extents, spelled_phase, spelled_row, spelled_version, spelled_volume, spelled_active, spelled}
 use Rattle.bd_roll.specs.Widths.{FitList, FitsFour, FitsRow, FitsVersion, FitsVolume, FitsOpen, FitsPhase, IsSpellable}
 
@@ -58,7 +58,7 @@ version_back e rest fits =
     let size = from_be_bytes-to_be_bytes_8 e.length fits.length in
     let chunks = from_be_bytes-to_be_bytes_8 e.chunks fits.chunks in
     let fresh = from_be_bytes-to_be_bytes_8 e.fresh fits.fresh in
-    let made : ℕ → ℕ → ℕ → Read (List ℕ) → Read VersionEntry = λ a b c x. read_of (record { length = a; chunks = b; fresh = c; extents = x.it }) x.rest in
+    let made : ℕ → ℕ → ℕ → Read (List ℕ) → Read VersionEntry = λ a b c x. read_of (entry_with a b c x.it) x.rest in
     let behind = read_list read_four (spelled_extents e.extents ++ rest) in
     ap (λ (a : ℕ). made a (from_be_bytes w64 (eight e.chunks)) (from_be_bytes w64 (eight e.fresh)) behind) size
     ∙ ap (λ (b : ℕ). made e.length b (from_be_bytes w64 (eight e.fresh)) behind) chunks

@@ -3,7 +3,7 @@ use Rattle.std.specs.Prelude.{ℕ, ◌+◌, ◌==◌, List, [], ◌∷◌, ◌++
 use Rattle.bd_model.specs.declared.layout.Phase.{Phase}
 use Rattle.bd_model.specs.declared.layout.Phase.TheVariants.{Settled, Waiting}
 use Rattle.bd_model.specs.Layout.{row_of}
-use Rattle.bd_roll.specs.Catalogue.{Catalogue, VersionEntry, VolumeEntry, OpenEntry, retained_in}
+use Rattle.bd_roll.specs.Catalogue.{Catalogue, VersionEntry, VolumeEntry, OpenEntry, retained_in, entry_with}
 
 -- the catalogue with a version more, and with more volumes and open categories
 abbrev pub with_entries : Catalogue → Phase → VersionEntry → List VolumeEntry → List OpenEntry → Catalogue
@@ -29,7 +29,7 @@ after_backup c entry fresh =
 
 -- the entry of a version of these bytes and chunks, of which those that begin with it are fresh
 abbrev pub entry_for : List ℕ → List (List ℕ) → List (List ℕ) → List ℕ → VersionEntry
-entry_for stream parts begun extents = record { length = length stream; chunks = length parts; fresh = length begun; extents = extents }
+entry_for stream parts begun extents = entry_with (length stream) (length parts) (length begun) extents
 
 -- the open category of these chunks, where there are some
 abbrev pub own_category : ℕ → List (List ℕ) → List ℕ → List OpenEntry

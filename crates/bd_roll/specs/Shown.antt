@@ -4,10 +4,10 @@ use Rattle.bd_roll.specs.declared.rows.VersionRow.{VersionRow}
 use Rattle.bd_roll.specs.declared.rows.ClosedVolume.{ClosedVolume}
 use Rattle.bd_roll.specs.declared.rows.ActiveCategory.{ActiveCategory}
 use Rattle.bd_roll.specs.declared.contents.Contents.{Contents}
-use Rattle.bd_roll.specs.Catalogue.{Catalogue, VersionEntry, VolumeEntry, OpenEntry}
+use Rattle.bd_roll.specs.Catalogue.{Catalogue, VersionEntry, VolumeEntry, OpenEntry, entry_with}
 
 abbrev pub version_entry : VersionRow → VersionEntry
-version_entry v = record { length = v.length; chunks = v.chunks; fresh = v.fresh; extents = v.recipe.numbers }
+version_entry v = entry_with v.length v.chunks v.fresh v.recipe.numbers
 
 abbrev pub volume_entry : ClosedVolume → VolumeEntry
 volume_entry v = record { rows = v.rows.items; extents = v.extents.numbers }

@@ -5,7 +5,7 @@ use Rattle.bd_model.specs.declared.layout.Phase.{Phase}
 use Rattle.bd_model.specs.declared.layout.Phase.TheVariants.{Settled, Waiting}
 use Rattle.bd_model.specs.declared.layout.CategoryRow.{CategoryRow}
 use Rattle.bd_model.specs.Records.{four, eight}
-use Rattle.bd_roll.specs.Catalogue.{Catalogue, VersionEntry, VolumeEntry, OpenEntry}
+use Rattle.bd_roll.specs.Catalogue.{Catalogue, VersionEntry, VolumeEntry, OpenEntry, entry_with}
 
 -- how many, and then each
 abbrev pub spelled_extents : List ℕ → List ℕ
@@ -73,7 +73,7 @@ read_version bytes =
     let chunks = read_eight size.rest in
     let fresh = read_eight chunks.rest in
     let extents = read_list read_four fresh.rest in
-    record { it = record { length = size.it; chunks = chunks.it; fresh = fresh.it; extents = extents.it }; rest = extents.rest }
+    record { it = entry_with size.it chunks.it fresh.it extents.it; rest = extents.rest }
 
 abbrev pub read_volume : List ℕ → Read VolumeEntry
 read_volume bytes =

@@ -6,7 +6,7 @@ use Rattle.bd_model.specs.Room.{up}
 use Rattle.bd_model.specs.Sizes.{Sizes}
 use Rattle.bd_model.specs.declared.layout.CategoryRow.{CategoryRow}
 use Rattle.bd_model.specs.declared.layout.Phase.TheVariants.{Settled}
-use Rattle.bd_roll.specs.Catalogue.{Catalogue, VolumeEntry, OpenEntry, empty_catalogue, oldest_in, retained_in, all_extents, bytes_of_rows}
+use Rattle.bd_roll.specs.Catalogue.{Catalogue, VolumeEntry, OpenEntry, emptied_catalogue, oldest_in, retained_in, all_extents, bytes_of_rows}
 use Rattle.bd_roll.specs.Rules.{obeys, active_holds, all_differ, ascends}
 
 -- ---- what stands in place of open categories
@@ -138,7 +138,7 @@ begun_from oldest e = record { rows = rows_from oldest e.rows; extents = e.exten
 abbrev pub after_expire : Catalogue → Catalogue
 after_expire c =
     if retained_in c == 1
-    then record empty_catalogue { base = c.newest; newest = c.newest }
+    then emptied_catalogue c
     else record c {
       versions = drop 1 c.versions;
       volumes = map (begun_from (oldest_in c + 1)) (drop 1 c.volumes);

@@ -2,7 +2,7 @@
 ghost use Rattle.std.specs.Prelude.{◌≡◌, ◌≢◌, ℕ, ◌+◌, ◌-◌, ◌^◌, ◌<◌, ◌≤◌, [], map, length, All, IsTrue};
 ghost use Rattle.std.specs.List.{flat_map};
 ghost use Rattle.bd_model.specs.Laws.{rows_from};
-ghost use Rattle.bd_roll.specs.Catalogue.{all_extents, empty_catalogue, retained_in};
+ghost use Rattle.bd_roll.specs.Catalogue.{all_extents, emptied_catalogue, retained_in};
 ghost use Rattle.bd_roll.specs.Giving.{AreOwned, GivesUp, SumsFit};
 ghost use Rattle.bd_roll.specs.Shown.{catalogue_of_contents, open_entry, volume_entry};
 ghost use Rattle.bd_roll.specs.Splitting.{after_expire, begun_from, expired};
@@ -82,7 +82,7 @@ impl Contents {
         requires one { length self.old.versions.items ≡ 1 }
         requires volumes { self.old.volumes.items ≡ [] }
         requires owned { AreOwned space.old (all_extents (catalogue_of_contents self.old)) }
-        ensures catalogue { catalogue_of_contents self.new ≡ record empty_catalogue { base = self.old.newest; newest = self.old.newest } }
+        ensures catalogue { catalogue_of_contents self.new ≡ emptied_catalogue (catalogue_of_contents self.old) }
         ensures gives { GivesUp (all_extents (catalogue_of_contents self.old)) space.old space.new }
     {
         release_all(space, &mut self.actives);

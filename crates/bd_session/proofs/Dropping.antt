@@ -6,7 +6,7 @@ use Rattle.std.proofs.lemmas.Bool.{eqb-true, eqb-false}
 use Rattle.std.proofs.lemmas.List.{append-nil, length-drop}
 use Rattle.std.proofs.lemmas.List.Sorted.{IsPermutation-append_comm, IsPermutation-append_left, IsPermutation-trans}
 use Rattle.bd_model.specs.Sizes.{Sizes}
-use Rattle.bd_roll.specs.Catalogue.{Catalogue, VersionEntry, VolumeEntry, all_extents, empty_catalogue, oldest_in, recipe_extents, retained_in, volume_extents}
+use Rattle.bd_roll.specs.Catalogue.{Catalogue, VersionEntry, VolumeEntry, all_extents, emptied_catalogue, oldest_in, recipe_extents, retained_in, volume_extents}
 use Rattle.bd_roll.specs.Rules.{obeys}
 use Rattle.bd_roll.specs.Splitting.{after_expire}
 use Rattle.bd_roll.proofs.Obeying.{NumbersHold, numbers_of, rules_of}
@@ -21,7 +21,7 @@ front f (x ∷ xs) = append-nil (f x)
 
 module _ (s : Sizes) (c : Catalogue) (rules : obeys s c ≡ true) where
   abbrev nothing : Catalogue
-  nothing = record empty_catalogue { base = c.newest; newest = c.newest }
+  nothing = emptied_catalogue c
 
   abbrev rest : Catalogue
   rest = without_oldest c

@@ -2,8 +2,7 @@
 use Rattle.std.proofs.Common.{◌≡◌, ℕ, zero, suc, ◌+◌, List, [], ◌∷◌, ◌++◌, take, sym, ◌∙◌, ap, arith, add-one, Some, slice_get}
 use Rattle.bd_model.proofs.ListLemmas.{same_some}
 use Rattle.bd_roll.specs.Catalogue.{VersionEntry}
-use Rattle.bd_catalog.specs.Standing.{lines_from}
-use Rattle.bd_catalog.proofs.StandingLists.{line_of}
+use Rattle.bd_catalog.specs.Standing.{lines_from, line_of}
 
 lines-suc : (v : ℕ) (es : List VersionEntry) (i : ℕ) (e : VersionEntry) → slice_get es i ≡ Some e → lines_from v (take (suc i) es) ≡ lines_from v (take i es) ++ line_of (v + i) e ∷ []
 lines-suc v [] i e there = absurd (cc there)

@@ -29,7 +29,7 @@ use Rattle.bd_model.proofs.RoomLemmas.{up-enough}
 use Rattle.bd_model.proofs.RowLemmas.{no_chunks, rows_describe_the_volume, rows_over}
 use Rattle.bd_extio.specs.Ranges.{InOwner, place_of}
 use Rattle.bd_extio.proofs.Places.{get_or-owner_bytes, length-owner_bytes}
-use Rattle.bd_roll.specs.Catalogue.{Catalogue, OpenEntry, VersionEntry, VolumeEntry, active_extents, all_extents, bytes_of_rows, oldest_in, recipe_extents, volume_extents}
+use Rattle.bd_roll.specs.Catalogue.{Catalogue, OpenEntry, VersionEntry, VolumeEntry, active_extents, all_extents, bytes_of_rows, oldest_in, recipe_extents, volume_extents, entry_with}
 use Rattle.bd_catalog.specs.Opening.{Found, opened}
 use Rattle.bd_catalog.specs.Rows.{open_row}
 use Rattle.bd_roll.specs.Rules.{active_holds, all_differ, obeys, version_holds, volume_holds}
@@ -222,7 +222,7 @@ module _ (shape : Shape) (st : VersionState) (c : Catalogue) (rules : IsTrue (ob
     recipes = λ v low high.
         let s = sizes_of shape in
         let h = history shape st in
-        let none : VersionEntry = record { length = 0; chunks = 0; fresh = 0; extents = [] } in
+        let none = entry_with 0 0 0 [] in
         let k = v - oldest_in c in
         let inside : k < length c.versions = omega (arith, numbered.newest, numbered.retained) in
         let e = get_or c.versions k none in

@@ -1,9 +1,9 @@
 use Rattle.std.proofs.Common.{◌≡◌, ℕ, ◌+◌, ◌-◌, Some, ◌++◌, ◌∷◌, [], slice_get, arith, ◌∙◌, sym, ap, subst}
 use Rattle.bd_roll.specs.Catalogue.{Catalogue, oldest_in}
 use Rattle.bd_roll.specs.Shown.{version_entry}
-use Rattle.bd_catalog.proofs.StandingLists.{line_of}
 use Rattle.bd_store.proofs.LineLemmas.{lines-more}
 use Rattle.bd_store.proofs.listing.lines_of.Goals as goal
+use Rattle.bd_catalog.specs.Standing.{line_of}
 
 pub loop-index-preserved : goal.loop-index-preserved
 loop-index-preserved c =
