@@ -1,7 +1,7 @@
 -- The image after an expiry stands for the state without its oldest version.
 use Rattle.std.proofs.Common.{◌≡◌, ◌⊎◌, inl, ⊎_elim, ℕ, suc, ◌+◌, ◌-◌, ◌≤◌, true, false, cond, List, [], ◌∷◌, ◌++◌, length, map, drop, get_or, refl, sym, ◌∙◌, ap, arith, subst, nat_eq, nat_le, eq-eqb, length-append, flat_map, take, Some, None}
 use Rattle.std.specs.Prelude.{Ok}
-use Rattle.std.proofs.lemmas.Bool.{cases_lt, leb-true, ne_eqb}
+use Rattle.std.proofs.lemmas.Bool.{cases_lt, le-leb, leb-true, lt-leb, ne_eqb}
 use Rattle.std.proofs.lemmas.List.{length-drop}
 use Rattle.std.proofs.lemmas.List.Sorted.{length_permutation}
 use Rattle.bd_disk.specs.Images.{AgreeBut}
@@ -16,14 +16,14 @@ use Rattle.bd_model.specs.declared.layout.Phase.TheVariants.{Settled}
 use Rattle.bd_model.specs.declared.shape.Shape.{Shape}
 use Rattle.bd_model.specs.Chunks.{numbers}
 use Rattle.bd_model.specs.History.{History, newest, oldest, retained}
-use Rattle.bd_model.specs.Laws.{TakesOnlyTheOldest, given_up, rows_from}
+use Rattle.bd_model.specs.Laws.{TakesOnlyTheFirst, given_up, rows_to}
 use Rattle.bd_model.specs.Layout.{closed_volume, rows}
 use Rattle.bd_model.specs.Recipe.{recipe}
 use Rattle.bd_model.specs.Records.{records_of, spelled_recipe}
 use Rattle.bd_model.specs.Sizes.{Sizes, sizes_of}
 use Rattle.bd_model.specs.State.{VersionState, history}
-use Rattle.bd_model.specs.Step.{drop_oldest, expired_extents, Outcome, unchanged, version_line, emptied, one_fewer}
-use Rattle.bd_model.proofs.ExpiryLemmas.{expiry_takes_only_the_oldest}
+use Rattle.bd_model.specs.Step.{drop_oldest, expired_extents, Outcome, unchanged, version_line, emptied, fewer_by}
+use Rattle.bd_model.proofs.ExpiryLemmas.{giving_up_takes_only_the_first}
 use Rattle.bd_model.proofs.GrownLemmas.{lines_stay}
 use Rattle.bd_model.proofs.ListLemmas.{not_nil, numbers-cons}
 use Rattle.bd_model.proofs.StepLemmas.{length-history}
@@ -69,9 +69,9 @@ same_extents_begun : (r : ℕ) (es : List VolumeEntry) → map (λ e. e.extents)
 same_extents_begun r [] = refl
 same_extents_begun r (e ∷ es) = ap (λ ns. e.extents ∷ ns) (same_extents_begun r es)
 
-begun_rows : (r : ℕ) (es : List VolumeEntry) → map (λ e. e.rows) (map (begun_from r) es) ≡ map (rows_from r) (map (λ (e : VolumeEntry). e.rows) es)
+begun_rows : (r : ℕ) (es : List VolumeEntry) → map (λ e. e.rows) (map (begun_from r) es) ≡ map (rows_to r) (map (λ (e : VolumeEntry). e.rows) es)
 begun_rows r [] = refl
-begun_rows r (e ∷ es) = ap (λ rs. rows_from r e.rows ∷ rs) (begun_rows r es)
+begun_rows r (e ∷ es) = ap (λ rs. rows_to r e.rows ∷ rs) (begun_rows r es)
 
 map-both : {X Y : Type 0} (f : X → Y) (g : ℕ → X) (ns : List ℕ) → map f (map g ns) ≡ map (λ n. f (g n)) ns
 map-both f g [] = refl
@@ -114,7 +114,7 @@ module _ (shape : Shape) (st : VersionState) (phase : Phase) (held : ℕ) (old n
   rest = without_oldest c
 
   abbrev later : VersionState
-  later = one_fewer st
+  later = fewer_by 1 st
 
   shows : Shows shape st phase held found old
   shows = stands-shows stands opens
@@ -122,16 +122,16 @@ module _ (shape : Shape) (st : VersionState) (phase : Phase) (held : ℕ) (old n
   several : 2 ≤ retained h
   several = omega (arith, two, shows.numbers.retained)
 
-  takes : TakesOnlyTheOldest h phase
+  takes : TakesOnlyTheFirst 1 h phase
   takes =
       ⊎_elim
-      (λ settled. subst (TakesOnlyTheOldest h) (sym settled ∙ shows.at_phase) (expiry_takes_only_the_oldest.settled h several))
-      (λ three. expiry_takes_only_the_oldest.waiting h phase (omega (arith, three, shows.numbers.retained))) arranged
+      (λ settled. subst (TakesOnlyTheFirst 1 h) (sym settled ∙ shows.at_phase) (giving_up_takes_only_the_first.settled 1 h (omega arith) (omega (arith, several))))
+      (λ three. giving_up_takes_only_the_first.waiting 1 h phase (omega arith) (omega (arith, three, shows.numbers.retained))) arranged
 
   pub dropped-is : drop_oldest st ≡ later
   dropped-is =
       ap (λ t. cond t (emptied st) later)
-      (ne_eqb (st.expired + 1) (length st.versions) (λ e. absurd (omega (arith, several, length-history shape st, e))))
+      (lt-leb (length st.versions) (st.expired + 1) (omega (arith, several, length-history shape st)))
 
   rest-is : after_expire c ≡ rest
   rest-is = ap (λ t. cond t (emptied_catalogue c) rest) (ne_eqb (retained_in c) 1 (λ e. absurd (omega (arith, e, two))))
@@ -162,7 +162,7 @@ module _ (shape : Shape) (st : VersionState) (phase : Phase) (held : ℕ) (old n
         ∙ later_lines (oldest_in c) (oldest h) (newest h) (version_line st h) c.versions (omega (arith, several)) shows.versions.lines
         ∙ ap (λ n. map (version_line st h) (numbers n (newest h))) (sym takes.oldest_next)
         ∙ map-numbers (version_line st h) (version_line later (history shape later)) (oldest (history shape later)) (newest h)
-        (λ v low high. sym (subst (λ state. version_line state (history shape state) v ≡ version_line st h v) dropped-is (lines_stay.expired shape st v several)));
+        (λ v low high. sym (subst (λ state. version_line state (history shape state) v ≡ version_line st h v) dropped-is (lines_stay.dropped shape st 1 v (omega (arith, several)))));
     recipes = λ v low high.
         subst (λ ns. BeginWith s ns (spelled_recipe (recipe h v)) new) (sym (later_recipe c next v (omega (arith, low, oldest-is)))) (kept (recipe_extents c v) _ (shows.versions.recipes v (omega (arith, low)) high));
   }
@@ -171,11 +171,11 @@ module _ (shape : Shape) (st : VersionState) (phase : Phase) (held : ℕ) (old n
   later_volumes = record {
     rows =
         begun_rows (oldest_in c + 1) (drop 1 c.volumes)
-        ∙ ap (map (rows_from (oldest_in c + 1))) (without_first (λ (e : VolumeEntry). e.rows) (rows h phase) (oldest h) (newest h - 1) c.volumes (omega (arith, several)) shows.volumes.rows)
-        ∙ ap (λ r. map (rows_from r) (map (rows h phase) (numbers (oldest h + 1) (newest h - 1)))) (ap (λ n. n + 1) oldest-is)
-        ∙ map-both (rows_from (oldest h + 1)) (rows h phase) (numbers (oldest h + 1) (newest h - 1))
-        ∙ map-numbers (λ j. rows_from (oldest h + 1) (rows h phase j)) (rows (given_up h) phase) (oldest h + 1) (newest h - 1) (λ j low high. sym (takes.rows j (omega (arith, low))))
-        ∙ ap (λ n. map (rows (given_up h) phase) (numbers n (newest h - 1))) (sym takes.oldest_next);
+        ∙ ap (map (rows_to (oldest_in c + 1))) (without_first (λ (e : VolumeEntry). e.rows) (rows h phase) (oldest h) (newest h - 1) c.volumes (omega (arith, several)) shows.volumes.rows)
+        ∙ ap (λ r. map (rows_to r) (map (rows h phase) (numbers (oldest h + 1) (newest h - 1)))) (ap (λ n. n + 1) oldest-is)
+        ∙ map-both (rows_to (oldest h + 1)) (rows h phase) (numbers (oldest h + 1) (newest h - 1))
+        ∙ map-numbers (λ j. rows_to (oldest h + 1) (rows h phase j)) (rows (given_up 1 h) phase) (oldest h + 1) (newest h - 1) (λ j low high. sym (takes.rows j (omega (arith, low))))
+        ∙ ap (λ n. map (rows (given_up 1 h) phase) (numbers n (newest h - 1))) (sym takes.oldest_next);
     records = λ j low below.
         subst (λ ns. BeginWith s ns (records_of (closed_volume h phase j)) new) (sym (later_volume c next j (omega (arith, low, oldest-is)))) (kept (volume_extents c j) _ (shows.volumes.records j (omega (arith, low)) below));
   }
@@ -203,7 +203,7 @@ last_expired shape st phase held old new found after stands opens one made sizes
     let newest-is : c.newest ≡ base = omega (arith, shows.numbers.newest, length-history shape st) in
     let is : after.catalogue ≡ catalogue_from base =
     catalogue ∙ ap (λ t. cond t (emptied_catalogue c) rest) (eq-eqb (retained_in c) 1 one) ∙ ap catalogue_from newest-is in
-    subst (λ t. StandsFor shape (cond t (emptied st) (one_fewer st)) Settled held new) (sym (eq-eqb (st.expired + 1) (length st.versions) last))
+    subst (λ t. StandsFor shape (cond t (emptied st) (fewer_by 1 st)) Settled held new) (sym (le-leb (length st.versions) (st.expired + 1) (omega (arith, last))))
     (nothing_stands shape base held new after stands.state.numbered (omega (arith, shows.reserve.fits)) made.opens (sizes ∙ shows.sizes) is)
 
 -- ---- any expiry
@@ -229,10 +229,10 @@ module _ (shape : Shape) (st : VersionState) (phase : Phase) (held : ℕ) (old n
       let one : retained_in found.catalogue ≡ 1 = omega (arith, few, fits.some) in
       let last : st.expired + 1 ≡ length st.versions = omega (arith, one, found_shows.numbers.retained, length-history shape st) in
       let settled : left (drop_oldest st) ≡ Settled =
-      ap (λ t. left (cond t (emptied st) (one_fewer st))) (eq-eqb (st.expired + 1) (length st.versions) last) in
+      ap (λ t. left (cond t (emptied st) (fewer_by 1 st))) (le-leb (length st.versions) (st.expired + 1) (omega (arith, last))) in
       subst (λ p. StandsFor shape (drop_oldest st) p held new) (sym settled) (last_expired shape st phase held old new found after stands opens one made sizes catalogue))
       (λ two.
-      let later = one_fewer st in
+      let later = fewer_by 1 st in
       let is : drop_oldest st ≡ later = dropped-is shape st phase held old new found after stands opens two fits.arranged made sizes catalogue in
       let same : left (drop_oldest st) ≡ phase = ap left is ∙ stays (length st.versions - (st.expired + 1)) (λ few. settled_two (omega (arith, few, found_shows.numbers.retained, length-history shape st))) in
       subst (λ p. StandsFor shape (drop_oldest st) p held new) (sym same)
@@ -256,7 +256,7 @@ module _ (shape : Shape) (st : VersionState) (phase : Phase) (held : ℕ) (old n
       let settled : c.phase ≡ Settled = settled_with_few found.sizes c (opened-found old found opens).obeys (omega (arith, few)) in
       ap (λ t. length (cond t (all_extents c) (flat_map (λ (e : VersionEntry). e.extents) (take 1 c.versions) ++ flat_map (λ (e : VolumeEntry). e.extents) (take 1 c.volumes)))) (eq-eqb (retained_in c) 1 one)
       ∙ owned-stands (stands_settled stands opens settled) opens
-      ∙ sym (expiry_takes_only_the_oldest.last_answer shape.extent versions (omega (arith, one, found_shows.numbers.retained))))
+      ∙ sym (giving_up_takes_only_the_first.last_answer shape.extent 1 versions (omega (arith, one, found_shows.numbers.retained))))
       (λ two.
       omega (
         arith,
@@ -267,7 +267,7 @@ module _ (shape : Shape) (st : VersionState) (phase : Phase) (held : ℕ) (old n
         ap (λ d. length (all_extents d)) catalogue,
         owned-stands (oldest_expired shape st phase held old new found after stands opens two fits.arranged made sizes catalogue) made.opens,
         (takes shape st phase held old new found after stands opens two fits.arranged made sizes catalogue).extents shape.extent,
-        expiry_takes_only_the_oldest.answer shape.extent versions (several shape st phase held old new found after stands opens two fits.arranged made sizes catalogue),
+        giving_up_takes_only_the_first.answer shape.extent 1 versions (omega (arith, several shape st phase held old new found after stands opens two fits.arranged made sizes catalogue)),
       ))
       (cases_lt (retained_in c) 2)
 

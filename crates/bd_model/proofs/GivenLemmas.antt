@@ -16,7 +16,7 @@ use Rattle.bd_model.specs.History.{newest, oldest, retained, contains, version}
 use Rattle.bd_model.specs.Marks.{Distinct}
 use Rattle.bd_model.specs.Room.{counted, need, fresh}
 use Rattle.bd_model.specs.State.{Version, VersionState, history, cut_of, last_number, plain}
-use Rattle.bd_model.specs.Step.{Outcome, unchanged, restore, backup, free_extents, with_version, drop_oldest, expired_extents, step, emptied, one_fewer}
+use Rattle.bd_model.specs.Step.{Outcome, unchanged, restore, backup, free_extents, with_version, drop_oldest, expired_extents, step, emptied, fewer_by}
 use Rattle.bd_model.specs.CommandLaws.{GivenChunksStayApart}
 use Rattle.bd_model.proofs.ChunkListLemmas.{contains-append}
 use Rattle.bd_model.proofs.FoldLemmas.{along}
@@ -108,8 +108,8 @@ module _ (shape : Shape) where
       as (λ t. IfSome (cond t (Some (unchanged s files (NothingRetained None))) (Some (record (unchanged s files (Expired (oldest h) (expired_extents shape.extent h))) { state = drop_oldest s }))) (Leaves s [])) [
         | true ↦ in_left (all_chunks s.versions) []
         | false ↦
-            elim (nat_eq (s.expired + 1) (length s.versions))
-            as (λ t. Within (all_chunks (cond t (emptied s) (one_fewer s)).versions) (all_chunks s.versions ++ [])) [
+            elim (nat_le (length s.versions) (s.expired + 1))
+            as (λ t. Within (all_chunks (cond t (emptied s) (fewer_by 1 s)).versions) (all_chunks s.versions ++ [])) [
               | true ↦ λ c has. absurd (false≢true has)
               | false ↦ in_left (all_chunks s.versions) []
             ]

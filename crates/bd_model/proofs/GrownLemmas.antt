@@ -1,6 +1,6 @@
 -- The recipes and the lines of the versions stay when one is added.
-use Rattle.std.proofs.Common.{◌≡◌, ℕ, zero, suc, ◌+◌, ◌-◌, ◌≤◌, Bool, true, false, cond, not, ◌||◌, List, [], ◌∷◌, ◌++◌, refl, sym, ◌∙◌, ap, arith, filter, map, length, get_or, nat_eq}
-use Rattle.std.proofs.lemmas.Bool.{ne_eqb, or_left, or_right}
+use Rattle.std.proofs.Common.{◌≡◌, ℕ, zero, suc, ◌+◌, ◌-◌, ◌≤◌, Bool, true, false, cond, not, ◌||◌, List, [], ◌∷◌, ◌++◌, refl, sym, ◌∙◌, ap, arith, filter, map, length, get_or}
+use Rattle.std.proofs.lemmas.Bool.{or_left, or_right, lt-leb}
 use Rattle.std.proofs.lemmas.List.{get_or_append_left, get_or_at, length-map}
 use Rattle.std.specs.Str.{bytes_eq}
 use Rattle.bd_model.specs.declared.shape.Shape.{Shape}
@@ -11,7 +11,7 @@ use Rattle.bd_model.specs.Marks.{mark, Distinct}
 use Rattle.bd_model.specs.Recipe.{start_of, entry_of, recipe}
 use Rattle.bd_model.specs.Room.{fresh}
 use Rattle.bd_model.specs.State.{Version, VersionState, history, streams, stream_of, cut_of, plain}
-use Rattle.bd_model.specs.Step.{with_version, version_line, emptied, one_fewer, line_for}
+use Rattle.bd_model.specs.Step.{with_version, version_line, emptied, fewer_by, line_for}
 use Rattle.bd_model.specs.Laws.{grown, start_in, entries_in, RecipesStay, LinesStay}
 use Rattle.bd_model.proofs.ChunkListLemmas.{bytes_eq-refl, bytes_eq-same, contains-append}
 use Rattle.bd_model.proofs.HistoryLemmas.{version-grown, version-newest}
@@ -122,7 +122,6 @@ pub lines_stay : LinesStay
 lines_stay = record {
   earlier = line-earlier;
   own = line-own;
-  expired = λ shape s v more.
-      let other : nat_eq (s.expired + 1) (length s.versions) ≡ false = ne_eqb _ _ (λ e. absurd (omega (arith, length-history shape s))) in
-      ap (λ t. let rest = cond t (emptied s) (one_fewer s) in version_line rest (history shape rest) v) other;
+  dropped = λ shape s d v more.
+      ap (λ t. let rest = cond t (emptied s) (fewer_by d s) in version_line rest (history shape rest) v) (lt-leb (length s.versions) (s.expired + d) (omega (arith, length-history shape s)));
 }

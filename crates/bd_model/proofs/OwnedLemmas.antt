@@ -1,6 +1,6 @@
 -- A settled store never owns more extents than there are.
-use Rattle.std.proofs.Common.{◌≡◌, ◌≢◌, ℕ, ◌+◌, ◌≤◌, true, false, cond, ◌&&◌, List, refl, sym, ap, subst, arith, map, length, nat_eq, nat_lt, nat_le, Some, None, IfSome, option_map, ⊎_elim}
-use Rattle.std.proofs.lemmas.Bool.{eqb-false, ltb-false, cases_lt}
+use Rattle.std.proofs.Common.{◌≡◌, ℕ, ◌+◌, ◌≤◌, true, false, cond, ◌&&◌, List, refl, sym, ap, subst, arith, map, length, nat_eq, nat_lt, nat_le, Some, None, IfSome, option_map, ⊎_elim}
+use Rattle.std.proofs.lemmas.Bool.{ltb-false, cases_lt, leb-false}
 use Rattle.std.specs.FinMap as map
 use Rattle.bd_model.specs.declared.shape.Shape.{Shape}
 use Rattle.bd_model.specs.declared.answer.Answer.{Answer}
@@ -13,10 +13,10 @@ use Rattle.bd_model.specs.FileMap.{FileMap}
 use Rattle.bd_model.specs.History.{newest, oldest, retained, no_versions}
 use Rattle.bd_model.specs.Room.{owned, need, counted, fresh}
 use Rattle.bd_model.specs.State.{VersionState, IsState, history, cut_of, last_number}
-use Rattle.bd_model.specs.Step.{unchanged, restore, backup, free_extents, with_version, drop_oldest, expired_extents, step, emptied, one_fewer}
-use Rattle.bd_model.specs.Laws.{grown, TakesOnlyTheOldest, RoomSuffices}
+use Rattle.bd_model.specs.Step.{unchanged, restore, backup, free_extents, with_version, drop_oldest, expired_extents, step, emptied, fewer_by, drop_versions}
+use Rattle.bd_model.specs.Laws.{grown, TakesOnlyTheFirst, RoomSuffices}
 use Rattle.bd_model.proofs.CountedLemmas.{counted-above}
-use Rattle.bd_model.proofs.ExpiryLemmas.{expiry_takes_only_the_oldest, nothing_owned}
+use Rattle.bd_model.proofs.ExpiryLemmas.{giving_up_takes_only_the_first, nothing_owned}
 use Rattle.bd_model.proofs.LawLemmas.{need-first, owned-settled}
 use Rattle.bd_model.proofs.StepLemmas.{length-history, history-grown}
 
@@ -54,15 +54,13 @@ module _ (shape : Shape) where
             fits-pushed held s stream is fits (⊎_elim (λ more. absurd (omega (arith, exact.1 more))) (λ le. le) (cases_lt free (need shape.extent h parts)))
       ] refl
 
-  fits-dropped : (s : VersionState) → retained (history shape s) ≢ 0 → Fits s → Fits (drop_oldest s)
-  fits-dropped s some fits =
+  fits-dropped : (d : ℕ) (s : VersionState) → 1 ≤ d → Fits s → Fits (drop_versions d s)
+  fits-dropped d s some fits =
       let h = history shape s in
-      elim (nat_eq (s.expired + 1) (length s.versions))
-      as (λ t. nat_eq (s.expired + 1) (length s.versions) ≡ t → Fits (cond t (emptied s) (one_fewer s))) [
+      elim (nat_le (length s.versions) (s.expired + d)) as (λ t. nat_le (length s.versions) (s.expired + d) ≡ t → Fits (cond t (emptied s) (fewer_by d s))) [
         | true ↦ λ e. omega (arith, nothing_owned shape.extent (s.base + length s.versions))
         | false ↦ λ e.
-            let others : s.expired + 1 ≢ length s.versions = eqb-false _ _ e in
-            let takes : TakesOnlyTheOldest h Settled = expiry_takes_only_the_oldest.settled h (omega (arith, length-history shape s)) in
+            let takes : TakesOnlyTheFirst d h Settled = giving_up_takes_only_the_first.settled d h some (omega (arith, leb-false (length s.versions) (s.expired + d) e, length-history shape s)) in
             omega (arith, takes.extents shape.extent)
       ] refl
 
@@ -93,10 +91,10 @@ module _ (shape : Shape) where
   fits held s files Expire is fit =
       let h = history shape s in
       elim (nat_eq (retained h) 0)
-      as (λ t. nat_eq (retained h) 0 ≡ t → IfSome (cond t (Some (unchanged s files (NothingRetained None))) (Some (record (unchanged s files (Expired (oldest h) (expired_extents shape.extent h))) { state = drop_oldest s }))) (λ o. Fits o.state)) [
-        | true ↦ λ e. fit
-        | false ↦ λ e. fits-dropped s (eqb-false _ _ e) fit
-      ] refl
+      as (λ t. IfSome (cond t (Some (unchanged s files (NothingRetained None))) (Some (record (unchanged s files (Expired (oldest h) (expired_extents shape.extent h))) { state = drop_oldest s }))) (λ o. Fits o.state)) [
+        | true ↦ fit
+        | false ↦ fits-dropped 1 s (omega arith) fit
+      ]
   fits held s files Reorganise is fit = fit
   fits held s files Scrub is fit = fit
   fits held s files Listing is fit = fit

@@ -1,6 +1,6 @@
 -- How the rows of the newest closed volume grow.
-use Rattle.std.proofs.Common.{◌≡◌, ◌≢◌, ℕ, zero, suc, ◌+◌, ◌-◌, ◌<◌, ◌≤◌, max, Bool, true, false, cond, not, ◌||◌, ◌&&◌, List, [], ◌∷◌, ◌++◌, refl, sym, ◌∙◌, ap, arith, filter, map, length, length-append, nat_lt, nat_eq, lt-ltb, le-ltb, eq-eqb, ◌⊎◌, inl, inr, ⊎_elim, subst, sum_by}
-use Rattle.std.proofs.lemmas.Bool.{ne_eqb, cases_lt, eqb-true, eqb-false, false≢true, ltb-true, ltb-false}
+use Rattle.std.proofs.Common.{◌≡◌, ◌≢◌, ℕ, zero, suc, ◌+◌, ◌-◌, ◌<◌, ◌≤◌, max, Bool, true, false, cond, not, ◌||◌, ◌&&◌, List, [], ◌∷◌, ◌++◌, refl, sym, ◌∙◌, ap, arith, filter, map, length, length-append, nat_le, nat_lt, nat_eq, lt-ltb, le-ltb, eq-eqb, ◌⊎◌, inl, inr, ⊎_elim, subst, sum_by}
+use Rattle.std.proofs.lemmas.Bool.{ne_eqb, cases_lt, eqb-true, eqb-false, false≢true, le-leb, leb-true, lt-leb, ltb-true, ltb-false}
 use Rattle.std.proofs.lemmas.List.{append-nil}
 use Rattle.std.proofs.lemmas.List.Elements.{All-nil, All-cons}
 use Rattle.std.proofs.lemmas.List.Sums.{sum_by-append, sum_by-cons}
@@ -15,7 +15,7 @@ use Rattle.bd_model.specs.Layout.{recorded_as, row_chunks, row_of, rows, record_
 use Rattle.bd_model.specs.Room.{archived}
 use Rattle.bd_model.proofs.LayoutLemmas.{closed_volume-rows, row_chunks-merged, row_chunks-later}
 use Rattle.bd_model.specs.declared.layout.Phase.{Phase}
-use Rattle.bd_model.specs.Laws.{given_up, rows_from, RowsDescribeTheVolume, row_with, rows_with, rows_more}
+use Rattle.bd_model.specs.Laws.{both_rows, given_up, rows_to, taking_in, RowsDescribeTheVolume, row_with, rows_with, rows_more}
 use Rattle.bd_model.proofs.ListLemmas.{sum_by-flat_map, left_and, right_and, filter-same, filter-numbers, filter-numbers_none, filter-below, numbers-split, numbers-cons, numbers-none, numbers-suc}
 use Rattle.bd_model.proofs.HistoryLemmas.{grown, newest-grown}
 use Rattle.bd_model.proofs.CategoryLemmas.{category-archived, category-newest}
@@ -192,15 +192,6 @@ rows_describe_the_volume = record {
   by_number = rows_with-by_number;
 }
 
--- rows from r on stay
-rows_from-same : (r : ℕ) (row : CategoryRow) (rest : List CategoryRow) → r ≤ row.start → rows_from r (row ∷ rest) ≡ row ∷ rest
-rows_from-same r row [] le = let same : max r row.start ≡ row.start = omega arith in ap (λ n. record row { start = n } ∷ []) same
-rows_from-same r row (second ∷ rest) le =
-    let same : max r row.start ≡ row.start = omega arith in
-    let past : nat_lt row.start r ≡ false = le-ltb row.start r le in
-    (λ k. cond (past k && nat_eq second.start r) (record { start = r; chunks = row.chunks + second.chunks; bytes = row.bytes + second.bytes } ∷ rest) (record row { start = max r row.start } ∷ second ∷ rest))
-    ∙ ap (λ n. record row { start = n } ∷ second ∷ rest) same
-
 some_row : (c : List ℕ) (cs : List (List ℕ)) (xs ys : List CategoryRow) → cond (nat_lt 0 (length (c ∷ cs))) xs ys ≡ xs
 some_row c cs xs ys = let some : nat_lt 0 (length (c ∷ cs)) ≡ true = lt-ltb 0 (length (c ∷ cs)) (omega arith) in ap (λ t. cond t xs ys) some
 
@@ -208,57 +199,85 @@ some_row c cs xs ys = let some : nat_lt 0 (length (c ∷ cs)) ≡ true = lt-ltb 
 abbrev all_after : ℕ → List CategoryRow → Bool
 all_after r rows = list_all (λ row. nat_lt r row.start) rows
 
-rows_from-rest : (r : ℕ) (rest : List CategoryRow) → all_after r rest ≡ true → rows_from r rest ≡ rest
-rows_from-rest r [] late = refl
-rows_from-rest r (row ∷ rest) late = let lt : r < row.start = ltb-true r row.start (left_and (nat_lt r row.start) (all_after r rest) late) in rows_from-same r row rest (omega arith)
+-- rows that begin later are left
+taking_in-late : (r : ℕ) (row : CategoryRow) (rest : List CategoryRow) → all_after r rest ≡ true → taking_in r row rest ≡ record row { start = max r row.start } ∷ rest
+taking_in-late r row [] late = refl
+taking_in-late r row (second ∷ rest) late =
+    ap (λ t. cond t (taking_in r (both_rows row second) rest) (record row { start = max r row.start } ∷ second ∷ rest))
+    (lt-leb second.start r (ltb-true r second.start (left_and (nat_lt r second.start) (all_after r rest) late)))
 
-rows_from-lower : (r o : ℕ) (cs : List (List ℕ)) (rest : List CategoryRow) → o < r → all_after r rest ≡ true → row_of r cs ∷ rest ≡ rows_from r (row_of o cs ∷ rest)
-rows_from-lower r o cs [] lt late = let same : r ≡ max r o = omega arith in ap (λ n. row_of n cs ∷ []) same
-rows_from-lower r o cs (second ∷ rest) lt late =
-    let same : r ≡ max r o = omega arith in
-    let after : r < second.start = ltb-true r second.start (left_and (nat_lt r second.start) (all_after r rest) late) in
-    let other : nat_eq second.start r ≡ false = ne_eqb second.start r (λ e. absurd (omega arith)) in
-    let lower : nat_lt o r ≡ true = lt-ltb o r lt in
-    ap (λ n. row_of n cs ∷ second ∷ rest) same
-    ∙ sym (λ k. cond (lower k && other k) (record { start = r; chunks = length cs + second.chunks; bytes = record_bytes cs + second.bytes } ∷ rest) (record (row_of o cs) { start = max r o } ∷ second ∷ rest))
+-- rows from r on stay
+rows_to-same : (r : ℕ) (row : CategoryRow) (rest : List CategoryRow) → r ≤ row.start → all_after r rest ≡ true → rows_to r (row ∷ rest) ≡ row ∷ rest
+rows_to-same r row rest le late = let same : max r row.start ≡ row.start = omega arith in taking_in-late r row rest late ∙ ap (λ n. record row { start = n } ∷ rest) same
 
-rows_from-first : (r o : ℕ) (cs ds : List (List ℕ)) (rest : List CategoryRow) → o < r → all_after r rest ≡ true →
+rows_to-rest : (r : ℕ) (rest : List CategoryRow) → all_after r rest ≡ true → rows_to r rest ≡ rest
+rows_to-rest r [] late = refl
+rows_to-rest r (row ∷ rest) late =
+    let lt : r < row.start = ltb-true r row.start (left_and (nat_lt r row.start) (all_after r rest) late) in
+    rows_to-same r row rest (omega arith) (right_and (nat_lt r row.start) (all_after r rest) late)
+
+rows_to-lower : (r o : ℕ) (cs : List (List ℕ)) (rest : List CategoryRow) → o < r → all_after r rest ≡ true → row_of r cs ∷ rest ≡ rows_to r (row_of o cs ∷ rest)
+rows_to-lower r o cs rest lt late = let same : r ≡ max r o = omega arith in ap (λ n. row_of n cs ∷ rest) same ∙ sym (taking_in-late r (row_of o cs) rest late)
+
+rows_to-first : (r o : ℕ) (cs ds : List (List ℕ)) (rest : List CategoryRow) → o < r → all_after r rest ≡ true →
     cond (nat_lt 0 (length (cs ++ ds))) (row_of r (cs ++ ds) ∷ rest) rest
-    ≡ rows_from r (cond (nat_lt 0 (length cs)) (row_of o cs ∷ cond (nat_lt 0 (length ds)) (row_of r ds ∷ rest) rest) (cond (nat_lt 0 (length ds)) (row_of r ds ∷ rest) rest))
-rows_from-first r o [] [] rest lt late = sym (rows_from-rest r rest late)
-rows_from-first r o [] (d ∷ ds) rest lt late =
-    some_row d ds (row_of r (d ∷ ds) ∷ rest) rest ∙ sym (rows_from-same r (row_of r (d ∷ ds)) rest (omega arith)) ∙ ap (rows_from r) (sym (some_row d ds (row_of r (d ∷ ds) ∷ rest) rest))
-rows_from-first r o (c ∷ cs) [] rest lt late =
+    ≡ rows_to r (cond (nat_lt 0 (length cs)) (row_of o cs ∷ cond (nat_lt 0 (length ds)) (row_of r ds ∷ rest) rest) (cond (nat_lt 0 (length ds)) (row_of r ds ∷ rest) rest))
+rows_to-first r o [] [] rest lt late = sym (rows_to-rest r rest late)
+rows_to-first r o [] (d ∷ ds) rest lt late =
+    some_row d ds (row_of r (d ∷ ds) ∷ rest) rest ∙ sym (rows_to-same r (row_of r (d ∷ ds)) rest (omega arith) late) ∙ ap (rows_to r) (sym (some_row d ds (row_of r (d ∷ ds) ∷ rest) rest))
+rows_to-first r o (c ∷ cs) [] rest lt late =
     some_row c (cs ++ []) (row_of r (c ∷ cs ++ []) ∷ rest) rest
     ∙ ap (λ es. row_of r (c ∷ es) ∷ rest) (append-nil cs)
-    ∙ rows_from-lower r o (c ∷ cs) rest lt late
-    ∙ ap (rows_from r) (sym (some_row c cs (row_of o (c ∷ cs) ∷ rest) rest))
-rows_from-first r o (c ∷ cs) (d ∷ ds) rest lt late =
-    let lower : nat_lt o r ≡ true = lt-ltb o r lt in
-    let same : nat_eq r r ≡ true = eq-eqb r r refl in
+    ∙ rows_to-lower r o (c ∷ cs) rest lt late
+    ∙ ap (rows_to r) (sym (some_row c cs (row_of o (c ∷ cs) ∷ rest) rest))
+rows_to-first r o (c ∷ cs) (d ∷ ds) rest lt late =
+    let first : r ≡ max r o = omega arith in
+    let both : CategoryRow = both_rows (row_of o (c ∷ cs)) (row_of r (d ∷ ds)) in
     let second : List CategoryRow = cond (nat_lt 0 (length (d ∷ ds))) (row_of r (d ∷ ds) ∷ rest) rest in
-    some_row c (cs ++ d ∷ ds) (row_of r (c ∷ cs ++ d ∷ ds) ∷ rest) rest
+    some_row d (cs ++ d ∷ ds) (row_of r (c ∷ cs ++ d ∷ ds) ∷ rest) rest
     ∙ ap (λ row. row ∷ rest) (row_of-append r (c ∷ cs) (d ∷ ds))
-    ∙ sym (λ k. cond (lower k && same k) (row_with (row_of r (c ∷ cs)) (d ∷ ds) ∷ rest) (record (row_of o (c ∷ cs)) { start = max r o } ∷ row_of r (d ∷ ds) ∷ rest))
-    ∙ ap (λ xs. rows_from r (row_of o (c ∷ cs) ∷ xs)) (sym (some_row d ds (row_of r (d ∷ ds) ∷ rest) rest))
-    ∙ ap (rows_from r) (sym (some_row c cs (row_of o (c ∷ cs) ∷ second) second))
+    ∙ ap (λ n. record both { start = n } ∷ rest) first
+    ∙ sym (ap (λ t. cond t (taking_in r both rest) (record (row_of o (c ∷ cs)) { start = max r o } ∷ row_of r (d ∷ ds) ∷ rest)) (le-leb r r (omega arith)) ∙ taking_in-late r both rest late)
+    ∙ ap (λ xs. rows_to r (row_of o (c ∷ cs) ∷ xs)) (sym (some_row d ds (row_of r (d ∷ ds) ∷ rest) rest))
+    ∙ ap (rows_to r) (sym (some_row c cs (row_of o (c ∷ cs) ∷ second) second))
+
+-- a first row that began between is the same
+begun_between : (r q : ℕ) → r ≤ q → (row : CategoryRow) (rows : List CategoryRow) → taking_in q (record row { start = max r row.start }) rows ≡ taking_in q row rows
+begun_between r q le row [] = let same : max q (max r row.start) ≡ max q row.start = omega arith in ap (λ n. record row { start = n } ∷ []) same
+begun_between r q le row (second ∷ rows) =
+    let same : max q (max r row.start) ≡ max q row.start = omega arith in
+    λ i. cond (nat_le second.start q) (begun_between r q le (both_rows row second) rows i) (record row { start = same i } ∷ second ∷ rows)
+
+taken_on : (r q : ℕ) → r ≤ q → (row : CategoryRow) (rows : List CategoryRow) → rows_to q (taking_in r row rows) ≡ taking_in q row rows
+taken_on r q le row [] = begun_between r q le row []
+taken_on r q le row (second ∷ rows) =
+    elim (nat_le second.start r) as (λ t. nat_le second.start r ≡ t → rows_to q (cond t (taking_in r (both_rows row second) rows) (record row { start = max r row.start } ∷ second ∷ rows)) ≡ taking_in q row (second ∷ rows)) [
+      | true ↦ λ e. taken_on r q le (both_rows row second) rows
+          ∙ ap (λ t. cond t (taking_in q (both_rows row second) rows) (record row { start = max q row.start } ∷ second ∷ rows)) (sym (le-leb second.start q (omega (arith, leb-true second.start r e, le))))
+      | false ↦ λ e. begun_between r q le row (second ∷ rows)
+    ] refl
+
+-- giving up more, later, is giving up all of it at once
+pub rows_in_turn : (r q : ℕ) → r ≤ q → (rows : List CategoryRow) → rows_to q (rows_to r rows) ≡ rows_to q rows
+rows_in_turn r q le [] = refl
+rows_in_turn r q le (row ∷ rows) = taken_on r q le row rows
 
 -- where the oldest version is given up the first two recorded starts become one row
-pub rows-given_up : (h : History) (phase : Phase) (j : ℕ) → oldest h < j → rows (given_up h) phase j ≡ rows_from (oldest h + 1) (rows h phase j)
+pub rows-given_up : (h : History) (phase : Phase) (j : ℕ) → oldest h < j → rows (given_up 1 h) phase j ≡ rows_to (oldest h + 1) (rows h phase j)
 rows-given_up h phase j lt =
     let o = oldest h in
     let f = row_chunks h phase j in
-    let g = row_chunks (given_up h) phase j in
-    let next : oldest (given_up h) ≡ o + 1 = omega arith in
+    let g = row_chunks (given_up 1 h) phase j in
+    let next : oldest (given_up 1 h) ≡ o + 1 = omega arith in
     let rest : rows_over g (numbers (o + 1 + 1) j) ≡ rows_over f (numbers (o + 1 + 1) j) =
-    rows_over-same g f (o + 1 + 1) (j + 1 - (o + 1 + 1)) (λ v low high. row_chunks-later (given_up h) phase j v (omega arith) ∙ sym (row_chunks-later h phase j v (omega arith))) in
+    rows_over-same g f (o + 1 + 1) (j + 1 - (o + 1 + 1)) (λ v low high. row_chunks-later (given_up 1 h) phase j v (omega arith) ∙ sym (row_chunks-later h phase j v (omega arith))) in
     let first : g (o + 1) ≡ f o ++ f (o + 1) = ap g (sym next) ∙ row_chunks-merged h phase j in
     ap (λ n. rows_over g (numbers n j)) next
     ∙ ap (rows_over g) (numbers-cons (o + 1) j (omega arith))
     ∙ (λ k. cond (nat_lt 0 (length (first k))) (row_of (o + 1) (first k) ∷ rest k) (rest k))
-    ∙ rows_from-first (o + 1) o (f o) (f (o + 1)) (rows_over f (numbers (o + 1 + 1) j)) (omega arith)
+    ∙ rows_to-first (o + 1) o (f o) (f (o + 1)) (rows_over f (numbers (o + 1 + 1) j)) (omega arith)
     (rows_over-all (λ v. nat_lt (o + 1) v) f (o + 1 + 1) (j + 1 - (o + 1 + 1)) (λ v low high. lt-ltb (o + 1) v (omega arith)))
-    ∙ sym (ap (λ ns. rows_from (o + 1) (rows_over f ns)) (numbers-cons o j (omega arith) ∙ ap (λ ns. o ∷ ns) (numbers-cons (o + 1) j (omega arith))))
+    ∙ sym (ap (λ ns. rows_to (o + 1) (rows_over f ns)) (numbers-cons o j (omega arith) ∙ ap (λ ns. o ∷ ns) (numbers-cons (o + 1) j (omega arith))))
 
 module _ (h : History) (w : List (List ℕ)) where
   abbrev cats : ℕ → List (List ℕ)

@@ -20,7 +20,7 @@ use Rattle.bd_model.specs.Room.{counted, need, fresh}
 use Rattle.bd_model.specs.CommandLaws.{Keeps}
 use Rattle.bd_model.specs.Laws.{BackupsGrowTheHistory, grown}
 use Rattle.std.proofs.lemmas.Option.{IfSome_then}
-use Rattle.bd_model.specs.Step.{unchanged, restore, expired_extents, step, backup, free_extents, drop_oldest, with_version, next_start, phase_after, phase_after_step, without_room, emptied, one_fewer}
+use Rattle.bd_model.specs.Step.{unchanged, restore, expired_extents, step, backup, free_extents, drop_oldest, with_version, next_start, phase_after, phase_after_step, without_room, emptied, fewer_by, drop_versions}
 use Rattle.bd_model.proofs.ListLemmas.{IfSome-find_range_with_len}
 
 module _ (shape : Shape) where
@@ -68,28 +68,27 @@ module _ (shape : Shape) where
         | false ↦ record { state = IsState-pushed s stream is below; phase = λ phase k. IsPhase-pushed s stream is }
       ]
 
-  IsState-dropped : (s : VersionState) → IsState s → s.expired < length s.versions → IsState (drop_oldest s)
-  IsState-dropped s is some =
-      elim (nat_eq (s.expired + 1) (length s.versions))
-      as (λ t. nat_eq (s.expired + 1) (length s.versions) ≡ t → IsState (cond t (emptied s) (one_fewer s))) [
+  IsState-dropped : (d : ℕ) (s : VersionState) → IsState s → IsState (drop_versions d s)
+  IsState-dropped d s is =
+      elim (nat_le (length s.versions) (s.expired + d)) as (λ t. nat_le (length s.versions) (s.expired + d) ≡ t → IsState (cond t (emptied s) (fewer_by d s))) [
         | true ↦ λ e. record { some = inr (refl, refl); numbered = omega (arith, is.numbered) }
-        | false ↦ λ e. let more : s.expired + 1 ≢ length s.versions = eqb-false _ _ e in record { some = inl (omega arith); numbered = is.numbered }
+        | false ↦ λ e. record { some = inl (leb-false (length s.versions) (s.expired + d) e); numbered = is.numbered }
       ] refl
 
   -- where two or more are left, the base and the newest stay
-  IsPhase-dropped : (s : VersionState) (phase : Phase) → IsPhase (history shape s) phase →
-      IsPhase (history shape (drop_oldest s)) (cond (nat_le (length (drop_oldest s).versions - (drop_oldest s).expired) 1) Settled phase)
-  IsPhase-dropped s Settled is = elim (nat_le (length (drop_oldest s).versions - (drop_oldest s).expired) 1) as (λ t. IsPhase (history shape (drop_oldest s)) (cond t Settled Settled)) [ true ↦ tt | false ↦ tt ]
-  IsPhase-dropped s (Waiting cursor) is =
-      elim (nat_eq (s.expired + 1) (length s.versions))
-      as (λ t. let next : VersionState = cond t (emptied s) (one_fewer s) in
-      IsPhase (history shape next) (cond (nat_le (length next.versions - next.expired) 1) Settled (Waiting cursor))) [
+  IsPhase-dropped : (d : ℕ) (s : VersionState) (phase : Phase) → IsPhase (history shape s) phase →
+      IsPhase (history shape (drop_versions d s)) (cond (nat_le (length (drop_versions d s).versions - (drop_versions d s).expired) 1) Settled phase)
+  IsPhase-dropped d s Settled is =
+      elim (nat_le (length (drop_versions d s).versions - (drop_versions d s).expired) 1) as (λ t. IsPhase (history shape (drop_versions d s)) (cond t Settled Settled)) [ true ↦ tt | false ↦ tt ]
+  IsPhase-dropped d s (Waiting cursor) is =
+      elim (nat_le (length s.versions) (s.expired + d))
+      as (λ t. let next : VersionState = cond t (emptied s) (fewer_by d s) in IsPhase (history shape next) (cond (nat_le (length next.versions - next.expired) 1) Settled (Waiting cursor))) [
         | true ↦ tt
         | false ↦
-            elim (nat_le (length s.versions - (s.expired + 1)) 1)
-            as (λ t. nat_le (length s.versions - (s.expired + 1)) 1 ≡ t → IsPhase (history shape (one_fewer s)) (cond t Settled (Waiting cursor))) [
+            elim (nat_le (length s.versions - (s.expired + d)) 1)
+            as (λ t. nat_le (length s.versions - (s.expired + d)) 1 ≡ t → IsPhase (history shape (fewer_by d s)) (cond t Settled (Waiting cursor))) [
               | true ↦ λ e. tt
-              | false ↦ λ e. let more : 1 < length s.versions - (s.expired + 1) = leb-false _ 1 e in (omega (arith, length-history s), is.1, is.2)
+              | false ↦ λ e. let more : 1 < length s.versions - (s.expired + d) = leb-false _ 1 e in (omega (arith, length-history s), is.1, is.2)
             ] refl
       ]
 
@@ -125,10 +124,10 @@ module _ (shape : Shape) where
   keeps held s files Expire is =
       let h = history shape s in
       elim (nat_eq (retained h) 0)
-      as (λ t. nat_eq (retained h) 0 ≡ t → IfSome (cond t (Some (unchanged s files (NothingRetained None))) (Some (record (unchanged s files (Expired (oldest h) (expired_extents shape.extent h))) { state = drop_oldest s }))) (Keeps shape s)) [
-        | true ↦ λ e. record { state = is; phase = λ phase k. k }
-        | false ↦ λ e. let some : retained h ≢ 0 = eqb-false _ _ e in record { state = IsState-dropped s is (omega (arith, length-history s)); phase = IsPhase-dropped s }
-      ] refl
+      as (λ t. IfSome (cond t (Some (unchanged s files (NothingRetained None))) (Some (record (unchanged s files (Expired (oldest h) (expired_extents shape.extent h))) { state = drop_oldest s }))) (Keeps shape s)) [
+        | true ↦ record { state = is; phase = λ phase k. k }
+        | false ↦ record { state = IsState-dropped 1 s is; phase = IsPhase-dropped 1 s }
+      ]
   keeps held s files Reorganise is = record { state = is; phase = λ phase k. tt }
   keeps held s files Scrub is = record { state = is; phase = λ phase k. k }
   keeps held s files Listing is = record { state = is; phase = λ phase k. k }

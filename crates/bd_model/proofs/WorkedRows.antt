@@ -122,7 +122,7 @@ expiry_rows : rows three_less_one Settled 2 ≡ row_of 2 (c ∷ []) ∷ []
 expiry_rows = refl
 
 -- where both of the first two starts have chunks they become one row
-merged_rows : rows two_starts Settled 3 ∷ rows (given_up two_starts) Settled 3 ∷ [] ≡ (row_of 1 (a ∷ []) ∷ row_of 2 (d ∷ []) ∷ []) ∷ (row_of 2 (a ∷ d ∷ []) ∷ []) ∷ []
+merged_rows : rows two_starts Settled 3 ∷ rows (given_up 1 two_starts) Settled 3 ∷ [] ≡ (row_of 1 (a ∷ []) ∷ row_of 2 (d ∷ []) ∷ []) ∷ (row_of 2 (a ∷ d ∷ []) ∷ []) ∷ []
 merged_rows = refl
 
 -- what the first chunks alone need, one after the other

@@ -1,5 +1,5 @@
 -- What holds of the definitions, in the words of the subject. Each law stands on a function of its own.
-use Rattle.std.specs.Prelude.{◌≡◌, ◌≢◌, ◌↔◌, ℕ, zero, suc, ◌+◌, ◌-◌, ◌*◌, ◌%◌, ◌^◌, ◌<◌, ◌≤◌, max, ◌&&◌, List, [], ◌∷◌, ◌++◌, length, map, filter, flat_map, sum_by, take, fold, slice_index, slice_range, nat_lt, ◌==◌, if◌then◌else◌, Some, None, IfSome, IsTrue, not, All}
+use Rattle.std.specs.Prelude.{◌≡◌, ◌≢◌, ◌↔◌, ℕ, zero, suc, ◌+◌, ◌-◌, ◌*◌, ◌%◌, ◌^◌, ◌<◌, ◌≤◌, max, ◌&&◌, List, [], ◌∷◌, ◌++◌, length, map, filter, flat_map, sum_by, take, fold, slice_index, slice_range, nat_le, nat_lt, ◌==◌, if◌then◌else◌, Some, None, IfSome, IsTrue, not, All}
 use Rattle.std.specs.Str.{bytes_eq}
 use Rattle.std.specs.List.{concat}
 use Rattle.bd_model.specs.declared.shape.Shape.{Shape}
@@ -17,7 +17,7 @@ use Rattle.bd_model.specs.Marks.{mark, Distinct, Near}
 use Rattle.bd_model.specs.Recipe.{recipe, start_of, has_mark}
 use Rattle.bd_model.specs.Room.{up, owned, recipe_bytes, fresh, kept, archived, lacks_some, need, counted, reserve_left, need_of, counted_of}
 use Rattle.bd_model.specs.State.{VersionState, IsState, history, cut_of}
-use Rattle.bd_model.specs.Step.{with_version, version_line, step, drop_oldest, dropped_extents, expired_extents, next_start, line_for}
+use Rattle.bd_model.specs.Step.{with_version, version_line, step, drop_versions, dropped_extents, freed_extents, next_start, line_for}
 
 -- the least chunk has a byte, and is no longer than the longest
 abbrev pub IsCut : Cut → Type 0
@@ -70,9 +70,9 @@ grown h chunks = record h { versions = h.versions ++ chunks ∷ [] }
 abbrev pub before : History → History
 before h = record h { versions = take (length h.versions - 1) h.versions }
 
--- the history after the oldest retained version is given up
-abbrev pub given_up : History → History
-given_up h = record h { expired = h.expired + 1 }
+-- the history after the d oldest retained versions are given up
+abbrev pub given_up : ℕ → History → History
+given_up d h = record h { expired = h.expired + d }
 
 -- A new version leaves the categories that ended before the newest one. Of each that lived to it, what the new one lacks
 -- ends there, and the rest lives on; what the newest lacks begins. Where nothing ends, the open category is as before.
@@ -119,15 +119,16 @@ pub record MarksTellChunksApart : Type 0 where
       has_mark (recipe (grown h w) (newest h + 1)) (mark c) ≡ contains w c
   pub before : (h : History) (w : List (List ℕ)) → Near (grown h w) → Near h
 
--- The line of a version in a list stays at a backup and at an expiry, and that of a new version has what the backup answers.
+-- The line of a version in a list stays at a backup and where older ones are given up, and that of a new version has what
+-- the backup answers.
 pub record LinesStay : Type 0 where
   pub earlier : (shape : Shape) (s : VersionState) (stream : List ℕ) (v : ℕ) → v ≤ newest (history shape s) →
       version_line (with_version s stream) (history shape (with_version s stream)) v ≡ version_line s (history shape s) v
   pub own : (shape : Shape) (s : VersionState) (stream : List ℕ) → let parts = chunks (cut_of shape) stream in let h = history shape s in
       version_line (with_version s stream) (history shape (with_version s stream)) (newest h + 1)
       ≡ line_for (newest h + 1) (length stream) (length parts) (length (fresh h parts))
-  pub expired : (shape : Shape) (s : VersionState) (v : ℕ) → 2 ≤ retained (history shape s) →
-      version_line (drop_oldest s) (history shape (drop_oldest s)) v ≡ version_line s (history shape s) v
+  pub dropped : (shape : Shape) (s : VersionState) (d v : ℕ) → d < retained (history shape s) →
+      version_line (drop_versions d s) (history shape (drop_versions d s)) v ≡ version_line s (history shape s) v
 
 -- No volume is closed from the newest version on. A new version leaves the closed ones; the newest of them has what was
 -- archived of the categories that are arranged. An open category is as before while it waits, and afterwards what is kept
@@ -170,14 +171,19 @@ pub record RowsDescribeTheVolume : Type 0 where
   pub starts : (h : History) (phase : Phase) (j : ℕ) → map (λ row. row.start) (rows h phase j) ≡ filter (λ r. nat_lt 0 (length (row_chunks h phase j r))) (numbers (oldest h) j)
   pub by_number : (r : ℕ) (c : List ℕ) (cs : List (List ℕ)) (rows : List CategoryRow) → rows_with r (c ∷ cs) rows ≡ rows_more r (length (c ∷ cs)) (record_bytes (c ∷ cs)) rows
 
--- the rows where r becomes the oldest version: a first row of a lower start gets this one, and takes in a row that has it
-abbrev pub rows_from : ℕ → List CategoryRow → List CategoryRow
-rows_from r [] = []
-rows_from r (row ∷ []) = record row { start = max r row.start } ∷ []
-rows_from r (row ∷ second ∷ rows) =
-    if nat_lt row.start r && second.start == r
-    then record { start = r; chunks = row.chunks + second.chunks; bytes = row.bytes + second.bytes } ∷ rows
-    else record row { start = max r row.start } ∷ second ∷ rows
+-- a row with what a later one has
+abbrev pub both_rows : CategoryRow → CategoryRow → CategoryRow
+both_rows row second = record row { chunks = row.chunks + second.chunks; bytes = row.bytes + second.bytes }
+
+-- the first row takes in those behind it that begin at r or before
+abbrev pub taking_in : ℕ → CategoryRow → List CategoryRow → List CategoryRow
+taking_in r row [] = record row { start = max r row.start } ∷ []
+taking_in r row (second ∷ rows) = if nat_le second.start r then taking_in r (both_rows row second) rows else record row { start = max r row.start } ∷ second ∷ rows
+
+-- the rows where r becomes the oldest version: those that begin at r or before become one
+abbrev pub rows_to : ℕ → List CategoryRow → List CategoryRow
+rows_to r [] = []
+rows_to r (row ∷ rows) = taking_in r row rows
 
 -- one step of arranging the version of the chunks w, that of start i; before it no row has a start that is both above the
 -- one before i and above the oldest
@@ -207,26 +213,26 @@ pub record OneStepOfArranging : Type 0 where
   pub done : (h : History) (w : List (List ℕ)) (cursor : ℕ) → h.base + 1 ≤ cursor → cursor ≤ newest h + 1 → h.expired < length h.versions → next_start (grown h w) cursor ≡ None →
       SameLayout (grown h w) (Waiting cursor) Settled
 
--- giving up the oldest version takes its recipe and its closed volume; each other part is the same, and the rows of the
--- first two recorded starts become one
-pub record TakesOnlyTheOldest (h : History) (phase : Phase) : Type 0 where
-  pub extents : (extent : ℕ) → owned extent h phase ≡ dropped_extents extent h (oldest h) + owned extent (given_up h) phase
-  pub reserve : (extent : ℕ) → reserve_left extent (given_up h) phase ≡ reserve_left extent h phase
-  pub oldest_next : oldest (given_up h) ≡ oldest h + 1
-  pub recipes : (v : ℕ) → recipe (given_up h) v ≡ recipe h v
-  pub volumes : (j : ℕ) → closed_volume (given_up h) phase j ≡ closed_volume h phase j
-  pub categories : (i : ℕ) → open_category (given_up h) phase i ≡ open_category h phase i
-  pub rows : (j : ℕ) → oldest h < j → rows (given_up h) phase j ≡ rows_from (oldest h + 1) (rows h phase j)
+-- giving up the d oldest versions takes their recipes and their closed volumes; each other part is the same, and the rows
+-- of the recorded starts up to the one that is the oldest then become one
+pub record TakesOnlyTheFirst (d : ℕ) (h : History) (phase : Phase) : Type 0 where
+  pub extents : (extent : ℕ) → owned extent h phase ≡ sum_by (dropped_extents extent h) (numbers (oldest h) (oldest h + d - 1)) + owned extent (given_up d h) phase
+  pub reserve : (extent : ℕ) → reserve_left extent (given_up d h) phase ≡ reserve_left extent h phase
+  pub oldest_next : oldest (given_up d h) ≡ oldest h + d
+  pub recipes : (v : ℕ) → recipe (given_up d h) v ≡ recipe h v
+  pub volumes : (j : ℕ) → closed_volume (given_up d h) phase j ≡ closed_volume h phase j
+  pub categories : (i : ℕ) → open_category (given_up d h) phase i ≡ open_category h phase i
+  pub rows : (j : ℕ) → oldest h + d ≤ j → rows (given_up d h) phase j ≡ rows_to (oldest h + d) (rows h phase j)
 
--- An expiry takes only the oldest version's parts where others are left, in a settled store or one with three versions
--- or more; with the only version it takes all.
-pub record ExpiryTakesOnlyTheOldest : Type 0 where
-  pub settled : (h : History) → 2 ≤ retained h → TakesOnlyTheOldest h Settled
-  pub waiting : (h : History) (phase : Phase) → 3 ≤ retained h → TakesOnlyTheOldest h phase
-  pub state : (shape : Shape) (s : VersionState) → 2 ≤ retained (history shape s) → history shape (drop_oldest s) ≡ given_up (history shape s)
-  pub answer : (extent : ℕ) (h : History) → 2 ≤ retained h → expired_extents extent h ≡ dropped_extents extent h (oldest h)
-  pub last_answer : (extent : ℕ) (h : History) → retained h ≡ 1 → expired_extents extent h ≡ owned extent h Settled
-  pub last_state : (shape : Shape) (s : VersionState) (extent : ℕ) → retained (history shape s) ≡ 1 → owned extent (history shape (drop_oldest s)) Settled ≡ 0
+-- Giving up the oldest versions takes only their parts where others are left, in a settled store or one in which two more
+-- are left; with all versions it takes all.
+pub record GivingUpTakesOnlyTheFirst : Type 0 where
+  pub settled : (d : ℕ) (h : History) → 1 ≤ d → d < retained h → TakesOnlyTheFirst d h Settled
+  pub waiting : (d : ℕ) (h : History) (phase : Phase) → 1 ≤ d → d + 2 ≤ retained h → TakesOnlyTheFirst d h phase
+  pub state : (shape : Shape) (s : VersionState) (d : ℕ) → d < retained (history shape s) → history shape (drop_versions d s) ≡ given_up d (history shape s)
+  pub answer : (extent d : ℕ) (h : History) → d < retained h → freed_extents extent d h ≡ sum_by (dropped_extents extent h) (numbers (oldest h) (oldest h + d - 1))
+  pub last_answer : (extent d : ℕ) (h : History) → retained h ≤ d → freed_extents extent d h ≡ owned extent h Settled
+  pub last_state : (shape : Shape) (s : VersionState) (extent d : ℕ) → retained (history shape s) ≤ d → owned extent (history shape (drop_versions d s)) Settled ≡ 0
 
 -- the chunks of the closed volume j in the rows with a start up to v
 abbrev pub front_of : History → Phase → ℕ → ℕ → List (List ℕ)

@@ -64,20 +64,26 @@ restore s files v name =
 abbrev pub dropped_extents : ℕ → History → ℕ → ℕ
 dropped_extents extent h v = up extent (record_bytes (closed_volume h Settled v)) + up extent (recipe_bytes (version h v))
 
--- the extents that giving up the oldest version frees: with the only one, all
-abbrev pub expired_extents : ℕ → History → ℕ
-expired_extents extent h = if retained h == 1 then owned extent h Settled else dropped_extents extent h (oldest h)
+-- the extents that giving up the d oldest versions frees: with all of them, all
+abbrev pub freed_extents : ℕ → ℕ → History → ℕ
+freed_extents extent d h = if nat_le (retained h) d then owned extent h Settled else sum_by (dropped_extents extent h) (numbers (oldest h) (oldest h + d - 1))
 
--- the state after all versions are given up, and after the oldest one of several
+abbrev pub expired_extents : ℕ → History → ℕ
+expired_extents extent h = freed_extents extent 1 h
+
+-- the state after all versions are given up, and after the d oldest of more
 abbrev pub emptied : VersionState → VersionState
 emptied s = record s { base = s.base + length s.versions; versions = []; expired = 0 }
 
-abbrev pub one_fewer : VersionState → VersionState
-one_fewer s = record s { expired = s.expired + 1 }
+abbrev pub fewer_by : ℕ → VersionState → VersionState
+fewer_by d s = record s { expired = s.expired + d }
 
--- the state after the oldest version is given up
+-- the state after the d oldest versions are given up
+abbrev pub drop_versions : ℕ → VersionState → VersionState
+drop_versions d s = if nat_le (length s.versions) (s.expired + d) then emptied s else fewer_by d s
+
 abbrev pub drop_oldest : VersionState → VersionState
-drop_oldest s = if s.expired + 1 == length s.versions then emptied s else one_fewer s
+drop_oldest s = drop_versions 1 s
 
 -- the number of records that a settled store keeps
 abbrev pub record_count : History → ℕ

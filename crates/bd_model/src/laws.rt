@@ -1,7 +1,7 @@
 //! What holds of the definitions. Each law is the contract of a function with nothing to do.
 
 ghost use Rattle.bd_model.specs.CommandLaws.{CommandsLeadOn, GivenChunksStayApart, StatesStayLegal};
-ghost use Rattle.bd_model.specs.Laws.{ABackupLeavesItsReserve, ANewVersionSplitsTheCategories, ARestoreFindsEachChunkOnce, AVersionUsesAFront, BackupsGrowTheHistory, ChunksAreWithinBounds, ChunksJoinedAreTheStream, ClosedVolumesGrow, DecidedChunksStay, DistinctMarksAreNear, EachChunkLiesInOneCategory, ExpiryTakesOnlyTheOldest, LinesStay, MarksTellChunksApart, OneStepOfArranging, RecipesGiveTheCounts, RecipesStay, RefusalIsExact, RoomSuffices, RowsDescribeTheVolume, TheHashRolls};
+ghost use Rattle.bd_model.specs.Laws.{ABackupLeavesItsReserve, ANewVersionSplitsTheCategories, ARestoreFindsEachChunkOnce, AVersionUsesAFront, BackupsGrowTheHistory, ChunksAreWithinBounds, ChunksJoinedAreTheStream, ClosedVolumesGrow, DecidedChunksStay, DistinctMarksAreNear, EachChunkLiesInOneCategory, GivingUpTakesOnlyTheFirst, LinesStay, MarksTellChunksApart, OneStepOfArranging, RecipesGiveTheCounts, RecipesStay, RefusalIsExact, RoomSuffices, RowsDescribeTheVolume, TheHashRolls};
 
 /// The chunks of a stream, joined together, are the stream.
 pub fn chunks_joined_are_the_stream()
@@ -65,9 +65,9 @@ pub fn one_step_of_arranging()
     ensures { OneStepOfArranging }
 {}
 
-/// An expiry takes the oldest version's recipe and closed volume, and with the only version everything.
-pub fn expiry_takes_only_the_oldest()
-    ensures { ExpiryTakesOnlyTheOldest }
+/// Giving up the oldest versions takes their recipes and closed volumes, and with all versions everything.
+pub fn giving_up_takes_only_the_first()
+    ensures { GivingUpTakesOnlyTheFirst }
 {}
 
 /// Of its own closed volume and each later one a version uses every chunk of a front, and of the open categories that

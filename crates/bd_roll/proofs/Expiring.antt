@@ -3,13 +3,13 @@ use Rattle.std.proofs.Common.{◌≡◌, ⊎_elim, ℕ, ◌+◌, ◌-◌, ◌*�
 use Rattle.std.specs.Prelude.{All, Contains, IsPermutation}
 use Rattle.std.specs.List.{list_all}
 use Rattle.std.proofs.Math.Nat.{mul-le-mul_right}
-use Rattle.std.proofs.lemmas.Bool.{cases_lt, eqb-true, le-leb, leb-true, ne_eqb}
+use Rattle.std.proofs.lemmas.Bool.{cases_lt, eqb-true, le-leb, leb-true, ne_eqb, leb-false}
 use Rattle.std.proofs.lemmas.List.{append-nil, length-map}
 use Rattle.std.proofs.lemmas.List.Elements.{All-contains, Contains-append_left}
 use Rattle.std.proofs.lemmas.List.Sums.{sum_by-cons}
 use Rattle.std.proofs.lemmas.List.Sorted.{Contains-permutation, IsPermutation-sym}
 use Rattle.std.proofs.lemmas.Map.Keys.{IsDistinct-IsPermutation}
-use Rattle.bd_model.specs.Laws.{rows_from}
+use Rattle.bd_model.specs.Laws.{both_rows, rows_to, taking_in}
 use Rattle.bd_model.specs.Room.{up}
 use Rattle.bd_model.specs.Sizes.{Sizes}
 use Rattle.bd_model.specs.declared.layout.CategoryRow.{CategoryRow}
@@ -22,7 +22,7 @@ use Rattle.bd_roll.specs.Catalogue.{Catalogue, VersionEntry, VolumeEntry, OpenEn
 use Rattle.bd_roll.specs.Rules.{actives_hold, all_differ, ascends, extents_hold, fits_eight, numbers_hold, obeys, phase_holds, row_holds, starts_hold, version_holds, volume_holds}
 use Rattle.bd_roll.specs.Splitting.{FitsExpire, after_expire, begun_from, expired}
 use Rattle.bd_roll.proofs.Fitting.{all_differ-once, flips}
-use Rattle.bd_roll.proofs.InPlace.{first, later, same_or_not}
+use Rattle.bd_roll.proofs.InPlace.{first, later}
 use Rattle.bd_roll.proofs.Obeying.{All-from_list_all, IsBounded, NumbersHold, RowHolds, Rules, numbers_of, distinct_of, owned_of, row_of, rules_of}
 use Rattle.bd_roll.proofs.Owning.{own-expire}
 
@@ -56,43 +56,40 @@ module _ (s : Sizes) (bounded : IsBounded s) where
 
 -- ---- the rows of a volume where another version is the oldest
 
--- whether the first of two rows takes in the second
-abbrev joins : ℕ → CategoryRow → CategoryRow → Bool
-joins r one two = nat_lt one.start r && two.start == r
-
-begun_bytes : (r : ℕ) (rows : List CategoryRow) → bytes_of_rows (rows_from r rows) ≡ bytes_of_rows rows
-begun_bytes r [] = refl
-begun_bytes r (row ∷ []) =
+taken_bytes : (r : ℕ) (row : CategoryRow) (rows : List CategoryRow) → bytes_of_rows (taking_in r row rows) ≡ row.bytes + bytes_of_rows rows
+taken_bytes r row [] = sum_by-cons (λ x. x.bytes) (record row { start = max r row.start }) []
+taken_bytes r row (second ∷ rows) =
     let f : CategoryRow → ℕ = λ x. x.bytes in
-    sum_by-cons f (record row { start = max r row.start }) [] ∙ sym (sum_by-cons f row [])
-begun_bytes r (row ∷ second ∷ rows) =
-    let f : CategoryRow → ℕ = λ x. x.bytes in
-    let both : CategoryRow = record { start = r; chunks = row.chunks + second.chunks; bytes = row.bytes + second.bytes } in
-    let moved : CategoryRow = record row { start = max r row.start } in
-    elim (joins r row second) as (λ t. sum_by f (cond t (both ∷ rows) (moved ∷ second ∷ rows)) ≡ sum_by f (row ∷ second ∷ rows)) [
-      | true ↦ omega (arith, sum_by-cons f both rows, sum_by-cons f row (second ∷ rows), sum_by-cons f second rows)
-      | false ↦ sum_by-cons f moved (second ∷ rows) ∙ sym (sum_by-cons f row (second ∷ rows))
+    elim (nat_le second.start r) as (λ t. sum_by f (cond t (taking_in r (both_rows row second) rows) (record row { start = max r row.start } ∷ second ∷ rows)) ≡ row.bytes + sum_by f (second ∷ rows)) [
+      | true ↦ omega (arith, taken_bytes r (both_rows row second) rows, sum_by-cons f second rows)
+      | false ↦ sum_by-cons f (record row { start = max r row.start }) (second ∷ rows)
     ]
 
+begun_bytes : (r : ℕ) (rows : List CategoryRow) → bytes_of_rows (rows_to r rows) ≡ bytes_of_rows rows
+begun_bytes r [] = refl
+begun_bytes r (row ∷ rows) = taken_bytes r row rows ∙ sym (sum_by-cons (λ (x : CategoryRow). x.bytes) row rows)
+
 module _ (s : Sizes) (bounded : IsBounded s) where
-  begun_hold : (r : ℕ) (rows : List CategoryRow) → list_all (row_holds s) rows ≡ true → bytes_of_rows rows ≤ s.extents * s.extent → list_all (row_holds s) (rows_from r rows) ≡ true
-  begun_hold r [] holds inside = refl
-  begun_hold r (row ∷ []) holds inside = holds
-  begun_hold r (row ∷ second ∷ rows) holds inside =
+  taken_hold : (r : ℕ) (row : CategoryRow) (rows : List CategoryRow) → row_holds s row ≡ true → list_all (row_holds s) rows ≡ true → row.bytes + bytes_of_rows rows ≤ s.extents * s.extent →
+      list_all (row_holds s) (taking_in r row rows) ≡ true
+  taken_hold r row [] one rest inside = λ k. one k && true
+  taken_hold r row (second ∷ rows) one rest inside =
       let f : CategoryRow → ℕ = λ x. x.bytes in
-      let both : CategoryRow = record { start = r; chunks = row.chunks + second.chunks; bytes = row.bytes + second.bytes } in
-      let moved : CategoryRow = record row { start = max r row.start } in
-      let one = row_holds s row in
       let two = row_holds s second in
-      let rest = list_all (row_holds s) rows in
-      elim (joins r row second) as (λ t. list_all (row_holds s) (cond t (both ∷ rows) (moved ∷ second ∷ rows)) ≡ true) [
+      let others = list_all (row_holds s) rows in
+      elim (nat_le second.start r) as (λ t. list_all (row_holds s) (cond t (taking_in r (both_rows row second) rows) (record row { start = max r row.start } ∷ second ∷ rows)) ≡ true) [
         | true ↦
-            let behind : (two && rest) ≡ true = right_and one (two && rest) holds in
-            let joined : row_holds s both ≡ true =
-            rows_join s bounded row second r (left_and one (two && rest) holds) (left_and two rest behind) (omega (arith, inside, sum_by-cons f row (second ∷ rows), sum_by-cons f second rows)) in
-            λ k. joined k && right_and two rest behind k
-        | false ↦ holds
+            let joined : row_holds s (both_rows row second) ≡ true = rows_join s bounded row second row.start one (left_and two others rest) (omega (arith, inside, sum_by-cons f second rows)) in
+            taken_hold r (both_rows row second) rows joined (right_and two others rest) (omega (arith, inside, sum_by-cons f second rows))
+        | false ↦ λ k. one k && rest k
       ]
+
+  begun_hold : (r : ℕ) (rows : List CategoryRow) → list_all (row_holds s) rows ≡ true → bytes_of_rows rows ≤ s.extents * s.extent → list_all (row_holds s) (rows_to r rows) ≡ true
+  begun_hold r [] holds inside = refl
+  begun_hold r (row ∷ rows) holds inside =
+      let one = row_holds s row in
+      let others = list_all (row_holds s) rows in
+      taken_hold r row rows (left_and one others holds) (right_and one others holds) (omega (arith, inside, sum_by-cons (λ (x : CategoryRow). x.bytes) row rows))
 
 -- numbers that ascend, by their first
 pub record AscendsFrom (low high n : ℕ) (ns : List ℕ) : Type 0 where
@@ -113,40 +110,29 @@ ascends_first low high n ns h =
 pub ascends_cons : (low high n : ℕ) (ns : List ℕ) → low ≤ n → n ≤ high → ascends (n + 1) high ns ≡ true → ascends low high (n ∷ ns) ≡ true
 ascends_cons low high n ns above below rest = λ k. le-leb low n above k && le-leb n high below k && rest k
 
-begun_ascend : (o j : ℕ) (rows : List CategoryRow) → o + 1 ≤ j → ascends o j (starts_of rows) ≡ true → ascends (o + 1) j (starts_of (rows_from (o + 1) rows)) ≡ true
-begun_ascend o j [] le h = refl
-begun_ascend o j (row ∷ []) le h =
-    let at : AscendsFrom o j row.start [] = ascends_first o j row.start [] h in
-    ascends_cons (o + 1) j (max (o + 1) row.start) [] (omega arith) (omega (arith, at.below, le)) refl
-begun_ascend o j (row ∷ second ∷ rows) le h =
-    let r = o + 1 in
-    let at : AscendsFrom o j row.start (starts_of (second ∷ rows)) = ascends_first o j row.start (starts_of (second ∷ rows)) h in
-    let next : AscendsFrom (row.start + 1) j second.start (starts_of rows) = ascends_first (row.start + 1) j second.start (starts_of rows) at.rest in
-    let both : CategoryRow = record { start = r; chunks = row.chunks + second.chunks; bytes = row.bytes + second.bytes } in
-    let moved : CategoryRow = record row { start = max r row.start } in
-    elim (joins r row second) as (λ t. joins r row second ≡ t → ascends r j (starts_of (cond t (both ∷ rows) (moved ∷ second ∷ rows))) ≡ true) [
-      | true ↦ λ e.
-          let same : second.start ≡ r = eqb-true second.start r (right_and (nat_lt row.start r) (second.start == r) e) in
-          ascends_cons r j r (starts_of rows) (omega arith) le (subst (λ n. ascends (n + 1) j (starts_of rows) ≡ true) same next.rest)
+taken_ascend : (r j low : ℕ) (row : CategoryRow) (rows : List CategoryRow) → r ≤ j → row.start ≤ j → row.start < low → ascends low j (starts_of rows) ≡ true → ascends r j (starts_of (taking_in r row rows)) ≡ true
+taken_ascend r j low row [] le below before h = ascends_cons r j (max r row.start) [] (omega arith) (omega (arith, le, below)) refl
+taken_ascend r j low row (second ∷ rows) le below before h =
+    let next : AscendsFrom low j second.start (starts_of rows) = ascends_first low j second.start (starts_of rows) h in
+    elim (nat_le second.start r) as (λ t. nat_le second.start r ≡ t → ascends r j (starts_of (cond t (taking_in r (both_rows row second) rows) (record row { start = max r row.start } ∷ second ∷ rows))) ≡ true) [
+      | true ↦ λ e. taken_ascend r j (second.start + 1) (both_rows row second) rows le below (omega (arith, before, next.above)) next.rest
       | false ↦ λ e.
-          ascends_cons r j (max r row.start) (starts_of (second ∷ rows)) (omega arith) (omega (arith, at.below, le))
-          (ascends_cons (max r row.start + 1) j second.start (starts_of rows) (past e at.above next.above) next.below next.rest)
+          ascends_cons r j (max r row.start) (starts_of (second ∷ rows)) (omega arith) (omega (arith, le, below))
+          (ascends_cons (max r row.start + 1) j second.start (starts_of rows) (omega (arith, leb-false second.start r e, before, next.above)) next.below next.rest)
     ] refl
-  where
-    past : joins (o + 1) row second ≡ false → o ≤ row.start → row.start + 1 ≤ second.start → max (o + 1) row.start + 1 ≤ second.start
-    past e low above =
-        ⊎_elim
-        (λ lower. ⊎_elim
-        (λ same. let taken : joins (o + 1) row second ≡ true = λ k. lt-ltb row.start (o + 1) lower k && eq-eqb second.start (o + 1) same k in let no : true ≡ false = sym taken ∙ e in cc)
-        (λ other. omega (arith, other, lower, low, above)) (same_or_not second.start (o + 1)))
-        (λ higher. omega (arith, higher, low, above)) (cases_lt row.start (o + 1))
 
-begun_starts : (o j : ℕ) (es : List VolumeEntry) → o + 1 ≤ j → starts_hold o j es ≡ true → starts_hold (o + 1) j (map (begun_from (o + 1)) es) ≡ true
-begun_starts o j [] le h = refl
-begun_starts o j (e ∷ es) le h =
+begun_ascend : (o r j : ℕ) (rows : List CategoryRow) → r ≤ j → ascends o j (starts_of rows) ≡ true → ascends r j (starts_of (rows_to r rows)) ≡ true
+begun_ascend o r j [] le h = refl
+begun_ascend o r j (row ∷ rows) le h =
+    let at : AscendsFrom o j row.start (starts_of rows) = ascends_first o j row.start (starts_of rows) h in
+    taken_ascend r j (row.start + 1) row rows le at.below (omega arith) at.rest
+
+begun_starts : (o r j : ℕ) (es : List VolumeEntry) → r ≤ j → starts_hold o j es ≡ true → starts_hold r j (map (begun_from r) es) ≡ true
+begun_starts o r j [] le h = refl
+begun_starts o r j (e ∷ es) le h =
     let here = ascends o j (starts_of e.rows) in
-    let first : ascends (o + 1) j (starts_of (rows_from (o + 1) e.rows)) ≡ true = begun_ascend o j e.rows le (left_and here (starts_hold o (j + 1) es) h) in
-    let rest : starts_hold (o + 1) (j + 1) (map (begun_from (o + 1)) es) ≡ true = begun_starts o (j + 1) es (omega (arith, le)) (right_and here (starts_hold o (j + 1) es) h) in
+    let first : ascends r j (starts_of (rows_to r e.rows)) ≡ true = begun_ascend o r j e.rows le (left_and here (starts_hold o (j + 1) es) h) in
+    let rest : starts_hold r (j + 1) (map (begun_from r) es) ≡ true = begun_starts o r (j + 1) es (omega (arith, le)) (right_and here (starts_hold o (j + 1) es) h) in
     λ k. first k && rest k
 
 -- ---- what volumes own
@@ -160,8 +146,8 @@ module _ (s : Sizes) (bounded : IsBounded s) where
       let two : (hold && count) ≡ true = left_and (hold && count) fits h in
       let enough : bytes_of_rows e.rows ≤ length e.extents * s.extent = up-enough s.extent (bytes_of_rows e.rows) (length e.extents) bounded.extent (eqb-true (length e.extents) (up s.extent (bytes_of_rows e.rows)) (right_and hold count two)) in
       let most : length e.extents * s.extent ≤ s.extents * s.extent = mul-le-mul_right {m = length e.extents} {n = s.extents} s.extent few in
-      let same : bytes_of_rows (rows_from r e.rows) ≡ bytes_of_rows e.rows = begun_bytes r e.rows in
-      let rows : list_all (row_holds s) (rows_from r e.rows) ≡ true = begun_hold s bounded r e.rows (left_and hold count two) (omega (arith, enough, most)) in
+      let same : bytes_of_rows (rows_to r e.rows) ≡ bytes_of_rows e.rows = begun_bytes r e.rows in
+      let rows : list_all (row_holds s) (rows_to r e.rows) ≡ true = begun_hold s bounded r e.rows (left_and hold count two) (omega (arith, enough, most)) in
       λ k.
       rows k
       && (ap (λ n. length e.extents == up s.extent n) same ∙ right_and hold count two) k
@@ -287,7 +273,7 @@ module _ (s : Sizes) (bounded : IsBounded s) (c : Catalogue) (rules : obeys s c 
     numbers = rest_numbers;
     phase = waits_on c rest c.phase each.phase refl refl (⊎_elim (λ settled. inl settled) (λ three. inr (omega (arith, fewer, three))) fits.arranged);
     versions = tail_all (version_holds s) c.versions each.versions;
-    starts = subst (λ o. starts_hold o o rest.volumes ≡ true) (sym next) (begun_starts (oldest_in c) (oldest_in c + 1) (drop 1 c.volumes) (omega arith) (later_starts (oldest_in c) (oldest_in c) c.volumes each.starts));
+    starts = subst (λ o. starts_hold o o rest.volumes ≡ true) (sym next) (begun_starts (oldest_in c) (oldest_in c + 1) (oldest_in c + 1) (drop 1 c.volumes) (omega arith) (later_starts (oldest_in c) (oldest_in c) c.volumes each.starts));
     open_starts = rest_actives;
     volumes = begun_volumes s bounded (oldest_in c + 1) (drop 1 c.volumes) (tail_all (volume_holds s) c.volumes each.volumes) few_owned;
     actives = each.actives;

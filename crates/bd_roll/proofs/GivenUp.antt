@@ -7,18 +7,20 @@ use Rattle.std.proofs.lemmas.Bool.{ne_eqb}
 use Rattle.std.proofs.lemmas.List.{length-map}
 use Rattle.std.proofs.lemmas.List.Concat.{flat_map-append}
 use Rattle.std.proofs.lemmas.List.Folds.{flat_map-map}
+use Rattle.std.proofs.lemmas.List.Sums.{sum_by-cons}
 use Rattle.std.proofs.lemmas.List.Elements.{All-contains, All-contains_itself, All-weaker, Contains-append_right}
 use Rattle.bd_space.specs.Allotment.{Allotment, IsTaken, Marks, TakenExactly, held_count}
 use Rattle.bd_space.specs.declared.space.Use.TheVariants.{Free}
 use Rattle.bd_space.proofs.Distinct.{distinct_right}
 use Rattle.bd_space.proofs.Exact.{TakenExactly-left}
+use Rattle.bd_model.specs.Laws.{both_rows}
 use Rattle.bd_model.specs.declared.layout.CategoryRow.{CategoryRow}
 use Rattle.bd_roll.specs.declared.contents.Contents.{Contents}
 use Rattle.bd_roll.specs.declared.rows.ActiveCategory.{ActiveCategory}
 use Rattle.bd_roll.specs.declared.rows.ClosedVolume.{ClosedVolume}
 use Rattle.bd_roll.specs.declared.rows.VersionRow.{VersionRow}
 use Rattle.bd_roll.specs.Catalogue.{Catalogue, OpenEntry, VersionEntry, VolumeEntry, all_extents}
-use Rattle.bd_roll.specs.Giving.{AreOwned, GivesUp}
+use Rattle.bd_roll.specs.Giving.{AreOwned, GivesUp, SumsFit}
 use Rattle.bd_roll.specs.Capacity.{last_room}
 use Rattle.bd_roll.specs.Shown.{catalogue_of_contents, open_entry, version_entry, volume_entry}
 use Rattle.bd_roll.specs.Splitting.{begun_from, expired, last_grown}
@@ -64,6 +66,24 @@ owned_first {old} {new} xs {ys} owned gives = record {
 -- the last of several owners
 pub flat_map-last : {X : Type 0} (f : X → List ℕ) (xs : List X) (x : X) → flat_map f (xs ++ x ∷ []) ≡ flat_map f xs ++ f x
 flat_map-last f xs x = flat_map-append f xs (x ∷ []) ∙ ap (λ (ns : List ℕ). flat_map f xs ++ ns) (append-nil (f x))
+
+-- ---- the first two rows, as one
+
+pub joined_fit : (xs : List CategoryRow) (one two : CategoryRow) → 1 < length xs → one ≡ get_or xs 0 one → two ≡ get_or xs 1 two → SumsFit xs → SumsFit (set (drop 1 xs) 0 (both_rows one two))
+joined_fit [] one two more first second fit = absurd (omega (arith, more))
+joined_fit (x ∷ []) one two more first second fit = absurd (omega (arith, more))
+joined_fit (x ∷ y ∷ xs) one two more first second fit =
+    let chunks : CategoryRow → ℕ = λ row. row.chunks in
+    let bytes : CategoryRow → ℕ = λ row. row.bytes in
+    record {
+      chunks = omega (arith, fit.chunks, sum_by-cons chunks (both_rows one two) xs, sum_by-cons chunks x (y ∷ xs), sum_by-cons chunks y xs, ap chunks first, ap chunks second);
+      bytes = omega (arith, fit.bytes, sum_by-cons bytes (both_rows one two) xs, sum_by-cons bytes x (y ∷ xs), sum_by-cons bytes y xs, ap bytes first, ap bytes second);
+    }
+
+pub joined_fewer : (xs : List CategoryRow) (both : CategoryRow) → 1 < length xs → length (set (drop 1 xs) 0 both) < length xs
+joined_fewer [] both more = absurd (omega (arith, more))
+joined_fewer (x ∷ []) both more = absurd (omega (arith, more))
+joined_fewer (x ∷ y ∷ xs) both more = omega arith
 
 -- ---- volumes, one after the other
 

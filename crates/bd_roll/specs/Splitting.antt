@@ -1,7 +1,7 @@
 -- The catalogue after open categories are split, and after the oldest version is given up.
 use Rattle.std.specs.Prelude.{◌≡◌, ◌≢◌, ◌⊎◌, ◌≤◌, ◌<◌, ℕ, ◌+◌, ◌*◌, ◌==◌, List, [], ◌∷◌, ◌++◌, length, map, flat_map, filter, drop, take, max, All, Contains, IsTrue, nat_eq, if◌then◌else◌}
 use Rattle.std.specs.List.{IsDistinct, list_all}
-use Rattle.bd_model.specs.Laws.{rows_from, rows_more}
+use Rattle.bd_model.specs.Laws.{rows_more, rows_to}
 use Rattle.bd_model.specs.Room.{up}
 use Rattle.bd_model.specs.Sizes.{Sizes}
 use Rattle.bd_model.specs.declared.layout.CategoryRow.{CategoryRow}
@@ -132,7 +132,7 @@ kept_of e = record { start = e.start; kept = e.kept }
 
 -- a volume where this is the oldest version
 abbrev pub begun_from : ℕ → VolumeEntry → VolumeEntry
-begun_from oldest e = record { rows = rows_from oldest e.rows; extents = e.extents }
+begun_from oldest e = record { rows = rows_to oldest e.rows; extents = e.extents }
 
 -- the catalogue after the oldest version is given up; with the only one nothing is left
 abbrev pub after_expire : Catalogue → Catalogue

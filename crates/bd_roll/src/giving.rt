@@ -1,7 +1,7 @@
 //! What is given up: extents, and the oldest version.
 ghost use Rattle.std.specs.Prelude.{◌≡◌, ◌≢◌, ℕ, ◌+◌, ◌-◌, ◌^◌, ◌<◌, ◌≤◌, [], map, length, All, IsTrue};
 ghost use Rattle.std.specs.List.{flat_map};
-ghost use Rattle.bd_model.specs.Laws.{rows_from};
+ghost use Rattle.bd_model.specs.Laws.{rows_to};
 ghost use Rattle.bd_roll.specs.Catalogue.{all_extents, emptied_catalogue, retained_in};
 ghost use Rattle.bd_roll.specs.Giving.{AreOwned, GivesUp, SumsFit};
 ghost use Rattle.bd_roll.specs.Shown.{catalogue_of_contents, open_entry, volume_entry};
@@ -41,23 +41,24 @@ fn release_all(space: &mut Space, actives: &mut Actives)
     }
 }
 
-// The rows where this is the oldest version: the first begins no earlier, and takes in the second where both begin there.
+// The rows where this is the oldest version: those that begin there or before become one.
 fn begin_rows(rows: &mut Rows, oldest: u32)
     requires { SumsFit rows.old.items }
-    ensures { rows.new.items ≡ rows_from oldest rows.old.items }
+    ensures { rows.new.items ≡ rows_to oldest rows.old.items }
 {
     let Some(first) = rows.get(0).copied() else {
         return;
     };
     match rows.get(1).copied() {
-        Some(second) if first.start < oldest && second.start == oldest => {
+        Some(second) if second.start <= oldest => {
             let _ = rows.remove(0);
             let both = CategoryRow {
-                start: oldest,
                 chunks: first.chunks + second.chunks,
                 bytes: first.bytes + second.bytes,
+                ..first
             };
             let _ = rows.set(0, both);
+            begin_rows(rows, oldest);
         }
         _ => {
             let start = first.start.max(oldest);

@@ -11,7 +11,7 @@ use Rattle.bd_disk.proofs.Traces.{reads_both}
 use Rattle.bd_model.specs.FileMap.{FileMap}
 use Rattle.bd_model.specs.History.{oldest, retained}
 use Rattle.bd_model.specs.State.{VersionState, history}
-use Rattle.bd_model.specs.Step.{Outcome, drop_oldest, expired_extents, phase_after, unchanged, emptied, one_fewer}
+use Rattle.bd_model.specs.Step.{Outcome, drop_oldest, expired_extents, phase_after, unchanged, emptied, fewer_by}
 use Rattle.bd_model.specs.declared.answer.Answer.{Answer}
 use Rattle.bd_model.specs.declared.answer.Answer.TheVariants.{Expired, NothingRetained}
 use Rattle.bd_model.specs.declared.command.Command.{Command}
@@ -204,10 +204,10 @@ backup_reads found h0 h2 result ends reads =
 
 -- with the older one of two versions gone, one is left
 one_left : (st : VersionState) → length st.versions - st.expired ≡ 2 → length (drop_oldest st).versions - (drop_oldest st).expired ≤ 1
-one_left st two = by (eqb (st.expired + 1) (length st.versions)) refl where
-  by : (last : Bool) → eqb (st.expired + 1) (length st.versions) ≡ last → length (drop_oldest st).versions - (drop_oldest st).expired ≤ 1
-  by true is = subst (λ (s : VersionState). length s.versions - s.expired ≤ 1) (sym (ap (λ b. cond b (emptied st) (one_fewer st)) is)) (omega arith)
-  by false is = subst (λ (s : VersionState). length s.versions - s.expired ≤ 1) (sym (ap (λ b. cond b (emptied st) (one_fewer st)) is)) (omega (arith, two))
+one_left st two = by (nat_le (length st.versions) (st.expired + 1)) refl where
+  by : (last : Bool) → nat_le (length st.versions) (st.expired + 1) ≡ last → length (drop_oldest st).versions - (drop_oldest st).expired ≤ 1
+  by true is = subst (λ (s : VersionState). length s.versions - s.expired ≤ 1) (sym (ap (λ b. cond b (emptied st) (fewer_by 1 st)) is)) (omega arith)
+  by false is = subst (λ (s : VersionState). length s.versions - s.expired ≤ 1) (sym (ap (λ b. cond b (emptied st) (fewer_by 1 st)) is)) (omega (arith, two))
 
 module _ (shape : Shape) (held : ℕ) (st : VersionState) (phase : Phase) (files : FileMap) (command : Command) (old mid : Found) (image : List ℕ) (makes : MakesReady old command) (two : arranges_first old ≡ true → length st.versions - st.expired ≡ 2) where
   abbrev t : Task
