@@ -1,10 +1,10 @@
--- A catalogue obeys its rules after its oldest version is given up.
-use Rattle.std.proofs.Common.{◌≡◌, ⊎_elim, ℕ, ◌+◌, ◌-◌, ◌*◌, ◌^◌, ◌<◌, ◌≤◌, Bool, true, false, cond, ◌&&◌, ◌||◌, ◌==◌, List, [], ◌∷◌, ◌++◌, length, map, drop, max, sum_by, flat_map, nat_eq, nat_le, nat_lt, eq-eqb, lt-ltb, refl, sym, ◌∙◌, ap, arith, subst, length-append, ◌⊎◌, inl, inr}
+-- A catalogue obeys its rules after its oldest versions are given up.
+use Rattle.std.proofs.Common.{◌≡◌, ⊎_elim, ℕ, zero, suc, ◌+◌, ◌-◌, ◌*◌, ◌^◌, ◌<◌, ◌≤◌, Bool, true, false, cond, ◌&&◌, ◌||◌, ◌==◌, List, [], ◌∷◌, ◌++◌, length, map, drop, max, sum_by, flat_map, nat_eq, nat_le, nat_lt, eq-eqb, lt-ltb, refl, sym, ◌∙◌, ap, arith, subst, length-append, ◌⊎◌, inl, inr}
 use Rattle.std.specs.Prelude.{All, Contains, IsPermutation}
 use Rattle.std.specs.List.{list_all}
 use Rattle.std.proofs.Math.Nat.{mul-le-mul_right}
-use Rattle.std.proofs.lemmas.Bool.{cases_lt, eqb-true, le-leb, leb-true, ne_eqb, leb-false}
-use Rattle.std.proofs.lemmas.List.{append-nil, length-map}
+use Rattle.std.proofs.lemmas.Bool.{cases_lt, eqb-true, le-leb, leb-true, leb-false, lt-leb}
+use Rattle.std.proofs.lemmas.List.{append-nil, length-drop, length-map}
 use Rattle.std.proofs.lemmas.List.Elements.{All-contains, Contains-append_left}
 use Rattle.std.proofs.lemmas.List.Sums.{sum_by-cons}
 use Rattle.std.proofs.lemmas.List.Sorted.{Contains-permutation, IsPermutation-sym}
@@ -20,11 +20,11 @@ use Rattle.bd_model.proofs.RoomLemmas.{up-enough}
 use Rattle.bd_space.proofs.Distinct.{distinct_left}
 use Rattle.bd_roll.specs.Catalogue.{Catalogue, VersionEntry, VolumeEntry, OpenEntry, all_extents, bytes_of_rows, emptied_catalogue, oldest_in, retained_in, starts_of}
 use Rattle.bd_roll.specs.Rules.{actives_hold, all_differ, ascends, extents_hold, fits_eight, numbers_hold, obeys, phase_holds, row_holds, starts_hold, version_holds, volume_holds}
-use Rattle.bd_roll.specs.Splitting.{FitsExpire, after_expire, begun_from, expired}
+use Rattle.bd_roll.specs.Splitting.{FitsDrop, after_drop, begun_from, dropped_by, fewer_in}
 use Rattle.bd_roll.proofs.Fitting.{all_differ-once, flips}
 use Rattle.bd_roll.proofs.InPlace.{first, later}
 use Rattle.bd_roll.proofs.Obeying.{All-from_list_all, IsBounded, NumbersHold, RowHolds, Rules, numbers_of, distinct_of, owned_of, row_of, rules_of}
-use Rattle.bd_roll.proofs.Owning.{own-expire}
+use Rattle.bd_roll.proofs.Owning.{own-drop}
 
 -- ---- rules, put together
 
@@ -183,9 +183,10 @@ fewer_hold top all kept gone moved h =
 
 -- ---- the whole catalogue
 
-tail_all : {X : Type 0} (p : X → Bool) (xs : List X) → list_all p xs ≡ true → list_all p (drop 1 xs) ≡ true
-tail_all p [] h = refl
-tail_all p (x ∷ xs) h = right_and (p x) (list_all p xs) h
+drop_all : {X : Type 0} (p : X → Bool) (d : ℕ) (xs : List X) → list_all p xs ≡ true → list_all p (drop d xs) ≡ true
+drop_all p zero xs h = h
+drop_all p (suc d) [] h = refl
+drop_all p (suc d) (x ∷ xs) h = drop_all p d xs (right_and (p x) (list_all p xs) h)
 
 waits_on : (c d : Catalogue) (phase : Phase) → phase_holds c phase ≡ true → d.base ≡ c.base → d.newest ≡ c.newest → (phase ≡ Settled) ⊎ (2 ≤ length d.versions) → phase_holds d phase ≡ true
 waits_on c d Settled h base newest more = refl
@@ -206,25 +207,25 @@ nothing_rules s c small =
     λ k. le-leb 0 s.retain (omega arith) k && le-leb (c.newest + 0) c.newest (omega arith) k && (false || eq-eqb c.newest c.newest refl k) && lt-ltb c.newest (2 ^ 32) small k && true in
     obeys_by_rules s (emptied_catalogue c) (record { numbers = numbers; phase = refl; versions = refl; starts = refl; open_starts = refl; volumes = refl; actives = refl; extents = refl })
 
-later_starts : (o j : ℕ) (es : List VolumeEntry) → starts_hold o j es ≡ true → starts_hold o (j + 1) (drop 1 es) ≡ true
-later_starts o j [] h = refl
-later_starts o j (e ∷ es) h = right_and (ascends o j (starts_of e.rows)) (starts_hold o (j + 1) es) h
+later_starts : (o j d : ℕ) (es : List VolumeEntry) → starts_hold o j es ≡ true → starts_hold o (j + d) (drop d es) ≡ true
+later_starts o j zero es h = let same : j ≡ j + 0 = omega arith in subst (λ n. starts_hold o n es ≡ true) same h
+later_starts o j (suc d) [] h = refl
+later_starts o j (suc d) (e ∷ es) h =
+    let same : j + 1 + d ≡ j + suc d = omega arith in
+    subst (λ n. starts_hold o n (drop d es) ≡ true) same (later_starts o (j + 1) d es (right_and (ascends o j (starts_of e.rows)) (starts_hold o (j + 1) es) h))
 
-fewer_owned : (es : List VolumeEntry) → length (flat_map (λ e. e.extents) (drop 1 es)) ≤ length (flat_map (λ (e : VolumeEntry). e.extents) es)
-fewer_owned [] = omega arith
-fewer_owned (e ∷ es) = omega (arith, length-append e.extents (flat_map (λ (x : VolumeEntry). x.extents) es))
+fewer_owned : (d : ℕ) (es : List VolumeEntry) → length (flat_map (λ e. e.extents) (drop d es)) ≤ length (flat_map (λ (e : VolumeEntry). e.extents) es)
+fewer_owned zero es = omega arith
+fewer_owned (suc d) [] = omega arith
+fewer_owned (suc d) (e ∷ es) = omega (arith, fewer_owned d es, length-append e.extents (flat_map (λ (x : VolumeEntry). x.extents) es))
 
-length-one_less : {X : Type 0} (xs : List X) → length (drop 1 xs) ≡ length xs - 1
-length-one_less [] = refl
-length-one_less (x ∷ xs) = omega arith
-
--- with others left the oldest goes
-module _ (s : Sizes) (bounded : IsBounded s) (c : Catalogue) (rules : obeys s c ≡ true) (fits : FitsExpire c) (two : 2 ≤ retained_in c) where
+-- with others left the oldest go
+module _ (s : Sizes) (bounded : IsBounded s) (d : ℕ) (c : Catalogue) (rules : obeys s c ≡ true) (fits : FitsDrop d c) (more : d < retained_in c) where
   abbrev rest : Catalogue
-  rest = record c { versions = drop 1 c.versions; volumes = map (begun_from (oldest_in c + 1)) (drop 1 c.volumes) }
+  rest = fewer_in d c
 
-  pub after_expire-is : after_expire c ≡ rest
-  after_expire-is = ap (λ t. cond t (emptied_catalogue c) rest) (ne_eqb (retained_in c) 1 (λ e. absurd (omega (arith, e, two))))
+  after_drop-is : after_drop d c ≡ rest
+  after_drop-is = ap (λ t. cond t (emptied_catalogue c) rest) (lt-leb (retained_in c) d more)
 
   each : Rules s c
   each = rules_of s c rules
@@ -232,20 +233,20 @@ module _ (s : Sizes) (bounded : IsBounded s) (c : Catalogue) (rules : obeys s c 
   numbers : NumbersHold s c
   numbers = numbers_of s c each.numbers
 
-  fewer : length rest.versions ≡ length c.versions - 1
-  fewer = length-one_less c.versions
+  fewer : length rest.versions ≡ length c.versions - d
+  fewer = length-drop d c.versions
 
-  next : oldest_in rest ≡ oldest_in c + 1
-  next = omega (arith, fewer, two, numbers.base)
+  next : oldest_in rest ≡ oldest_in c + d
+  next = omega (arith, fewer, more, numbers.base)
 
   rest_numbers : numbers_hold s rest ≡ true
   rest_numbers =
       let volumes : length rest.volumes ≡ length rest.versions - 1 =
-      length-map (drop 1 c.volumes) (begun_from (oldest_in c + 1)) ∙ omega (arith, length-one_less c.volumes, numbers.volumes, fewer) in
+      length-map (drop d c.volumes) (begun_from (oldest_in c + d)) ∙ omega (arith, length-drop d c.volumes, numbers.volumes, fewer) in
       λ k.
       le-leb (length rest.versions) s.retain (omega (arith, fewer, numbers.few)) k
       && le-leb (c.base + length rest.versions) c.newest (omega (arith, fewer, numbers.base)) k
-      && (lt-ltb 0 (length rest.versions) (omega (arith, fewer, two)) k || c.base == c.newest)
+      && (lt-ltb 0 (length rest.versions) (omega (arith, fewer, more)) k || c.base == c.newest)
       && lt-ltb c.newest (2 ^ 32) numbers.newest k
       && eq-eqb (length rest.volumes) (length rest.versions - 1) volumes k
 
@@ -253,40 +254,37 @@ module _ (s : Sizes) (bounded : IsBounded s) (c : Catalogue) (rules : obeys s c 
   rest_actives =
       let starts = ascends (c.base + 1) c.newest (map (λ (e : OpenEntry). e.row.start) c.actives) in
       let up_to : starts ≡ true = left_and starts (nat_lt 0 (length c.versions) || length c.actives == 0) each.open_starts in
-      λ k. up_to k && (lt-ltb 0 (length rest.versions) (omega (arith, fewer, two)) k || length c.actives == 0)
+      λ k. up_to k && (lt-ltb 0 (length rest.versions) (omega (arith, fewer, more)) k || length c.actives == 0)
 
-  few_owned : length (flat_map (λ (e : VolumeEntry). e.extents) (drop 1 c.volumes)) ≤ s.extents
+  few_owned : length (flat_map (λ (e : VolumeEntry). e.extents) (drop d c.volumes)) ≤ s.extents
   few_owned =
       let versions : List ℕ = flat_map (λ (e : VersionEntry). e.extents) c.versions in
       let volumes : List ℕ = flat_map (λ (e : VolumeEntry). e.extents) c.volumes in
-      omega (arith, (owned_of s bounded c each.extents).few, length-append (versions ++ volumes) (flat_map (λ (e : OpenEntry). e.extents) c.actives), length-append versions volumes, fewer_owned c.volumes)
+      omega (arith, (owned_of s bounded c each.extents).few, length-append (versions ++ volumes) (flat_map (λ (e : OpenEntry). e.extents) c.actives), length-append versions volumes, fewer_owned d c.volumes)
 
   rest_extents : extents_hold s rest ≡ true
   rest_extents =
       let before : extents_hold s c ≡ true = each.extents in
       let all : (list_all (λ n. nat_lt n s.extents) (all_extents c ++ []) && all_differ (all_extents c ++ [])) ≡ true =
       ap (λ ns. list_all (λ n. nat_lt n s.extents) ns && all_differ ns) (append-nil (all_extents c)) ∙ before in
-      subst (λ d. extents_hold s d ≡ true) after_expire-is (fewer_hold s.extents (all_extents c ++ []) (all_extents (after_expire c)) (expired c) (own-expire c) all)
+      subst (λ e. extents_hold s e ≡ true) after_drop-is (fewer_hold s.extents (all_extents c ++ []) (all_extents (after_drop d c)) (dropped_by d c) (own-drop d c) all)
 
   rest_rules : obeys s rest ≡ true
   rest_rules = obeys_by_rules s rest (record {
     numbers = rest_numbers;
-    phase = waits_on c rest c.phase each.phase refl refl (⊎_elim (λ settled. inl settled) (λ three. inr (omega (arith, fewer, three))) fits.arranged);
-    versions = tail_all (version_holds s) c.versions each.versions;
-    starts = subst (λ o. starts_hold o o rest.volumes ≡ true) (sym next) (begun_starts (oldest_in c) (oldest_in c + 1) (oldest_in c + 1) (drop 1 c.volumes) (omega arith) (later_starts (oldest_in c) (oldest_in c) c.volumes each.starts));
+    phase = waits_on c rest c.phase each.phase refl refl (⊎_elim (λ settled. inl settled) (λ two. inr (omega (arith, fewer, two))) fits.arranged);
+    versions = drop_all (version_holds s) d c.versions each.versions;
+    starts = subst (λ o. starts_hold o o rest.volumes ≡ true) (sym next) (begun_starts (oldest_in c) (oldest_in c + d) (oldest_in c + d) (drop d c.volumes) (omega arith) (later_starts (oldest_in c) (oldest_in c) d c.volumes each.starts));
     open_starts = rest_actives;
-    volumes = begun_volumes s bounded (oldest_in c + 1) (drop 1 c.volumes) (tail_all (volume_holds s) c.volumes each.volumes) few_owned;
+    volumes = begun_volumes s bounded (oldest_in c + d) (drop d c.volumes) (drop_all (volume_holds s) d c.volumes each.volumes) few_owned;
     actives = each.actives;
     extents = rest_extents;
   })
 
--- so does the catalogue after any expiry that fits
-pub expired_rules : (s : Sizes) → IsBounded s → (c : Catalogue) → obeys s c ≡ true → FitsExpire c → obeys s (after_expire c) ≡ true
-expired_rules s bounded c rules fits =
+-- so does the catalogue after the oldest versions are given up, where that fits
+pub dropped_rules : (s : Sizes) → IsBounded s → (d : ℕ) (c : Catalogue) → obeys s c ≡ true → FitsDrop d c → obeys s (after_drop d c) ≡ true
+dropped_rules s bounded d c rules fits =
     ⊎_elim
-    (λ few.
-    let one : retained_in c ≡ 1 = omega (arith, few, fits.some) in
-    subst (λ t. obeys s (cond t (emptied_catalogue c) (record c { versions = drop 1 c.versions; volumes = map (begun_from (oldest_in c + 1)) (drop 1 c.volumes) })) ≡ true) (sym (eq-eqb (retained_in c) 1 one))
-    (nothing_rules s c (numbers_of s c (rules_of s c rules).numbers).newest))
-    (λ two. subst (λ d. obeys s d ≡ true) (sym (after_expire-is s bounded c rules fits two)) (rest_rules s bounded c rules fits two))
-    (cases_lt (retained_in c) 2)
+    (λ more. subst (λ e. obeys s e ≡ true) (sym (after_drop-is s bounded d c rules fits more)) (rest_rules s bounded d c rules fits more))
+    (λ few. subst (λ t. obeys s (cond t (emptied_catalogue c) (fewer_in d c)) ≡ true) (sym (le-leb (retained_in c) d few)) (nothing_rules s c (numbers_of s c (rules_of s c rules).numbers).newest))
+    (cases_lt d (retained_in c))

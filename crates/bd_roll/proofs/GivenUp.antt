@@ -1,9 +1,9 @@
 -- Giving up what is owned, one list after the other.
-use Rattle.std.proofs.Common.{◌≡◌, ℕ, zero, suc, ◌+◌, ◌<◌, ◌≤◌, false, cond, nat_eq, length-append, List, [], ◌∷◌, ◌++◌, length, map, flat_map, take, drop, set, get_or, refl, sym, ◌∙◌, ap, arith, subst, append_assoc}
+use Rattle.std.proofs.Common.{◌≡◌, ℕ, zero, suc, ◌+◌, ◌<◌, ◌≤◌, false, cond, nat_le, length-append, List, [], ◌∷◌, ◌++◌, length, map, flat_map, take, drop, set, get_or, refl, sym, ◌∙◌, ap, arith, subst, append_assoc}
 use Rattle.std.specs.Prelude.{All, Contains, nat_eq}
 use Rattle.std.specs.List.{IsDistinct}
 use Rattle.std.proofs.lemmas.List.{append-nil, nil_from_length}
-use Rattle.std.proofs.lemmas.Bool.{ne_eqb}
+use Rattle.std.proofs.lemmas.Bool.{lt-leb}
 use Rattle.std.proofs.lemmas.List.{length-map}
 use Rattle.std.proofs.lemmas.List.Concat.{flat_map-append}
 use Rattle.std.proofs.lemmas.List.Folds.{flat_map-map}
@@ -117,7 +117,7 @@ pub expired_two : (c : Contents) (v : VersionRow) (w : ClosedVolume) → 2 ≤ l
     expired (catalogue_of_contents c) ≡ v.recipe.numbers ++ w.extents.numbers
 expired_two c v w two some is_version is_volume =
     let d : Catalogue = catalogue_of_contents c in
-    let several : nat_eq (length (map version_entry c.versions.items)) 1 ≡ false = ne_eqb _ 1 (λ e. absurd (omega (arith, length-map c.versions.items version_entry, e, two))) in
+    let several : nat_le (length (map version_entry c.versions.items)) 1 ≡ false = lt-leb (length (map version_entry c.versions.items)) 1 (omega (arith, length-map c.versions.items version_entry, two)) in
     ap (λ t. cond t (all_extents d) (flat_map (λ (e : VersionEntry). e.extents) (take 1 d.versions) ++ flat_map (λ (e : VolumeEntry). e.extents) (take 1 d.volumes))) several
     ∙ (λ k. first_of (λ (e : VersionEntry). e.extents) version_entry c.versions.items v (omega (arith, two)) is_version k ++ first_of (λ (e : VolumeEntry). e.extents) volume_entry c.volumes.items w some is_volume k)
 

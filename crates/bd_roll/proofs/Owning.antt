@@ -1,5 +1,5 @@
 -- What a catalogue owns before a step, with what the step brings, is what it owns afterwards and what the step gives up.
-use Rattle.std.proofs.Common.{◌≡◌, ◌≢◌, ⊎_elim, ℕ, suc, ◌+◌, ◌<◌, ◌≤◌, true, false, cond, ◌&&◌, nat_eq, nat_le, List, [], ◌∷◌, ◌++◌, length, map, take, drop, refl, sym, ◌∙◌, ap, arith, subst, append_assoc}
+use Rattle.std.proofs.Common.{◌≡◌, ◌≢◌, ⊎_elim, ℕ, zero, suc, ◌+◌, ◌<◌, ◌≤◌, true, false, cond, ◌&&◌, nat_eq, nat_le, List, [], ◌∷◌, ◌++◌, length, map, take, drop, refl, sym, ◌∙◌, ap, arith, subst, append_assoc}
 use Rattle.std.specs.Prelude.{All, Contains, IsPermutation, ◌==◌}
 use Rattle.std.specs.List.{flat_map, IsDistinct}
 use Rattle.std.proofs.lemmas.Bool.{cases_lt, leb-true}
@@ -17,7 +17,7 @@ use Rattle.bd_roll.specs.Growing.{with_entries, empty_volume, after_backup}
 use Rattle.bd_roll.specs.declared.step.Step.{Step}
 use Rattle.bd_roll.specs.declared.step.Step.TheVariants.{Backup, Expire, Arrange}
 use Rattle.bd_roll.specs.Shown.{version_entry}
-use Rattle.bd_roll.specs.Splitting.{KeptEntry, AreSplits, FitsArrange, after_arrange, after_expire, begun_from, expired, extents_at, in_place, kept_extents, last_grown, put_in_place, replaced}
+use Rattle.bd_roll.specs.Splitting.{KeptEntry, AreSplits, FitsArrange, after_arrange, after_drop, begun_from, dropped_by, extents_at, fewer_in, in_place, kept_extents, last_grown, put_in_place, replaced}
 use Rattle.bd_roll.specs.Rules.{ascends, obeys}
 use Rattle.bd_roll.specs.Steps.{Fits, brought, dropped, fresh_entries, kept_entry, stepped}
 use Rattle.bd_roll.proofs.Counting.{permutation_by_times, times, times-append}
@@ -147,32 +147,33 @@ own-arrange c rows added es some splits is_open =
 
 -- ---- an expiry
 
-front_and_rest : {X : Type 0} (f : X → List ℕ) (n : ℕ) (xs : List X) → times n (flat_map f xs) ≡ times n (flat_map f (take 1 xs)) + times n (flat_map f (drop 1 xs))
-front_and_rest f n [] = refl
-front_and_rest f n (x ∷ xs) = omega (arith, times-append n (f x) (flat_map f xs), times-append n (f x) [])
+front_and_rest : {X : Type 0} (f : X → List ℕ) (n d : ℕ) (xs : List X) → times n (flat_map f xs) ≡ times n (flat_map f (take d xs)) + times n (flat_map f (drop d xs))
+front_and_rest f n zero xs = omega arith
+front_and_rest f n (suc d) [] = omega arith
+front_and_rest f n (suc d) (x ∷ xs) = omega (arith, front_and_rest f n d xs, times-append n (f x) (flat_map f xs), times-append n (f x) (flat_map f (take d xs)))
 
 same_extents : (r : ℕ) (es : List VolumeEntry) → flat_map (λ e. e.extents) (map (begun_from r) es) ≡ flat_map (λ (e : VolumeEntry). e.extents) es
 same_extents r [] = refl
 same_extents r (e ∷ es) = ap (λ ns. e.extents ++ ns) (same_extents r es)
 
-pub own-expire : (c : Catalogue) → IsPermutation (all_extents c ++ []) (all_extents (after_expire c) ++ expired c)
-own-expire c =
-    let rest : Catalogue = record c { versions = drop 1 c.versions; volumes = map (begun_from (oldest_in c + 1)) (drop 1 c.volumes) } in
+pub own-drop : (d : ℕ) (c : Catalogue) → IsPermutation (all_extents c ++ []) (all_extents (after_drop d c) ++ dropped_by d c)
+own-drop d c =
+    let rest : Catalogue = fewer_in d c in
     let version : VersionEntry → List ℕ = λ e. e.extents in
     let volume : VolumeEntry → List ℕ = λ e. e.extents in
-    let gone : List ℕ = flat_map version (take 1 c.versions) ++ flat_map volume (take 1 c.volumes) in
-    elim (retained_in c == 1) as (λ t. IsPermutation (all_extents c ++ []) (all_extents (cond t (emptied_catalogue c) rest) ++ cond t (all_extents c) gone)) [
+    let gone : List ℕ = flat_map version (take d c.versions) ++ flat_map volume (take d c.volumes) in
+    elim (nat_le (retained_in c) d) as (λ t. IsPermutation (all_extents c ++ []) (all_extents (cond t (emptied_catalogue c) rest) ++ cond t (all_extents c) gone)) [
       | true ↦ same_lists (all_extents c ++ []) (all_extents c) (append-nil (all_extents c))
       | false ↦ permutation_by_times _ _ (λ n. omega (
         arith,
         times-append n (all_extents c) [],
         times-append n (all_extents rest) gone,
-        times-append n (flat_map version (take 1 c.versions)) (flat_map volume (take 1 c.volumes)),
+        times-append n (flat_map version (take d c.versions)) (flat_map volume (take d c.volumes)),
         all_times n c,
         all_times n rest,
-        front_and_rest version n c.versions,
-        front_and_rest volume n c.volumes,
-        ap (times n) (same_extents (oldest_in c + 1) (drop 1 c.volumes)),
+        front_and_rest version n d c.versions,
+        front_and_rest volume n d c.volumes,
+        ap (times n) (same_extents (oldest_in c + d) (drop d c.volumes)),
       ))
     ]
 
@@ -214,7 +215,7 @@ pub own-stepped : (s : Sizes) (c : Catalogue) (step : Step) → obeys s c ≡ tr
 own-stepped s c (Backup version fresh) rules fits =
     let after : List ℕ = all_extents (after_backup c (version_entry version) (fresh_entries fresh)) in
     subst (IsPermutation (all_extents c ++ brought (Backup version fresh))) (sym (append-nil after)) (own-backup c (version_entry version) (fresh_entries fresh))
-own-stepped s c Expire rules fits = own-expire c
+own-stepped s c Expire rules fits = own-drop 1 c
 own-stepped s c (Arrange volume splits) rules fits =
     own-arrange c volume.rows.items volume.extents.numbers (map kept_entry splits.items) (waiting_volume s c rules fits.waits)
     (fit_splits s c volume.rows.items volume.extents.numbers (map kept_entry splits.items) rules fits) fits.is_open

@@ -1,5 +1,5 @@
--- The catalogue after open categories are split, and after the oldest version is given up.
-use Rattle.std.specs.Prelude.{◌≡◌, ◌≢◌, ◌⊎◌, ◌≤◌, ◌<◌, ℕ, ◌+◌, ◌*◌, ◌==◌, List, [], ◌∷◌, ◌++◌, length, map, flat_map, filter, drop, take, max, All, Contains, IsTrue, nat_eq, if◌then◌else◌}
+-- The catalogue after open categories are split, and after the oldest versions are given up.
+use Rattle.std.specs.Prelude.{◌≡◌, ◌≢◌, ◌⊎◌, ◌≤◌, ◌<◌, ℕ, ◌+◌, ◌*◌, ◌==◌, List, [], ◌∷◌, ◌++◌, length, map, flat_map, filter, drop, take, max, All, Contains, IsTrue, nat_eq, if◌then◌else◌, nat_le}
 use Rattle.std.specs.List.{IsDistinct, list_all}
 use Rattle.bd_model.specs.Laws.{rows_more, rows_to}
 use Rattle.bd_model.specs.Room.{up}
@@ -128,31 +128,37 @@ MaySplits s c (e ∷ es) = MaySplit s c e × MaySplits s (after_split c e) es
 abbrev pub kept_of : SplitEntry → KeptEntry
 kept_of e = record { start = e.start; kept = e.kept }
 
--- ---- giving up the oldest version
+-- ---- giving up the oldest versions
 
 -- a volume where this is the oldest version
 abbrev pub begun_from : ℕ → VolumeEntry → VolumeEntry
 begun_from oldest e = record { rows = rows_to oldest e.rows; extents = e.extents }
 
--- the catalogue after the oldest version is given up; with the only one nothing is left
+-- the catalogue after the d oldest of more versions are given up
+abbrev pub fewer_in : ℕ → Catalogue → Catalogue
+fewer_in d c = record c { versions = drop d c.versions; volumes = map (begun_from (oldest_in c + d)) (drop d c.volumes) }
+
+-- and after the d oldest versions are given up; with all of them nothing is left
+abbrev pub after_drop : ℕ → Catalogue → Catalogue
+after_drop d c = if nat_le (retained_in c) d then emptied_catalogue c else fewer_in d c
+
 abbrev pub after_expire : Catalogue → Catalogue
-after_expire c =
-    if retained_in c == 1
-    then emptied_catalogue c
-    else record c {
-      versions = drop 1 c.versions;
-      volumes = map (begun_from (oldest_in c + 1)) (drop 1 c.volumes);
-    }
+after_expire c = after_drop 1 c
 
--- the extents that go with it: of its recipe and its closed volume, or all
-abbrev pub expired : Catalogue → List ℕ
-expired c =
-    if retained_in c == 1
+-- the extents that go with them: of their recipes and their closed volumes, or all
+abbrev pub dropped_by : ℕ → Catalogue → List ℕ
+dropped_by d c =
+    if nat_le (retained_in c) d
     then all_extents c
-    else flat_map (λ e. e.extents) (take 1 c.versions) ++ flat_map (λ e. e.extents) (take 1 c.volumes)
+    else flat_map (λ e. e.extents) (take d c.versions) ++ flat_map (λ e. e.extents) (take d c.volumes)
 
--- A version is retained to be given up; and where the newest isn't arranged yet, the oldest is neither the newest nor the
--- one before it.
-pub record FitsExpire (c : Catalogue) : Type 0 where
-  pub some : 1 ≤ retained_in c
-  pub arranged : (c.phase ≡ Settled) ⊎ (3 ≤ retained_in c)
+abbrev pub expired : Catalogue → List ℕ
+expired c = dropped_by 1 c
+
+-- So many versions are retained to be given up; and where the newest isn't arranged yet, it and the one before it stay.
+pub record FitsDrop (d : ℕ) (c : Catalogue) : Type 0 where
+  pub some : d ≤ retained_in c
+  pub arranged : (c.phase ≡ Settled) ⊎ (d + 2 ≤ retained_in c)
+
+abbrev pub FitsExpire : Catalogue → Type 0
+FitsExpire c = FitsDrop 1 c

@@ -122,7 +122,7 @@ impl Contents {
         ensures catalogue { catalogue_of_contents self.new ≡ after_expire (catalogue_of_contents self.old) }
         ensures gives { GivesUp (expired (catalogue_of_contents self.old)) space.old space.new }
     {
-        if self.versions.len() == 1 {
+        if self.versions.len() <= 1 {
             self.give_up_all(space);
         } else {
             self.give_up_oldest(space);

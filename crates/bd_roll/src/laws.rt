@@ -5,7 +5,7 @@ ghost use Rattle.bd_model.specs.Sizes.{Sizes, sizes_of, payload_room};
 ghost use Rattle.bd_roll.specs.Catalogue.{Catalogue};
 ghost use Rattle.bd_roll.specs.Rules.{obeys, catalogue_of};
 ghost use Rattle.bd_roll.specs.Spelling.{spelled, read_catalogue};
-ghost use Rattle.bd_roll.specs.Splitting.{after_expire, after_split, FitsExpire, MaySplit, SplitEntry};
+ghost use Rattle.bd_roll.specs.Splitting.{after_drop, after_split, FitsDrop, MaySplit, SplitEntry};
 ghost use Rattle.bd_roll.specs.Widths.{IsSpellable};
 
 /// A catalogue whose numbers fit their fields is read back from its spelling, and one that obeys the rules is such a
@@ -24,9 +24,9 @@ pub fn catalogues_read_back()
         → (c ≡ d) × (rest ≡ others) }
 {}
 
-/// A catalogue that obeys the rules does so after each split that may be made, and after an expiry.
+/// A catalogue that obeys the rules does so after each split that may be made, and after its oldest versions are given up.
 pub fn steps_keep_the_rules()
     ensures split { (shape : Shape) (c : Catalogue) (e : SplitEntry) → IsTrue (obeys (sizes_of shape) c) → MaySplit (sizes_of shape) c e
         → IsTrue (obeys (sizes_of shape) (after_split c e)) }
-    ensures expiry { (shape : Shape) (c : Catalogue) → IsTrue (obeys (sizes_of shape) c) → FitsExpire c → IsTrue (obeys (sizes_of shape) (after_expire c)) }
+    ensures fewer { (shape : Shape) (d : ℕ) (c : Catalogue) → IsTrue (obeys (sizes_of shape) c) → FitsDrop d c → IsTrue (obeys (sizes_of shape) (after_drop d c)) }
 {}

@@ -37,7 +37,7 @@ use Rattle.bd_catalog.proofs.Committing.{number-small}
 use Rattle.bd_catalog.proofs.Staged.{InUnowned, either_stands, staged_commit, unowned_unnamed}
 use Rattle.bd_catalog.proofs.Standing.{stands-shows}
 use Rattle.bd_catalog.proofs.StandingAnswers.{IsAnswered}
-use Rattle.bd_catalog.proofs.StandingExpired.{expired-count, expired_answered}
+use Rattle.bd_catalog.proofs.StandingExpired.{dropped-count, expired_answered}
 use Rattle.bd_roll.proofs.Obeying.{settled_with_few}
 use Rattle.bd_store.specs.Attempts.{Beside, Meets, Scene, attempt, scene_beside}
 use Rattle.bd_store.specs.Causes.{counts}
@@ -91,7 +91,7 @@ module _ (found : Found) (held : ℕ) (files : FileMap) (h0 h1 : History) (agree
       let shows = stands-shows stands agrees.opens in
       let is : IsAnswered shape held st phase files Expire (Expired (oldest h) (expired_extents shape.extent h)) image files = expired_answered shape st phase held (contents h0) image found after stands agrees.opens fits made refl refl files in
       let same : oldest_in found.catalogue ≡ oldest h = omega (arith, shows.numbers.newest, shows.numbers.retained, fits.some) in
-      let count : length (expired found.catalogue) ≡ expired_extents shape.extent h = expired-count shape st phase held (contents h0) image found after stands agrees.opens fits made refl refl in
+      let count : length (expired found.catalogue) ≡ expired_extents shape.extent h = dropped-count 1 (omega arith) shape st phase held (contents h0) image found after stands agrees.opens fits made refl refl in
       record {
         outcome = is.outcome;
         leads = is.leads;

@@ -2,7 +2,7 @@
 use Rattle.std.proofs.Common.{◌≡◌, ◌∙◌, ℕ, zero, suc, ◌+◌, ◌<◌, ◌≤◌, ◌^◌, ◌++◌, Bool, true, nat_lt, List, [], ◌∷◌, append-nil, ap, arith, cond, get_or, length, length-append, map, sym, take}
 use Rattle.std.specs.List.{flat_map, list_all}
 use Rattle.std.specs.Prelude.{IsTrue}
-use Rattle.std.proofs.lemmas.Bool.{eq-eqb, ne_eqb}
+use Rattle.std.proofs.lemmas.Bool.{le-leb, lt-leb}
 use Rattle.std.proofs.lemmas.List.{length-map, take_more}
 use Rattle.std.proofs.lemmas.List.Folds.{flat_map-map}
 use Rattle.std.proofs.lemmas.List.Sorted.{length_permutation}
@@ -17,7 +17,7 @@ use Rattle.bd_roll.specs.Shown.{open_entry, version_entry, volume_entry}
 use Rattle.bd_roll.specs.Splitting.{after_expire, expired}
 use Rattle.bd_roll.proofs.GivenUp.{flat_map-last}
 use Rattle.bd_roll.proofs.Obeying.{NumbersHold, count_of, numbers_of, rules_of}
-use Rattle.bd_roll.proofs.Owning.{own-expire}
+use Rattle.bd_roll.proofs.Owning.{own-drop}
 
 -- one owner more, of several
 pub one_more : {X : Type 0} (f : X → List ℕ) (xs : List X) (i : ℕ) (x : X) → i < length xs → x ≡ get_or xs i x → length (flat_map f (take (i + 1) xs)) ≡ length (flat_map f (take i xs)) + length (f x)
@@ -50,7 +50,7 @@ few_expired s c bounded rules =
     let extents : extents_hold s c ≡ true = (rules_of s c rules).extents in
     let below : Bool = list_all (λ n. nat_lt n s.extents) (all_extents c) in
     let all : length (all_extents c) ≤ s.extents = count_of s.extents (all_extents c) (left_and below (all_differ (all_extents c)) extents) (right_and below (all_differ (all_extents c)) extents) in
-    let gone : length (all_extents (after_expire c) ++ expired c) ≡ length (all_extents c ++ []) = length_permutation (all_extents c ++ []) (all_extents (after_expire c) ++ expired c) (own-expire c) in
+    let gone : length (all_extents (after_expire c) ++ expired c) ≡ length (all_extents c ++ []) = length_permutation (all_extents c ++ []) (all_extents (after_expire c) ++ expired c) (own-drop 1 c) in
     omega (arith, bounded, all, gone, length-append (all_extents (after_expire c)) (expired c), length-append (all_extents c) [])
 
 module _ (s : Sizes) (c : Catalogue) (rules : IsTrue (obeys s c)) (some : 1 ≤ retained_in c) (rows : List VersionRow) (v : VersionRow) (are : map version_entry rows ≡ c.versions) (is : v ≡ get_or rows 0 v) where
@@ -75,7 +75,7 @@ module _ (s : Sizes) (c : Catalogue) (rules : IsTrue (obeys s c)) (some : 1 ≤ 
       let two : 2 ≤ retained_in c = omega (arith, numbers.volumes, one, ap (λ (l : List VolumeEntry). length l) are_closed, length-map closed volume_entry) in
       let volume : length (flat_map (λ (e : VolumeEntry). e.extents) (take 1 c.volumes)) ≡ length w.extents.numbers = first_extents (λ (e : VolumeEntry). e.extents) volume_entry closed w c.volumes are_closed one is_closed in
       let gone : length (expired c) ≡ length (flat_map (λ (e : VersionEntry). e.extents) (take 1 c.versions) ++ flat_map (λ (e : VolumeEntry). e.extents) (take 1 c.volumes)) =
-      ap (λ t. length (cond t (all_extents c) (flat_map (λ (e : VersionEntry). e.extents) (take 1 c.versions) ++ flat_map (λ (e : VolumeEntry). e.extents) (take 1 c.volumes)))) (ne_eqb (retained_in c) 1 (λ e. absurd (omega (arith, e, two)))) in
+      ap (λ t. length (cond t (all_extents c) (flat_map (λ (e : VersionEntry). e.extents) (take 1 c.versions) ++ flat_map (λ (e : VolumeEntry). e.extents) (take 1 c.volumes)))) (lt-leb (retained_in c) 1 two) in
       omega (arith, gone, recipe, volume, length-append (flat_map (λ (e : VersionEntry). e.extents) (take 1 c.versions)) (flat_map (λ (e : VolumeEntry). e.extents) (take 1 c.volumes)))
 
   -- the only one has its recipe, and everything else goes with it
@@ -83,7 +83,7 @@ module _ (s : Sizes) (c : Catalogue) (rules : IsTrue (obeys s c)) (some : 1 ≤ 
   with_categories owners are_open none =
       let one : retained_in c ≡ 1 = omega (arith, numbers.volumes, none, some) in
       let all : length (expired c) ≡ length (all_extents c) =
-      ap (λ t. length (cond t (all_extents c) (flat_map (λ (e : VersionEntry). e.extents) (take 1 c.versions) ++ flat_map (λ (e : VolumeEntry). e.extents) (take 1 c.volumes)))) (eq-eqb (retained_in c) 1 one) in
+      ap (λ t. length (cond t (all_extents c) (flat_map (λ (e : VersionEntry). e.extents) (take 1 c.versions) ++ flat_map (λ (e : VolumeEntry). e.extents) (take 1 c.volumes)))) (le-leb (retained_in c) 1 (omega (arith, one))) in
       let no_volume : length volumes ≡ 0 = nothing c.volumes none in
       let here : length (flat_map (λ (a : ActiveCategory). a.extents.numbers) owners) ≡ length categories =
       ap (λ (ns : List ℕ). length ns) (sym (flat_map-map (λ (e : OpenEntry). e.extents) open_entry owners)) ∙ ap (λ l. length (flat_map (λ (e : OpenEntry). e.extents) l)) are_open in

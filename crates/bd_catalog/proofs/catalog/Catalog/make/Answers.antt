@@ -10,7 +10,7 @@ use Rattle.bd_roll.specs.Shown.{catalogue_of_contents, volume_entry}
 use Rattle.bd_roll.specs.Splitting.{FitsArrange, FitsExpire, expired, replaced}
 use Rattle.bd_roll.specs.Giving.{AreOwned, GivesUp}
 use Rattle.bd_roll.specs.Steps.{Fits, NeedsRoom, dropped, kept_entry}
-use Rattle.bd_roll.proofs.Expiring.{expired_rules}
+use Rattle.bd_roll.proofs.Expiring.{dropped_rules}
 use Rattle.bd_roll.proofs.Making.{all_sums_fit, few_added, step_owned, step_owners}
 use Rattle.bd_roll.proofs.GivenUp.{gives_none}
 use Rattle.bd_roll.proofs.Obeying.{bounded_of, rules_of}
@@ -29,7 +29,7 @@ invariant_of-self-inside-in-Expire c =
     let d : Catalogue = catalogue_of_contents c.self.inside.contents in
     let same = ap (λ (l : Ledger). l.found) c.self.view_is in
     let fits : FitsExpire d = subst (λ (f : Found). FitsExpire f.catalogue) (sym same) (subst (λ step. Fits c.args.self.now.found.sizes c.args.self.now.found.catalogue step) c.in-Expire.is c.requires.fits) in
-    (subst (λ e. obeys s e ≡ true) (sym c.expire.ensures.catalogue) (expired_rules s (bounded_of c.self.inside.shape) d c.self.inside.rules fits), tt)
+    (subst (λ e. obeys s e ≡ true) (sym c.expire.ensures.catalogue) (dropped_rules s (bounded_of c.self.inside.shape) 1 d c.self.inside.rules fits), tt)
 
 pub arrange-requires-clause-room : goal.arrange-requires-clause-room
 arrange-requires-clause-room c =
