@@ -1,5 +1,5 @@
 -- What arranging leaves of the states for which the contents stood.
-use Rattle.std.proofs.Common.{◌≡◌, ◌≢◌, ⊎_elim, ℕ, zero, suc, ◌+◌, ◌-◌, ◌<◌, ◌≤◌, List, [], ◌∷◌, length, take, map, flat_map, refl, sym, ◌∙◌, ap, subst, arith}
+use Rattle.std.proofs.Common.{◌≡◌, ◌≢◌, ⊎_elim, inr, ℕ, zero, suc, ◌+◌, ◌-◌, ◌<◌, ◌≤◌, List, [], ◌∷◌, length, take, map, flat_map, refl, sym, ◌∙◌, ap, subst, arith}
 use Rattle.std.specs.Prelude.{All, Contains, IsTrue, OnErr, OnOk, Result, Ok, Err}
 use Rattle.std.proofs.lemmas.List.Elements.{All-contains_itself, All-weaker}
 use Rattle.bd_disk.specs.History.{History, contents}
@@ -32,7 +32,7 @@ use Rattle.bd_catalog.proofs.Committing.{number-small}
 use Rattle.bd_roll.proofs.Obeying.{IsBounded}
 use Rattle.bd_roll.proofs.OneArranging.{arrange_fits}
 use Rattle.bd_catalog.proofs.Staged.{AreUnnamed, agrees_staged, either_stands, staged_commit, staged_stands, staging}
-use Rattle.bd_catalog.proofs.Standing.{found_once, halves_agree}
+use Rattle.bd_catalog.proofs.Standing.{halves_agree}
 use Rattle.bd_catalog.proofs.StandingNamed.{stands_settled}
 use Rattle.bd_recipe.specs.Reading.{IfDamaged, recipe_found}
 use Rattle.bd_recipe.specs.declared.fault.ReadFault.{ReadFault}
@@ -42,11 +42,11 @@ use Rattle.bd_volume.proofs.Beside.{half_beside, half_front, unnamed_beside}
 use Rattle.bd_volume.proofs.Unnamed.{named_bytes_decide}
 use Rattle.bd_arrange.specs.Arranged.{AnArrangedStoreStands, AnswersDue, Arranges, ButDiskFault, IsAllotted, IsArrangedFrom, IsDamageOfDue, IsSpared, KeepsStates}
 use Rattle.bd_arrange.specs.Desks.{OnDesk}
-use Rattle.bd_arrange.specs.Opens.{HasVersionsOf, IsSafeOpening, OpensAlike}
+use Rattle.bd_arrange.specs.Opens.{IsSafeOpening, OpensSoFar, OpensWith}
 use Rattle.bd_arrange.specs.Turns.{AreArranged, Ground, due, ground, grown_bytes}
 use Rattle.bd_arrange.specs.Underway.{HasSplits, HasTurned, IsStaged, arranged_at}
 use Rattle.bd_arrange.proofs.NoDamage.{never_damaged}
-use Rattle.bd_arrange.proofs.Opens.{alike_back, opens_alike, opens_committed, opens_staged}
+use Rattle.bd_arrange.proofs.Opens.{not_yet, opens_committed, opens_staged}
 use Rattle.bd_arrange.proofs.TakingTurns.{KeptStays, turns_later}
 
 -- ---- nothing was done
@@ -55,15 +55,16 @@ pub keeps_settled : (held : ℕ) (found : Found) (h : History) → Agrees found 
 keeps_settled held found h agrees settled = record {
   contents = record { each = λ shape st phase near stands. stands_settled stands agrees.opens settled };
   stops = record { each = λ shape st near sure. leaves_same refl sure };
-  opens = record { each = λ f sure. leaves_same refl sure };
 }
 
 pub keeps_all : (held : ℕ) (h : History) → KeepsStates {T = Unit {0}} held h h (Err OutOfMemory)
 keeps_all held h = record {
   contents = record { each = λ shape st phase near stands. stands };
   stops = record { each = λ shape st near sure. leaves_same refl sure };
-  opens = record { each = λ f sure. leaves_same refl sure };
 }
+
+pub opens_at_once : {held : ℕ} {found : Found} {h : History} → IsSafeOpening held found h h
+opens_at_once {held} {found} {h} sure = leaves_wider (OpensSoFar held found (contents h)) not_yet (leaves_same refl sure)
 
 -- ---- places that nothing names
 
@@ -104,13 +105,6 @@ module _ (found : Found) (h0 h1 : History) (agrees : Agrees found h0) (writes : 
   pub agrees_now : Agrees found h1
   agrees_now = agrees_staged found (IsUnnamed s c) (λ place p. p.behind) agrees unnamed
 
-  -- what each image opened with has the versions of what was found
-  alike_found : {new : History} (f : Found) → LeavesNow (OpensAlike f) h0 → (LeavesNow (OpensAlike found) h0 → LeavesSince (OpensAlike found) h0 new) → LeavesSince (OpensAlike f) h0 new
-  alike_found f sure leaves =
-      let now : OpensAlike f (contents h0) = sure.each (contents h0) (contents_now h0) in
-      let alike : HasVersionsOf f found = subst (HasVersionsOf f) (found_once (contents h0) now.again found now.opens agrees.opens) now.alike in
-      leaves_wider (OpensAlike f) (opens_alike alike) (leaves (record { each = λ image at. opens_alike (alike_back alike) image (sure.each image at) }))
-
   module _ (held : ℕ) where
     stands_now : (shape : Shape) (st : VersionState) (phase : Phase) → StandsFor shape st phase held (contents h0) → StandsFor shape st phase held (contents h1)
     stands_now shape st phase stands = staged_stands found (IsUnnamed s c) (are_unnamed shape held st found) agrees unnamed phase stands
@@ -127,8 +121,10 @@ module _ (found : Found) (h0 h1 : History) (agrees : Agrees found h0) (writes : 
     keeps_refused fault met = record {
       contents = record { each = λ shape st phase near stands. refused shape st phase fault met stands };
       stops = record { each = λ shape st near sure. staging found (IsUnnamed s c) (are_unnamed shape held st found) agrees unnamed sure };
-      opens = record { each = λ f sure. alike_found f sure (λ same. opens_staged found same (IsUnnamed s c) (λ place p. p.behind) unnamed) };
     }
+
+    pub opens_refused : IsSafeOpening held found h0 h1
+    opens_refused sure = leaves_wider (OpensSoFar held found (contents h0)) not_yet (opens_staged found sure (IsUnnamed s c) (λ place p. p.behind) unnamed)
 
   -- ---- what was made is named
 
@@ -205,21 +201,19 @@ module _ (found : Found) (h0 h1 : History) (agrees : Agrees found h0) (writes : 
         (staged_commit found (IsUnnamed s c) (are_unnamed shape held st found) agrees unnamed sure (Stands shape held st) after
         (λ image made. record { phase = Settled; so = settles image made shape st now.phase near now.so }) either.stops)
 
-    opens_named : (h2 : History) → LeavesEither found after h1 h2 → IsSafeOpening h0 h2
-    opens_named h2 either = record {
-      each = λ f sure. alike_found f sure (λ same.
-          let staged : LeavesSince (OpensAlike found) h0 h1 = opens_staged found same (IsUnnamed s c) (λ place p. p.behind) unnamed in
-          leaves_both staged (leaves_wider (OpensAlike found)
-          (λ image is. ⊎_elim (λ old. old) (λ made. record { again = after; opens = made; alike = record { sizes = refl; base = refl; newest = refl; versions = refl } }) is)
-          (opens_committed found (leaves_now staged) after either.stops)));
-    }
+    pub opens_named : (h2 : History) → LeavesEither found after h1 h2 → IsSafeOpening held found h0 h2
+    opens_named h2 either sure =
+        let staged : LeavesSince (OpensWith found) h0 h1 = opens_staged found sure (IsUnnamed s c) (λ place p. p.behind) unnamed in
+        leaves_both (leaves_wider (OpensSoFar held found (contents h0)) not_yet staged)
+        (leaves_wider (OpensSoFar held found (contents h0))
+        (λ image is. ⊎_elim (not_yet image) (λ made. record { ready = after; opens = made.opens; so = inr (is_arranged image made) }) is)
+        (opens_committed found (leaves_now staged) after either.stops))
 
     module _ (h2 : History) where
       pub keeps_named : IsMade found after h1 h2 → LeavesEither found after h1 h2 → KeepsStates {T = Unit {0}} held h0 h2 (Ok tt)
       keeps_named done either = record {
         contents = record { each = λ shape st phase near stands. settles (contents h2) done.kept shape st phase near stands };
         stops = record { each = λ shape st near sure. stops_named h2 shape st near sure either };
-        opens = opens_named h2 either;
       }
 
       pub keeps_failed : LeavesEither found after h1 h2 → KeepsStates {T = Unit {0}} held h0 h2 (Err DiskFault)
@@ -231,7 +225,6 @@ module _ (found : Found) (h0 h1 : History) (agrees : Agrees found h0) (writes : 
               (λ image made. settles image made shape st phase near stands) either.contents);
         };
         stops = record { each = λ shape st near sure. stops_named h2 shape st near sure either };
-        opens = opens_named h2 either;
       }
 
       pub keeps_either : (T : Type 0) → T → (result : Result (Unit {0}) ReadFault) → OnErr result (result ≡ Err DiskFault) → OnOk result (T → IsMade found after h1 h2) → LeavesEither found after h1 h2 →

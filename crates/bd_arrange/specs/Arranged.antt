@@ -22,7 +22,6 @@ use Rattle.bd_recipe.specs.declared.fault.ReadFault.{ReadFault}
 use Rattle.bd_recipe.specs.declared.fault.ReadFault.TheVariants.{DiskFault, Damaged, OutOfMemory}
 use Rattle.bd_volume.specs.Named.{InNamed, IsBeside}
 use Rattle.bd_arrange.specs.Cuts.{InCategory, IsDamageIn}
-use Rattle.bd_arrange.specs.Opens.{IsSafeOpening}
 use Rattle.bd_arrange.specs.Turns.{AreArranged, due, ground}
 
 -- the space has the store's extents, and counts as taken exactly what the catalogue's owners have, each number once
@@ -112,12 +111,10 @@ pub record IsArranged {T : Type 0} (held : ℕ) (old new : History) (result : Re
 pub record IsSafeArranging (held : ℕ) (old new : History) : Type 0 where
   pub each : (shape : Shape) → (st : VersionState) → Near (history shape st) → LeavesNow (Stands shape held st) old → LeavesSince (Stands shape held st) old new
 
--- where the disk tells: every state stays, in the contents and at any stop, and so do the versions of an image that stands for
--- none
+-- where the disk tells: every state stays, in the contents and at any stop
 pub record KeepsStates {T : Type 0} (held : ℕ) (old new : History) (result : Result T ReadFault) : Type 0 where
   pub contents : IsArranged held old new result
   pub stops : IsSafeArranging held old new
-  pub opens : IsSafeOpening old new
 
 -- ---- the law
 

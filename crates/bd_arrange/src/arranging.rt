@@ -15,6 +15,7 @@ ghost use Rattle.bd_catalog.specs.Steps.{InOtherHalf};
 ghost use Rattle.bd_recipe.specs.Reading.{IfDamaged, is_disk_fault, recipe_found};
 ghost use Rattle.bd_arrange.specs.Arranged.{AnswersDue, ButDiskFault, InDue, IsAllotted, IsDamageOfDue, IsSpared, KeepsStates, LeavesFound};
 ghost use Rattle.bd_arrange.specs.Desks.{new_extents};
+ghost use Rattle.bd_arrange.specs.Opens.{IsSafeOpening};
 ghost use Rattle.bd_arrange.specs.Turns.{due, is_due};
 ghost use Rattle.bd_arrange.specs.Underway.{HasSplits, IsStaged, IsTakenFor, IsUnderway, Names, arranged_at};
 
@@ -52,6 +53,7 @@ pub fn arrange<D: Disk>(
     ensures agrees { D.tells → ButDiskFault result (Agrees catalog.new.found (D.history disk.new)) }
     ensures answer { D.tells → AnswersDue (held_count space.old) catalog.old.found catalog.new.found (D.history disk.old) (D.history disk.new) result }
     ensures states { D.tells → KeepsStates (held_count space.old) (D.history disk.old) (D.history disk.new) result }
+    ensures opens { D.tells → IsSafeOpening (held_count space.old) catalog.old.found (D.history disk.old) (D.history disk.new) }
 {
     if let Phase::Settled = catalog.phase() {
         return Ok(());

@@ -8,7 +8,7 @@ use Rattle.std.proofs.lemmas.Slice.Eq.{bytes_eq-Decides}
 use Rattle.bd_disk.specs.History.{clock, contents, History}
 use Rattle.bd_disk.specs.Made.{WritesOnly, WritesNothing}
 use Rattle.bd_disk.specs.Trace.{ReadsOnly}
-use Rattle.bd_disk.proofs.Frames.{at_now, at_start, made_both, nothing_within, writes_wider}
+use Rattle.bd_disk.proofs.Frames.{at_now, at_start, made_both, writes_wider}
 use Rattle.bd_disk.proofs.Traces.{reads_of_run}
 use Rattle.bd_model.specs.declared.answer.Answer.{Answer}
 use Rattle.bd_model.specs.declared.command.Command.{Command}
@@ -38,16 +38,12 @@ use Rattle.bd_session.specs.Drops.{ArrangesFirst, Drops}
 use Rattle.bd_session.specs.Reads.{ExpiryDrops, ExpiryReads, ReadsFor, RestoreReads}
 use Rattle.bd_session.specs.Ends.{IsMetBy, end_of}
 use Rattle.bd_session.specs.Keeping.{IsQuiet, IsQuietDeed}
+use Rattle.bd_store.proofs.Opens.{only_unowned}
 use Rattle.bd_session.proofs.Dropping.{drops_oldest}
 
 -- no command writes in the superblock
 ready_beyond : (deed : Deed) (found : Found) {old new : History} → WritesFor deed found old new → WritesOnly (λ place. 64 ≤ place) old new
-ready_beyond (TakesIn source) found writes = writes_wider _ (λ place unowned. unowned.begins) writes
-ready_beyond (GivesBack v target) found writes = nothing_within _ writes
-ready_beyond (GivesUp count) found writes = writes_wider _ (λ place unowned. unowned.begins) writes
-ready_beyond Settles found writes = nothing_within _ writes
-ready_beyond Checks found writes = nothing_within _ writes
-ready_beyond Tells found writes = nothing_within _ writes
+ready_beyond deed found writes = writes_wider _ (λ place unowned. unowned.begins) (only_unowned deed found writes)
 
 first_beyond : (held : ℕ) (found after : Found) (command : Command) (result : Result Answer StoreFault) {old new : History} → IsArrangedFirst held found after command old new result → WritesOnly (λ place. 64 ≤ place) old new
 first_beyond held found after command result is = made_both (writes_wider _ (λ place spared. spared.beside.begins) is.first) (ready_beyond (deed_of is.arranged command) is.arranged is.second)

@@ -5,7 +5,7 @@ use Rattle.bd_session.specs.Turns.{Goes}
 use Rattle.bd_session.proofs.Honestly.{meets_honestly}
 use Rattle.bd_session.proofs.Handing.{hands_answers}
 use Rattle.bd_session.proofs.Kept.{by_commands, clocks_rise, keeps_others, met_by, strays_only}
-use Rattle.bd_session.proofs.Stopping.{versions_stay}
+use Rattle.bd_session.proofs.Stopping.{catalogues_stay}
 use Rattle.bd_session.proofs.Turning.{IsOpen, by_count, bytes_stay, keeps_store}
 
 pub meets_session : {disk files sink : Type 0} {c : Course} {before now : Around} → IsOpen disk before → Goes disk files sink c before now → MeetsSession disk files sink c before now
@@ -20,6 +20,6 @@ meets_session opened goes = record {
   strays = strays_only goes;
   writes = by_commands goes;
   goes = goes;
-  versions = λ told sure. versions_stay told goes opened sure;
+  catalogues = λ told sure. catalogues_stay told goes opened sure;
   honestly = meets_honestly opened goes;
 }

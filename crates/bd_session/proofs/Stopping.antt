@@ -1,13 +1,12 @@
 -- What images open with behind the answers of a list, whatever images they were before.
-use Rattle.std.proofs.Common.{◌⊎◌, ℕ, List, inl, inr, refl, sym, subst, ⊎_elim}
+use Rattle.std.proofs.Common.{◌⊎◌, ℕ, List, inl, inr, refl, sym, subst}
 use Rattle.bd_disk.specs.Made.{LeavesSince}
 use Rattle.bd_disk.proofs.Frames.{leaves_now, leaves_same, leaves_wider}
 use Rattle.bd_model.specs.declared.answer.Answer.{Answer}
 use Rattle.bd_model.specs.declared.command.Command.{Command}
-use Rattle.bd_store.specs.Opens.{OpensNext}
 use Rattle.bd_store.proofs.Opens.{opens_on}
 use Rattle.bd_session.specs.Course.{Around, Course}
-use Rattle.bd_session.specs.Stops.{OpensAsStore, OpensBehind, VersionsStay}
+use Rattle.bd_session.specs.Stops.{OpensAsStore, OpensBehind, CataloguesStay}
 use Rattle.bd_session.specs.Turns.{AllAnswered, Goes, LastTurn, NoneBegun, NotBegun, Turn, Turns, no_turn, next_turn}
 use Rattle.bd_session.proofs.Turning.{IsOpen, open_after, still_open}
 
@@ -21,8 +20,8 @@ module _ {disk files sink : Type 0} (told : disk) where
   still_opens no_turn opened sure = sure
   still_opens (next_turn command answer moment turns there turn) opened sure = opens_after turn (still_open turns opened) (still_opens turns opened sure)
 
-  pub versions_stay : {c : Course} {first now : Around} (goes : Goes disk files sink c first now) → IsOpen disk first → OpensAsStore first → VersionsStay goes
-  versions_stay {c} {first} {now} goes opened sure = record {
+  pub catalogues_stay : {c : Course} {first now : Around} (goes : Goes disk files sink c first now) → IsOpen disk first → OpensAsStore first → CataloguesStay goes
+  catalogues_stay {c} {first} {now} goes opened sure = record {
     answered = λ turns. still_opens turns opened sure;
     ended = by goes.ends;
   } where
@@ -40,5 +39,5 @@ module _ {disk files sink : Type 0} (told : disk) where
     by (inr (inl none)) = subst Ended (sym none.same) rests
     by (inr (inr (inl not_begun))) = subst Ended (sym not_begun.same) rests
     by (inr (inr (inr turn))) = leaves_wider (OpensBehind c goes.last now)
-        (λ image is. ⊎_elim (λ same. inl same) (λ (next : OpensNext goes.last.scene.store.found turn.command now.scene.store image). inr (turn.command, turn.next, next)) is)
+        (λ image is. inr (turn.command, turn.next, is))
         ((turn.meets.on_disk told).opens last_sure)

@@ -9,7 +9,7 @@ use Rattle.bd_session.specs.Ends.{EndsOnlyByCount, IsMetBy}
 use Rattle.bd_session.specs.Headline.{EndsWell, MeetsTheHeadline}
 use Rattle.bd_session.specs.Keeping.{ClocksRise, KeepsOthers, KeepsStore, StraysOnlyFor, WritesByCommands}
 use Rattle.bd_session.specs.Promised.{IsPromised, start}
-use Rattle.bd_session.specs.Stops.{OpensAsStore, VersionsStay}
+use Rattle.bd_session.specs.Stops.{OpensAsStore, CataloguesStay}
 use Rattle.bd_session.specs.Telling.{HandsAnswers}
 use Rattle.bd_session.specs.Turns.{Goes}
 
@@ -36,7 +36,8 @@ pub record MeetsSession (disk files sink : Type 0) (c : Course) (before now : Ar
   pub writes : disk → WritesByCommands c before.scene.disk now.scene.disk
   -- over whatever image: each command, from where the one before it left, is all that a command on a store is promised to be
   pub goes : Goes disk files sink c before now
-  -- and where each image opened with the store's versions, a stop leaves those behind the last answer
-  pub versions : disk → OpensAsStore before → VersionsStay goes
+  -- and where each image opened with the store's catalogue, a stop leaves that behind the last answer, or what the next command may
+  -- leave
+  pub catalogues : disk → OpensAsStore before → CataloguesStay goes
   -- no extent is held for readers, and disk and files tell
   pub honestly : disk → files → before.scene.store.held ≡ 0 → MeetsHonestly c before now

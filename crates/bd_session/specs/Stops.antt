@@ -1,22 +1,25 @@
--- What the images that a stop may leave open with, whatever images they were before.
+-- What the images that a stop may leave open with, whatever images they were before: whole catalogues.
 use Rattle.std.specs.Prelude.{◌≡◌, ◌⊎◌, ℕ, List, Some}
+use Rattle.bd_disk.specs.History.{contents}
 use Rattle.bd_disk.specs.Made.{LeavesNow, LeavesSince}
 use Rattle.bd_model.specs.declared.answer.Answer.{Answer}
 use Rattle.bd_model.specs.declared.command.Command.{Command}
-use Rattle.bd_store.specs.Opens.{OpensAlike, OpensNext}
+use Rattle.bd_store.specs.Opens.{OpensOnEitherSide, OpensWith}
 use Rattle.bd_session.specs.Course.{Around, Course, next_command}
 use Rattle.bd_session.specs.Turns.{Goes, Turns}
 
--- each image that a stop now may leave opens with the versions that the store in memory has
+-- each image that a stop now may leave opens with the catalogue that the store in memory has
 abbrev pub OpensAsStore : Around → Type 0
-OpensAsStore a = LeavesNow (OpensAlike a.scene.store.found) a.scene.disk
+OpensAsStore a = LeavesNow (OpensWith a.scene.store.found) a.scene.disk
 
--- the image opens with the versions behind the last answer, or with what the command behind it made of them
+-- the image opens with the catalogue behind the last answer, or with what the command behind it may leave
 abbrev pub OpensBehind : Course → Around → Around → List ℕ → Type 0
-OpensBehind c last now image = OpensAlike last.scene.store.found image ⊎ ((command : Command) × (next_command c ≡ Some command) × OpensNext last.scene.store.found command now.scene.store image)
+OpensBehind c last now image =
+    OpensWith last.scene.store.found image
+    ⊎ ((command : Command) × (next_command c ≡ Some command) × OpensOnEitherSide last.scene.store.held last.scene.store.found command now.scene.store (contents last.scene.disk) (contents now.scene.disk) image)
 
--- Behind each answer every image opens with the versions that the store then has; and so it does at any moment after the last
--- one, or with what the command made that brought the end.
-pub record VersionsStay {disk files sink : Type 0} {c : Course} {first now : Around} (goes : Goes disk files sink c first now) : Type 0 where
+-- Behind each answer every image opens with the catalogue that the store then has; and so it does at any moment after the last
+-- one, or with what the command may leave that brought the end. The contents are one of these images.
+pub record CataloguesStay {disk files sink : Type 0} {c : Course} {first now : Around} (goes : Goes disk files sink c first now) : Type 0 where
   pub answered : {answers : List Answer} {clocks : List ℕ} {at : Around} → Turns disk files sink c.commands first answers clocks at → OpensAsStore at
   pub ended : LeavesSince (OpensBehind c goes.last now) goes.last.scene.disk now.scene.disk

@@ -15,7 +15,9 @@ use Rattle.bd_model.specs.declared.command.Command.{Command}
 use Rattle.bd_model.specs.declared.layout.RecipeEntry.{RecipeEntry}
 use Rattle.bd_catalog.specs.Agreement.{Agrees}
 use Rattle.bd_catalog.specs.Opening.{Found}
+use Rattle.bd_model.specs.declared.layout.Phase.TheVariants.{Settled}
 use Rattle.bd_recipe.specs.Marked.{Marked}
+use Rattle.bd_store.specs.Writes.{arranges}
 use Rattle.bd_arrange.specs.Arranged.{IsSpared}
 use Rattle.bd_store.specs.Attempts.{Beside, scene_beside, Attempt, Meets, Scene, attempt, EndsFor, MayLook, NamesFor, TransfersByCommand, NewestEnds, ReadsByCommand}
 use Rattle.bd_store.specs.Deeds.{Deed, TakesIn, GivesBack, GivesUp, Settles, Checks, Tells, deed_of}
@@ -28,7 +30,7 @@ use Rattle.bd_store.specs.Steps.{KeepsFiles}
 use Rattle.bd_store.specs.Taken.{Source, TakesStream}
 use Rattle.bd_store.specs.Touches.{InArranging, ExpiryReads, IsByNumbers}
 use Rattle.bd_store.specs.declared.fault.StoreFault.{StoreFault}
-use Rattle.bd_store.proofs.Behind.{answers_before, backup_reads, step_before, stops_before, then_no_looks, then_none, versions_before, writes_before}
+use Rattle.bd_store.proofs.Behind.{answers_before, backup_reads, ready_settled, step_before, stops_before, then_no_looks, then_none, versions_before, writes_before}
 use Rattle.bd_store.proofs.Ending.{gone_on, went_on, rests_not, by_end, by_ready, not_both}
 use Rattle.bd_store.proofs.Opens.{opens_behind}
 use Rattle.bd_store.proofs.Taken.{counted_before, newest_same, taken_before}
@@ -144,6 +146,9 @@ module _ (disk files : Type 0) (command : Command) (before : Scene) (mid : Found
       arranging = λ waiting keeps. keeps;
     }) command makes
 
+    rested : arranges before.store.found command ≡ false → before.store.found.catalogue.phase ≡ Settled
+    rested = ready_settled before.store.found (deed_of before.store.found command) makes
+
     ready_meets : Meets disk files whole
     ready_meets = record {
       bytes = follows.bytes;
@@ -160,8 +165,7 @@ module _ (disk files : Type 0) (command : Command) (before : Scene) (mid : Found
       untouched = λ refused. absurd (refuses_not refused);
       on_disk = λ told. record {
         agrees = (follows.on_disk told).agrees;
-        opens = opens_behind (record { sizes = ready.settled.sizes; base = ready.settled.base; newest = ready.settled.newest; versions = ready.settled.versions })
-            ((readied told).readies.states.opens.each before.store.found) (follows.on_disk told).opens;
+        opens = opens_behind ready.settled.sizes (λ no. ready.same (rested no)) (λ no. (readied told).readies.quiet (rested no)) (readied told).readies.agrees (readied told).readies.opens (follows.on_disk told).writes (follows.on_disk told).opens;
         writes = writes_before before.store.held before.store.found mid after.store.found before.disk h1 after.disk command makes (follows.on_disk told).writes result follows.ends (follows.on_disk told).step ready.same (readied told).readies.quiet
             (readied told).readies.answer.arranged (readied told).readies.agrees (readied told).writes;
         reads = reads told;

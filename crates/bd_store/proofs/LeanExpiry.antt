@@ -5,12 +5,13 @@ use Rattle.std.specs.Prelude.{◌==◌, IsTrue, OnOk}
 use Rattle.std.specs.Result.{is_err}
 use Rattle.bd_disk.specs.Calls.{HasCause, Rose}
 use Rattle.bd_disk.specs.History.{History, contents}
+use Rattle.bd_disk.specs.Images.{AgreeBut}
 use Rattle.bd_disk.specs.Made.{LeavesNow, LeavesSince}
 use Rattle.bd_disk.specs.Runs.{Writes}
 use Rattle.bd_disk.specs.Trace.{ReadsOnly}
 use Rattle.bd_disk.specs.declared.disk.Disk.{Ghosts as DiskGhosts}
 use Rattle.bd_disk.specs.declared.disk.Failed.{Failed}
-use Rattle.bd_disk.proofs.Frames.{contents_now, leaves_same, made_none, writes_wider}
+use Rattle.bd_disk.proofs.Frames.{contents_now, leaves_same, leaves_wider, made_none, writes_wider}
 use Rattle.bd_disk.proofs.Looking.{looks_from}
 use Rattle.bd_disk.proofs.RunLemmas.{nothing_read, written}
 use Rattle.bd_model.specs.FileMap.{FileMap}
@@ -24,13 +25,14 @@ use Rattle.bd_model.specs.History.{History as Versions, oldest, retained}
 use Rattle.bd_model.specs.Sizes.{Sizes}
 use Rattle.bd_model.specs.State.{VersionState, history}
 use Rattle.bd_model.specs.Step.{Outcome, drop_oldest, expired_extents, phase_after, unchanged}
+use Rattle.bd_gate.specs.Halves.{BeforeExtents}
 use Rattle.bd_space.specs.Allotment.{Allotment, extent_count, TakenExactly}
 use Rattle.bd_roll.specs.declared.step.Step.TheVariants.{Expire as Dropping}
 use Rattle.bd_catalog.specs.Agreement.{Agrees}
 use Rattle.bd_roll.specs.Catalogue.{Catalogue, all_extents, oldest_in, retained_in}
 use Rattle.bd_catalog.specs.Opening.{Found}
 use Rattle.bd_roll.specs.Rules.{obeys}
-use Rattle.bd_roll.specs.Splitting.{FitsExpire, expired}
+use Rattle.bd_roll.specs.Splitting.{FitsExpire, after_expire, expired}
 use Rattle.bd_catalog.specs.Standing.{Stands, StandsFor}
 use Rattle.bd_catalog.specs.Steps.{after_step, HasCommitted, InOtherHalf, IsMade, IsOldOrCommitted, LeavesEither}
 use Rattle.bd_catalog.proofs.Committing.{number-small}
@@ -39,6 +41,7 @@ use Rattle.bd_catalog.proofs.Standing.{stands-shows}
 use Rattle.bd_catalog.proofs.StandingAnswers.{IsAnswered}
 use Rattle.bd_catalog.proofs.StandingExpired.{dropped-count, expired_answered}
 use Rattle.bd_roll.proofs.Obeying.{settled_with_few}
+use Rattle.bd_arrange.proofs.Opens.{same_both}
 use Rattle.bd_store.specs.Attempts.{Beside, Meets, Scene, attempt, scene_beside}
 use Rattle.bd_store.specs.Causes.{counts}
 use Rattle.bd_store.specs.Following.{EndsReady, Follows}
@@ -52,9 +55,9 @@ use Rattle.bd_store.specs.declared.fault.StoreFault.TheVariants.{Damaged, DiskFa
 use Rattle.bd_store.proofs.Ending.{by_end, not_both}
 use Rattle.bd_store.proofs.Refusing.{Refuses}
 use Rattle.bd_store.proofs.Unowned.{half_unowned}
-use Rattle.bd_store.specs.Opens.{KeepsOpening}
+use Rattle.bd_store.specs.Opens.{KeepsOpening, KeepsReady, OpensNext, OpensReady, OpensWith}
 use Rattle.bd_store.specs.Shown.{Shown}
-use Rattle.bd_store.proofs.Opens.{opens_named}
+use Rattle.bd_store.proofs.Opens.{opens_named, opens_unarranged}
 
 -- an expiry that fits doesn't arrange first
 pub lean : (found : Found) → FitsExpire found.catalogue → arranges_first found ≡ false
@@ -181,8 +184,8 @@ module _ {D : Type 0} (d : DiskGhosts D) (beside : Beside) (found : Found) (held
   }
 
   -- at any stop the oldest version is there, or gone
-  dropped : (end : Shown) → (end.worn ≡ false → after_step found Dropping ≡ end.found) → LeavesEither found (after_step found Dropping) h0 h1 → KeepsOpening found Expire end h0 h1
-  dropped end same either = opens_named found Expire end (after_step found Dropping) refl refl same (λ sure. leaves_same refl sure) either.stops
+  dropped : (end : Shown) → (end.worn ≡ false → after_step found Dropping ≡ end.found) → LeavesEither found (after_step found Dropping) h0 h1 → KeepsReady found Expire end h0 h1
+  dropped end same either = opens_named found Expire end (after_step found Dropping) refl refl same (λ sure. leaves_same refl sure) either
 
   pub expired_meets : (version extents : ℕ) → version ≡ oldest_in found.catalogue → extents ≡ length (expired found.catalogue) → d.faults disk1 ≡ d.faults disk0 → (d.tells → IsMade found (after_step found Dropping) h0 h1) →
       (d.tells → LeavesEither found (after_step found Dropping) h0 h1) → Meets d.tells files (attempt Expire (Ok (Expired version extents)) before (after_it (after_step found Dropping) false))
@@ -201,7 +204,7 @@ module _ {D : Type 0} (d : DiskGhosts D) (beside : Beside) (found : Found) (held
     untouched = λ no. absurd no;
     on_disk = λ told. record {
       agrees = λ _. (made told).agrees;
-      opens = dropped _ (λ _. refl) (either told);
+      opens = opens_unarranged (dropped _ (λ _. refl) (either told));
       writes = writes_half told (after_step found Dropping) (Ok (Expired version extents)) (refl, is_extents);
       reads = λ _. (record { catalogue = refl; made = made told }, nothing_read writes told);
       looks = looks_from _ {places = []} tt (nothing_read writes told);
@@ -232,7 +235,7 @@ module _ {D : Type 0} (d : DiskGhosts D) (beside : Beside) (found : Found) (held
     untouched = λ no. absurd no;
     on_disk = λ told. record {
       agrees = λ no. absurd (cc no);
-      opens = dropped _ (λ no. absurd (cc no)) (either told);
+      opens = opens_unarranged (dropped _ (λ no. absurd (cc no)) (either told));
       writes = writes_half told now (Err DiskFault) tt;
       reads = λ _. nothing_read writes told;
       looks = looks_from _ {places = []} tt (nothing_read writes told);
@@ -281,6 +284,22 @@ ends_lean found (Err DiskFault) rests some is = tt
 ends_lean found (Err OutOfMemory) rests some is = tt
 ends_lean found (Err (Damaged damage)) rests some is = not_both is rests
 
+-- it leaves no arranged catalogue
+lean_opens : {held : ℕ} {found : Found} {end : Shown} {old new : History} → arranges_first found ≡ false → KeepsOpening held found Expire end old new → KeepsReady found Expire end old new
+lean_opens {found = found} {end = end} {new = new} settled keeps sure = leaves_wider (OpensReady found Expire end (contents new)) (λ image is.
+    let same = is.rests settled in
+    ⊎_elim
+    (λ (kept : OpensWith is.ready image). inl (record { again = kept.again; opens = kept.opens; same = same_both same kept.same }))
+    (λ (gone : OpensNext is.ready Expire end (contents new) image). inr (record {
+      next = gone.next;
+      opens = gone.opens;
+      sizes = gone.sizes ∙ same.sizes;
+      made = gone.made ∙ ap after_expire same.catalogue;
+      extents = subst (λ s. AgreeBut (BeforeExtents s) (contents new) image) same.sizes gone.extents;
+      same = gone.same;
+    })) is.opens)
+    (keeps sure)
+
 -- what it promises of a settled store is what it does then
 pub lean_follows : {disk files : Type 0} {result : Result Answer StoreFault} {before after : Scene} → before.store.found.catalogue.phase ≡ Settled → 1 ≤ retained_in before.store.found.catalogue →
     Meets disk files (attempt Expire result before after) → Follows disk files (attempt Expire result before after)
@@ -298,7 +317,7 @@ lean_follows {disk} {files} {result} {before} {after} settled some meets =
           let is = meets.on_disk told in
           record {
             agrees = is.agrees;
-            opens = is.opens;
+            opens = lean_opens no is.opens;
             writes = is.writes.ready no;
             step = is.writes.step no;
             reads = by_end (λ e. ExpiryReads found after.store.found before.disk after.disk e → ReadsOnly [] before.disk after.disk) (record {

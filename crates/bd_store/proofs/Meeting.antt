@@ -17,7 +17,7 @@ use Rattle.bd_store.specs.Writes.{StepsTo, WritesArranging, arranges}
 use Rattle.bd_store.specs.declared.fault.StoreFault.{StoreFault}
 use Rattle.bd_store.specs.declared.fault.StoreFault.TheVariants.{Damaged, DiskFault, OutOfMemory, SourceFault, TargetFault}
 use Rattle.bd_store.proofs.Behind.{quiet_writing}
-use Rattle.bd_store.proofs.Opens.{opens_quiet}
+use Rattle.bd_store.proofs.Opens.{opens_quiet, opens_unarranged}
 
 -- the same store has the same versions
 pub same_versions : (s : Shown) → SameVersions s s
@@ -87,7 +87,7 @@ module _ (command : Command) (result : Result Answer StoreFault) (s : Scene) whe
     untouched = λ _. refl;
     on_disk = λ told. record {
       agrees = λ _. agrees told;
-      opens = opens_quiet (made_none _ s.disk);
+      opens = opens_unarranged (opens_quiet (made_none _ s.disk));
       writes = record { ready = λ _. quiet_writing (deed_of s.store.found command) s.store.found (made_none _ s.disk); step = λ _. is.step; arranging = is.arranging };
       reads = is.reads;
       looks = made_none _ s.disk;

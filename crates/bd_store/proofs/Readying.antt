@@ -3,11 +3,11 @@ use Rattle.std.proofs.Common.{◌≡◌, ◌↔◌, ◌∙◌, ◌≤◌, ℕ, �
 use Rattle.std.proofs.lemmas.Bool.{and_parts, leb-true}
 use Rattle.std.specs.Prelude.{map, All, IsTrue}
 use Rattle.bd_disk.specs.History.{History, contents}
-use Rattle.bd_disk.specs.Made.{WritesNothing}
+use Rattle.bd_disk.specs.Made.{LeavesSince, WritesNothing}
 use Rattle.bd_disk.specs.Runs.{Reads, Works}
 use Rattle.bd_disk.specs.Trace.{ReadsOnly}
 use Rattle.bd_disk.specs.declared.disk.Disk.{Ghosts as DiskGhosts}
-use Rattle.bd_disk.proofs.Frames.{leaves_both, leaves_now, leaves_quiet, unchanged}
+use Rattle.bd_disk.proofs.Frames.{leaves_both, leaves_now, leaves_quiet, leaves_wider, unchanged}
 use Rattle.bd_disk.proofs.RunLemmas.{nothing_written, reads_work, wider_reads, work_written}
 use Rattle.bd_disk.proofs.Traces.{has_read_later}
 use Rattle.bd_model.specs.Marks.{Near}
@@ -37,7 +37,9 @@ use Rattle.bd_recipe.specs.declared.fault.ReadFault.TheVariants.{DiskFault, Dama
 use Rattle.bd_restore.proofs.Standing.{recipe_stands}
 use Rattle.bd_volume.proofs.Copying.{wider_work}
 use Rattle.bd_arrange.specs.Arranged.{AnswersDue, Arranges, ButDiskFault, InDue, IsAllotted, IsArrangedFrom, IsDamageOfDue, IsSettledFrom, IsSpared, KeepsStates}
+use Rattle.bd_arrange.specs.Opens.{IsSafeOpening, OpensSoFar, OpensWith}
 use Rattle.bd_arrange.specs.Turns.{due}
+use Rattle.bd_arrange.proofs.Opens.{not_yet}
 use Rattle.bd_space.specs.Allotment.{Allotment}
 use Rattle.bd_store.specs.Kept.{IsKept}
 use Rattle.bd_store.specs.Newest.{newest_places, AnswersNewest, IsNewestRecipe}
@@ -117,8 +119,8 @@ module _ {D : Type 0} (d : DiskGhosts D) (found : Found) (held : ℕ) (disk0 dis
     states = record {
       contents = record { each = λ shape st phase near stands. unread_arranges told fault (answers told) shape st phase near stands };
       stops = record { each = λ shape st near sure. leaves_quiet (quiet told) sure };
-      opens = record { each = λ f sure. leaves_quiet (quiet told) sure };
     };
+    opens = λ sure. leaves_wider (OpensSoFar held found (contents h0)) not_yet (leaves_quiet (quiet told) sure);
   }
 
   -- ---- it was read
@@ -130,11 +132,16 @@ module _ {D : Type 0} (d : DiskGhosts D) (found : Found) (held : ℕ) (disk0 dis
     was_good : d.tells → {P : Type 0} (damage : Damage) → 1 ≤ retained_in found.catalogue → newest_found ≡ Err damage → P
     was_good told damage some broken = let no : Err damage ≡ Ok neighbour.entries = sym broken ∙ (is told).some some in absurd (cc)
 
+    opens_behind_read : d.tells → IsSafeOpening held found h1 h2 → IsSafeOpening held found h0 h2
+    opens_behind_read told opens sure =
+        let first : LeavesSince (OpensWith found) h0 h1 = leaves_quiet (quiet told) sure in
+        leaves_both (leaves_wider (OpensSoFar held found (contents h0)) not_yet first) (subst (λ image. LeavesSince (OpensSoFar held found image) h1 h2) (unchanged (quiet told)) (opens (leaves_now first)))
+
     -- the store was arranged
     module _ (works : Works d (InDue found) (IsSpared found) disk1 disk2) where
       pub arranged_told : 1 ≤ found.sizes.extent → (d.tells → ReadsOnly (newest_places found) h0 h1) → (found.catalogue.phase ≡ Settled → disk2 ≡ disk1) → IsSettledFrom found mid → (d.tells → Agrees mid h2) →
-          (d.tells → AnswersDue held found mid h1 h2 (Ok tt)) → (d.tells → KeepsStates {T = Unit {0}} held h1 h2 (Ok tt)) → d.tells → ReadiesOn held found mid h0 h2 (Ok neighbour)
-      arranged_told some places still same agree answers states told = record {
+          (d.tells → AnswersDue held found mid h1 h2 (Ok tt)) → (d.tells → KeepsStates {T = Unit {0}} held h1 h2 (Ok tt)) → (d.tells → IsSafeOpening held found h1 h2) → d.tells → ReadiesOn held found mid h0 h2 (Ok neighbour)
+      arranged_told some places still same agree answers states opens told = record {
         answer = record {
           recipe = newest_stays found mid neighbour.entries some (agrees_behind told) (work_written works told) same (recipe_behind told (is told));
           found_before = is told;
@@ -147,8 +154,8 @@ module _ {D : Type 0} (d : DiskGhosts D) (found : Found) (held : ℕ) (disk0 dis
         states = record {
           contents = record { each = λ shape st phase near stands. (states told).contents.each shape st phase near (stands_behind told stands) };
           stops = record { each = λ shape st near sure. let first = leaves_quiet (quiet told) sure in leaves_both first ((states told).stops.each shape st near (leaves_now first)) };
-          opens = record { each = λ f sure. let first = leaves_quiet (quiet told) sure in leaves_both first ((states told).opens.each f (leaves_now first)) };
         };
+        opens = opens_behind_read told (opens told);
       }
 
     -- it wasn't
@@ -180,8 +187,8 @@ module _ {D : Type 0} (d : DiskGhosts D) (found : Found) (held : ℕ) (disk0 dis
     due_arranges OutOfMemory shape st phase so = so
 
     pub unarranged_told : (fault : ReadFault) → (found.catalogue.phase ≡ Settled → disk2 ≡ disk1) → (d.tells → ButDiskFault {T = Unit {0}} (Err fault) (Agrees mid h2)) → (d.tells → AnswersDue held found mid h1 h2 (Err fault)) →
-        (d.tells → KeepsStates {T = Unit {0}} held h1 h2 (Err fault)) → d.tells → ReadiesOn held found mid h0 h2 (Err fault)
-    unarranged_told fault still agree answers states told = record {
+        (d.tells → KeepsStates {T = Unit {0}} held h1 h2 (Err fault)) → (d.tells → IsSafeOpening held found h1 h2) → d.tells → ReadiesOn held found mid h0 h2 (Err fault)
+    unarranged_told fault still agree answers states opens told = record {
       answer = due_answers told fault (answers told);
       quiet = λ settled. subst (λ disk. WritesNothing h0 (d.history disk)) (sym (still settled)) (quiet told);
       agrees = agrees_due fault (Agrees mid h2) (agree told);
@@ -189,8 +196,8 @@ module _ {D : Type 0} (d : DiskGhosts D) (found : Found) (held : ℕ) (disk0 dis
       states = record {
         contents = record { each = λ shape st phase near stands. due_arranges fault shape st phase ((states told).contents.each shape st phase near (stands_behind told stands)) };
         stops = record { each = λ shape st near sure. let first = leaves_quiet (quiet told) sure in leaves_both first ((states told).stops.each shape st near (leaves_now first)) };
-        opens = record { each = λ f sure. let first = leaves_quiet (quiet told) sure in leaves_both first ((states told).opens.each f (leaves_now first)) };
       };
+      opens = opens_behind_read told (opens told);
     }
 
 -- ---- what the store in memory keeps

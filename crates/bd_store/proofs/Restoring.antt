@@ -44,7 +44,7 @@ use Rattle.bd_store.proofs.Asking.{retained_is}
 use Rattle.bd_store.proofs.Meeting.{given_nothing}
 use Rattle.bd_store.proofs.Giving.{agrees_quiet, reading_names, reading_one_step, restored_content, restored_one_step, restored_safe, restored_once, restored_walks, walk_names, walk_one_step}
 use Rattle.bd_store.proofs.Quiet.{safe_quiet}
-use Rattle.bd_store.proofs.Opens.{opens_quiet}
+use Rattle.bd_store.proofs.Opens.{opens_quiet, opens_unarranged}
 
 -- what is told of the files whose target was changed
 changed_target : {F : Type 0} {f : FilesGhosts F} {name : List ℕ} {a b : F} → ChangesTarget f name a b → f.tells → (f.strays b ≡ f.strays a) × ChangesOnly name (f.files a) (f.files b)
@@ -143,7 +143,7 @@ module _ {D F : Type 0} (d : DiskGhosts D) (f : FilesGhosts F) (found : Found) (
       untouched = λ refused. absurd refused;
       on_disk = λ told. record {
         agrees = λ _. agrees_quiet found (nothing_written is.disk told) (agrees told);
-        opens = opens_quiet (nothing_written is.disk told);
+        opens = opens_unarranged (opens_quiet (nothing_written is.disk told));
         writes = only_read (Err (fault_of_reading fault)) (nothing_written is.disk told) (beside_unread fault worn disk1 files0).step;
         reads = unread_reads fault (ended (Err (fault_of_reading fault)) worn disk1 files0);
         looks = looked (wider_reads (InRestore found v) in_recipe is.disk) told;
@@ -204,7 +204,7 @@ module _ {D F : Type 0} (d : DiskGhosts D) (f : FilesGhosts F) (found : Found) (
       untouched = λ refused. absurd refused;
       on_disk = λ told. record {
         agrees = λ _. agrees_quiet found (nothing_written (reads (Ok given) ran) told) (agrees told);
-        opens = opens_quiet (nothing_written (reads (Ok given) ran) told);
+        opens = opens_unarranged (opens_quiet (nothing_written (reads (Ok given) ran) told));
         writes = only_read (Ok (Restored v given)) (nothing_written (reads (Ok given) ran) told) refl;
         reads = record {
           once = restored_once found v (d.history disk0) (agrees told) from to plan (read.entries told) read.made.version (d.history disk1) (nothing_written read.disk told) (d.history disk2) (nothing_written ran.disk told) (read.places told) (gave.walked told).places;
@@ -269,7 +269,7 @@ module _ {D F : Type 0} (d : DiskGhosts D) (f : FilesGhosts F) (found : Found) (
       untouched = λ refused. absurd refused;
       on_disk = λ told. record {
         agrees = λ _. agrees_quiet found (nothing_written (reads (Err fault) ran) told) (agrees told);
-        opens = opens_quiet (nothing_written (reads (Err fault) ran) told);
+        opens = opens_unarranged (opens_quiet (nothing_written (reads (Err fault) ran) told));
         writes = only_read (Err (fault_of_restore fault)) (nothing_written (reads (Err fault) ran) told) (beside_stopped fault worn disk2 files2).step;
         reads = stopped_reads fault (ended (Err (fault_of_restore fault)) worn disk2 files2);
         looks = looked (reads (Err fault) ran) told;

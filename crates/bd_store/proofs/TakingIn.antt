@@ -51,7 +51,7 @@ use Rattle.bd_store.specs.Following.{EndsReady, Follows}
 use Rattle.bd_store.specs.Kept.{IsKept}
 use Rattle.bd_store.specs.Naming.{refusal_of, with_room, AnswersNaming}
 use Rattle.bd_store.specs.Newest.{IsNewestRecipe}
-use Rattle.bd_store.specs.Opens.{KeepsOpening}
+use Rattle.bd_store.specs.Opens.{KeepsReady}
 use Rattle.bd_store.specs.Shown.{HasFree, SameVersions, Shown}
 use Rattle.bd_store.specs.Touches.{is_full, AnswersByNumbers}
 use Rattle.bd_store.specs.Writes.{IsUnowned, StepsTo}
@@ -293,9 +293,9 @@ module _ {D F : Type 0} (d : DiskGhosts D) (f : FilesGhosts F) (found : Found) (
       within : d.tells → Named → WritesOnly (IsUnowned found) h1 (d.history disk3)
       within told is = made_both (unowned told (Ok staged) took) (writes_wider (IsUnowned found) (half_unowned found (small told)) (written is.disk told))
 
-      at_stops : (end : Shown) → (end.worn ≡ false → after ≡ end.found) → d.tells → Named → KeepsOpening found (Backup name) end h1 (d.history disk3)
+      at_stops : (end : Shown) → (end.worn ≡ false → after ≡ end.found) → d.tells → Named → KeepsReady found (Backup name) end h1 (d.history disk3)
       at_stops end same told is = opens_named found (Backup name) end after refl (version_entry staged.version, fresh_entries staged.fresh, refl) same
-          (λ sure. opens_staged found sure (InFree found.sizes space) (λ place inside. omega (arith, inside.within.0)) (written took.disk told)) (is.either told).stops
+          (λ sure. opens_staged found sure (InFree found.sizes space) (λ place inside. omega (arith, inside.within.0)) (written took.disk told)) (is.either told)
 
       all_read : d.tells → Named → ReadsOnly [] h1 (d.history disk3)
       all_read told is = reads_both (nothing_read took.disk told) (nothing_read is.disk told)

@@ -36,7 +36,7 @@ use Rattle.bd_store.proofs.Behind.{quiet_writing, ready_settled}
 use Rattle.bd_store.proofs.Ending.{by_ready, gone_on, went_on, rests_not, first_two, not_both}
 use Rattle.bd_store.proofs.Meeting.{files_stay, given_nothing}
 use Rattle.bd_store.proofs.Nearing.{near_state}
-use Rattle.bd_store.proofs.Opens.{opens_kept}
+use Rattle.bd_store.proofs.Opens.{opens_before}
 use Rattle.bd_store.proofs.Taken.{takes_nothing}
 
 -- ---- over whatever disk
@@ -251,7 +251,7 @@ module _ (disk files : Type 0) (command : Command) (before : Scene) (mid : Found
       untouched = λ refused. absurd refused;
       on_disk = λ told. record {
         agrees = unready_agrees fault worn (Agrees mid h1) is.worn (is.told told).readies.agrees;
-        opens = λ sure. opens_kept ((is.told told).readies.states.opens.each before.store.found sure);
+        opens = opens_before (contents h1) (λ no. (is.told told).readies.quiet (ready_settled before.store.found (deed_of before.store.found command) makes no)) (is.told told).readies.opens;
         writes = unready_writes before.store.held command before.store failed.store before.disk h1 fault makes is.store (is.told told).readies.quiet (is.told told).writes;
         reads = refusal_reads;
         looks = refusal_looks told (deed_of before.store.found command) makes;

@@ -291,8 +291,8 @@ RecipeByCommand a command = EndsFor a (deed_of a.before.store.found command)
 -- over every image
 pub record MeetsOnDisk (a : Attempt) : Type 0 where
   pub agrees : a.after.store.worn ≡ false → Agrees a.after.store.found a.after.disk
-  -- a stop at any moment leaves the versions before it or those after
-  pub opens : KeepsOpening a.before.store.found a.command a.after.store a.before.disk a.after.disk
+  -- a stop at any moment leaves a whole catalogue: the one before, the arranged one, or the command's
+  pub opens : KeepsOpening a.before.store.held a.before.store.found a.command a.after.store a.before.disk a.after.disk
   pub writes : WritesByCommand a.before.store.held a.before.store.found a.after.store.found a.command a.before.disk a.after.disk a.result
   pub reads : ReadsByCommand a a.command
   pub looks : LooksByCommand a a.command

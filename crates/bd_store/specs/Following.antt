@@ -16,7 +16,7 @@ use Rattle.bd_arrange.specs.Arranged.{IsSpared}
 use Rattle.bd_store.specs.Attempts.{Attempt, IsAnswerOf, KeepsStore, MeetsOnFiles, Scene, TransfersByCommand}
 use Rattle.bd_store.specs.Causes.{FailsOnlyByCount}
 use Rattle.bd_store.specs.Deeds.{Deed, TakesIn, GivesBack, GivesUp, Settles, Checks, Tells, deed_of}
-use Rattle.bd_store.specs.Opens.{KeepsOpening}
+use Rattle.bd_store.specs.Opens.{KeepsReady}
 use Rattle.bd_store.specs.Readying.{Readies, ReadiesOn}
 use Rattle.bd_store.specs.Kinds.{Kind, Gained, Lost, Given, Figures, NoRoom, ByNumbers, Shows, Elsewhere, kind_of}
 use Rattle.bd_store.specs.Steps.{IsOneStep}
@@ -83,7 +83,7 @@ EndsReady (Err OutOfMemory) = Unit {0}
 
 pub record FollowsOnDisk (a : Attempt) : Type 0 where
   pub agrees : a.after.store.worn ≡ false → Agrees a.after.store.found a.after.disk
-  pub opens : KeepsOpening a.before.store.found a.command a.after.store a.before.disk a.after.disk
+  pub opens : KeepsReady a.before.store.found a.command a.after.store a.before.disk a.after.disk
   pub writes : WritesReady a.before.store.found a.command a.before.disk a.after.disk
   pub step : StepsTo a.before.store.found.catalogue a.after.store.found.catalogue a.result
   pub reads : ReadsOnly [] a.before.disk a.after.disk

@@ -14,6 +14,7 @@ use Rattle.bd_recipe.specs.declared.fault.ReadFault.{ReadFault}
 use Rattle.bd_recipe.specs.declared.fault.ReadFault.TheVariants.{DiskFault, Damaged, OutOfMemory}
 use Rattle.bd_intake.specs.Given.{IsRecipeOrNone}
 use Rattle.bd_arrange.specs.Arranged.{ButDiskFault, IsArrangedFrom, IsDamageOfDue, IsSettledFrom, KeepsStates}
+use Rattle.bd_arrange.specs.Opens.{IsSafeOpening}
 use Rattle.bd_store.specs.Naming.{IsDamageOfNewest}
 use Rattle.bd_store.specs.Newest.{IsNewestRecipe, newest_places}
 use Rattle.bd_store.specs.Shown.{Shown}
@@ -62,3 +63,4 @@ pub record ReadiesOn (held : ℕ) (old new : Found) (before now : History) (resu
   pub damage : (damage : Damage) → 1 ≤ retained_in old.catalogue → recipe_found old.sizes old.catalogue (contents before) old.catalogue.newest ≡ Err damage → IsThatDamage damage result
   -- each state stays, in the contents and at any stop
   pub states : KeepsStates held before now result
+  pub opens : IsSafeOpening held old before now

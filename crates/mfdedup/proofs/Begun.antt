@@ -8,7 +8,7 @@ use Rattle.bd_recover.specs.Opens.{Rests, is_disk_fault}
 use Rattle.bd_recover.specs.declared.fault.OpenFault.{OpenFault}
 use Rattle.bd_recover.specs.declared.fault.OpenFault.TheVariants.{NotAStore as OpenNotAStore, DiskFault as OpenDisk, OutOfMemory as OpenMemory}
 use Rattle.bd_store.specs.Openings.{AnswersOpening}
-use Rattle.bd_store.specs.Opens.{OpensAlike}
+use Rattle.bd_store.specs.Opens.{OpensWith}
 use Rattle.mfdedup.specs.Commands.{EndsUnopened, OpensNone, ReadsFront}
 use Rattle.mfdedup.specs.Counts.{EndsOnlyByCount}
 use Rattle.mfdedup.specs.Failing.{end_of_opening}
@@ -27,9 +27,9 @@ pub but_faults : (o : Outside) (bytes faults : ℕ) (disk : History) → bytes �
 but_faults o bytes faults disk e = λ i. at_disk o (e i) disk faults
 
 -- behind an opening each image opens as what was found
-pub opens_at_rest : {found : Found} {h : History} → Rests found h → LeavesNow (OpensAlike found) h
+pub opens_at_rest : {found : Found} {h : History} → Rests found h → LeavesNow (OpensWith found) h
 opens_at_rest {found} rests = record {
-  each = λ image now. record { again = found; opens = ap opened (rests.settled.each image now) ∙ rests.agrees.opens; alike = record { sizes = refl; base = refl; newest = refl; versions = refl } };
+  each = λ image now. record { again = found; opens = ap opened (rests.settled.each image now) ∙ rests.agrees.opens; same = record { sizes = refl; catalogue = refl } };
 }
 
 -- why no store was opened

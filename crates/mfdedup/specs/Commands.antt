@@ -11,7 +11,7 @@ use Rattle.bd_recover.specs.Opens.{Rests}
 use Rattle.bd_store.specs.Shown.{Shown}
 use Rattle.bd_session.specs.Course.{Course}
 use Rattle.bd_session.specs.Session.{MeetsSession}
-use Rattle.bd_session.specs.Stops.{VersionsStay}
+use Rattle.bd_session.specs.Stops.{CataloguesStay}
 use Rattle.bd_session.specs.declared.report.SessionEnd.{SessionEnd}
 use Rattle.mfdedup.specs.Counts.{EndsOnlyByCount}
 use Rattle.mfdedup.specs.Failing.{end_of_session}
@@ -68,8 +68,8 @@ pub record CarriesOut (disk files sink : Type 0) (commands : List Command) (p : 
   pub ending : SessionEnd
   pub ends : p.end ≡ end_of_session ending
   pub meets : MeetsSession disk files sink (course_of p ending) (with_store store opened) (with_store left now)
-  -- whatever else the store holds, a stop leaves its versions as they were behind the last answer, or with the next command's
-  pub versions : disk → VersionsStay meets.goes
+  -- whatever else the store holds, a stop leaves its catalogue as it was behind the last answer, or what the next command may leave
+  pub catalogues : disk → CataloguesStay meets.goes
 
 -- over whatever disk, files and sink
 abbrev pub RunsCommands : Type 0 → Type 0 → Type 0 → List Command → Progress → Outside → Outside → Type 0

@@ -16,8 +16,9 @@ use Rattle.bd_recipe.specs.declared.fault.ReadFault.{ReadFault}
 use Rattle.bd_recipe.specs.declared.fault.ReadFault.TheVariants.{OutOfMemory}
 use Rattle.bd_volume.proofs.Copying.{no_work, work_told}
 use Rattle.bd_arrange.specs.Arranged.{AnswersDue, InDue, IsAllotted, IsDamageOfDue, IsSpared, KeepsStates}
+use Rattle.bd_arrange.specs.Opens.{IsSafeOpening}
 use Rattle.bd_arrange.proofs.StandsArranged.{arranged_store_stands}
-use Rattle.bd_arrange.proofs.Committing.{agrees_now, answers_named, answers_refused, but_refused, fits_desk, half_spared, if_told, keeps_all, keeps_either, keeps_refused, keeps_settled, staged_spared}
+use Rattle.bd_arrange.proofs.Committing.{agrees_now, answers_named, answers_refused, but_refused, fits_desk, half_spared, if_told, keeps_all, keeps_either, keeps_refused, keeps_settled, opens_at_once, opens_named, opens_refused, staged_spared}
 use Rattle.bd_arrange.proofs.arranging.arrange.Goals as goal
 
 pub returns-in-Settled-clause-disk : goal.returns-in-Settled-clause-disk
@@ -29,6 +30,15 @@ returns-in-Settled-clause-answer g c = λ told waits. absurd (waits (sym c.phase
 pub returns-in-Settled-clause-states : goal.returns-in-Settled-clause-states
 returns-in-Settled-clause-states g c = λ told.
     keeps_settled (held_count c.args.space.now) c.args.catalog.now.found (g.D.Disk.history c.args.disk.now) (c.requires.agrees told) (sym c.phase.ensures ∙ c.in-Settled.is)
+
+pub returns-in-Settled-clause-opens : goal.returns-in-Settled-clause-opens
+returns-in-Settled-clause-opens g c = λ told. opens_at_once
+
+pub returns-in_err-reserve-clause-opens : goal.returns-in_err-reserve-clause-opens
+returns-in_err-reserve-clause-opens g c = λ told. opens_at_once
+
+pub returns-in_err-desk-clause-opens : goal.returns-in_err-desk-clause-opens
+returns-in_err-desk-clause-opens g c = λ told. opens_at_once
 
 pub returns-in_err-reserve-clause-disk : goal.returns-in_err-reserve-clause-disk
 returns-in_err-reserve-clause-disk g c = no_work
@@ -113,6 +123,23 @@ returns-in-Ok-clause-states g c = λ told.
     keeps_either found h0 (d.history c.arrange_all.new.disk) (agrees told) (work_written c.arrange_all.ensures.disk told) arranged_store_stands entries c.args.space.now c.arrange_all.new.desk u.splits waits newest allotted u.has u.may (u.told told)
     (d.history c.name_all.new.disk) d.tells told c.name_all.result c.name_all.ensures.named.fails c.name_all.ensures.named.done (c.name_all.ensures.named.either told)
 
+pub returns-in-Ok-clause-opens : goal.returns-in-Ok-clause-opens
+returns-in-Ok-clause-opens g c = λ told.
+    let d = g.D.Disk in
+    let found : Found = c.reserve.new.self.found in
+    let same : found ≡ c.args.catalog.now.found = c.reserve.ensures.found in
+    let agrees : d.tells → Agrees found (d.history c.args.disk.now) = λ told. subst (λ (f : Found). Agrees f (d.history c.args.disk.now)) (sym same) (c.requires.agrees told) in
+    let waits : found.catalogue.phase ≢ Settled = subst (λ (f : Found). f.catalogue.phase ≢ Settled) (sym same) (λ settled. c.in_default.not-Settled (c.phase.ensures ∙ settled)) in
+    let u = c.in-Ok.ensures.arranged in
+    let entries = c.args.neighbour.now.entries in
+    let h0 = d.history c.args.disk.now in
+    let newest : recipe_found found.sizes found.catalogue (contents h0) found.catalogue.newest ≡ Ok entries =
+    subst (λ (f : Found). recipe_found f.sizes f.catalogue (contents h0) f.catalogue.newest ≡ Ok entries) (sym same) (c.requires.newest told (λ settled. c.in_default.not-Settled (c.phase.ensures ∙ settled))) in
+    let allotted : IsAllotted found c.args.space.now = subst (λ (f : Found). IsAllotted f c.args.space.now) (sym same) c.requires.allotted in
+    subst (λ (f : Found). IsSafeOpening (held_count c.args.space.now) f h0 (d.history c.name_all.new.disk)) same
+    (opens_named found h0 (d.history c.arrange_all.new.disk) (agrees told) (work_written c.arrange_all.ensures.disk told) arranged_store_stands entries c.args.space.now c.arrange_all.new.desk u.splits waits newest allotted u.has u.may (u.told told)
+    (d.history c.name_all.new.disk) (c.name_all.ensures.named.either told))
+
 pub returns-in-Err-clause-disk : goal.returns-in-Err-clause-disk
 returns-in-Err-clause-disk g c =
     let d = g.D.Disk in
@@ -153,3 +180,13 @@ returns-in-Err-clause-states g c = λ told.
     let h1 = d.history c.arrange_all.new.disk in
     keeps_refused found h0 h1 (agrees told) (work_written c.arrange_all.ensures.disk told) (held_count c.args.space.now) c.in-Err.fault
     (if_told d.tells told (λ damage. IsDamageOfDue found damage h0 h1) c.in-Err.fault c.in-Err.ensures.damage)
+
+pub returns-in-Err-clause-opens : goal.returns-in-Err-clause-opens
+returns-in-Err-clause-opens g c = λ told.
+    let d = g.D.Disk in
+    let found : Found = c.reserve.new.self.found in
+    let same : found ≡ c.args.catalog.now.found = c.reserve.ensures.found in
+    let agrees : d.tells → Agrees found (d.history c.args.disk.now) = λ told. subst (λ (f : Found). Agrees f (d.history c.args.disk.now)) (sym same) (c.requires.agrees told) in
+    let h0 = d.history c.args.disk.now in
+    let h1 = d.history c.arrange_all.new.disk in
+    subst (λ (f : Found). IsSafeOpening (held_count c.args.space.now) f h0 h1) same (opens_refused found h0 h1 (agrees told) (work_written c.arrange_all.ensures.disk told) (held_count c.args.space.now))

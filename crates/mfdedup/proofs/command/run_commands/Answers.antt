@@ -22,7 +22,7 @@ returns-in-Ok g c = record {
     ending = c.session-report.result.end;
     ends = c.end_of_session.ensures;
     meets = c.session-report.ensures.meets;
-    versions = λ told. c.session-report.ensures.meets.versions told (opens_at_rest (c.in-Ok.ensures.rests told));
+    catalogues = λ told. c.session-report.ensures.meets.catalogues told (opens_at_rest (c.in-Ok.ensures.rests told));
   });
 }
 

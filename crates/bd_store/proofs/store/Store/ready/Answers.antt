@@ -57,7 +57,7 @@ returns-in-Ok-arrange-clause-told g c =
     (λ told. subst (λ (s : Shown). Agrees s.found (g.D.Disk.history c.args.disk.now)) (sym c.self.view_is) (c.requires.opened.agrees told)) c.newest_recipe.ensures.disk
     c.in-Ok.neighbour c.in-Ok.ensures.entries c.arrange.new.disk mid c.arrange.ensures.disk
     (omega (arith, c.self.inside.catalog.shaped.extent_low))
-    c.in-Ok.ensures.places (λ settled. (c.arrange.ensures.settled settled).1) c.in-Ok-arrange.ensures.found c.in-Ok-arrange.ensures.agrees c.in-Ok-arrange.ensures.answer c.in-Ok-arrange.ensures.states)
+    c.in-Ok.ensures.places (λ settled. (c.arrange.ensures.settled settled).1) c.in-Ok-arrange.ensures.found c.in-Ok-arrange.ensures.agrees c.in-Ok-arrange.ensures.answer c.in-Ok-arrange.ensures.states c.in-Ok-arrange.ensures.opens)
 
 pub returns-in-Err-arrange-clause-disk : goal.returns-in-Err-arrange-clause-disk
 returns-in-Err-arrange-clause-disk g c =
@@ -72,7 +72,7 @@ returns-in-Err-arrange-clause-told g c =
     (unarranged_told g.D.Disk found (held_count c.self.inside.space) c.args.disk.now c.newest_recipe.new.disk
     (λ told. subst (λ (s : Shown). Agrees s.found (g.D.Disk.history c.args.disk.now)) (sym c.self.view_is) (c.requires.opened.agrees told)) c.newest_recipe.ensures.disk
     c.in-Ok.neighbour c.in-Ok.ensures.entries c.arrange.new.disk mid
-    c.in-Err-arrange.fault (λ settled. (c.arrange.ensures.settled settled).1) c.in-Err-arrange.ensures.agrees c.in-Err-arrange.ensures.answer c.in-Err-arrange.ensures.states)
+    c.in-Err-arrange.fault (λ settled. (c.arrange.ensures.settled settled).1) c.in-Err-arrange.ensures.agrees c.in-Err-arrange.ensures.answer c.in-Err-arrange.ensures.states c.in-Err-arrange.ensures.opens)
 
 pub invariant_of-self-in-Err-arrange : goal.invariant_of-self-in-Err-arrange
 invariant_of-self-in-Err-arrange g c =
