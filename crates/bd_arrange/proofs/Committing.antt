@@ -33,6 +33,7 @@ use Rattle.bd_roll.proofs.Obeying.{IsBounded}
 use Rattle.bd_roll.proofs.OneArranging.{arrange_fits}
 use Rattle.bd_catalog.proofs.Staged.{AreUnnamed, agrees_staged, either_stands, staged_commit, staged_stands, staging}
 use Rattle.bd_catalog.proofs.Standing.{halves_agree}
+use Rattle.bd_catalog.proofs.StandingFound.{opened-found}
 use Rattle.bd_catalog.proofs.StandingNamed.{stands_settled}
 use Rattle.bd_recipe.specs.Reading.{IfDamaged, recipe_found}
 use Rattle.bd_recipe.specs.declared.fault.ReadFault.{ReadFault}
@@ -45,6 +46,7 @@ use Rattle.bd_arrange.specs.Desks.{OnDesk}
 use Rattle.bd_arrange.specs.Opens.{IsSafeOpening, OpensSoFar, OpensWith}
 use Rattle.bd_arrange.specs.Turns.{AreArranged, Ground, due, ground, grown_bytes}
 use Rattle.bd_arrange.specs.Underway.{HasSplits, HasTurned, IsStaged, arranged_at}
+use Rattle.bd_arrange.proofs.Moved.{arranged_stays}
 use Rattle.bd_arrange.proofs.NoDamage.{never_damaged}
 use Rattle.bd_arrange.proofs.Opens.{not_yet, opens_committed, opens_staged}
 use Rattle.bd_arrange.proofs.TakingTurns.{KeptStays, turns_later}
@@ -146,44 +148,31 @@ module _ (found : Found) (h0 h1 : History) (agrees : Agrees found h0) (writes : 
         let here : take (length (grown_bytes g c es)) owner ≡ grown_bytes g c es = subst (λ l. take (length l) owner ≡ l) turned.volume (take_again (bytes_of_rows desk.filling.rows) owner) in
         record { front = subst (λ ns. take (length (grown_bytes g c es)) (owner_bytes s ns (contents h1)) ≡ grown_bytes g c es) has.numbers here }
 
+    free_is : free_count space ≡ s.extents - held - length (all_extents c)
+    free_is = omega (arith, counts-all space, taken_count-exact space (all_extents c) allotted.owners, allotted.count)
+
+    arranged_before : IsArrangedFrom held found after (contents h0) (contents h1)
+    arranged_before = record {
+      entries = entries;
+      newest = newest;
+      splits = es;
+      turns = subst (λ free. AreArranged g (contents h1) free c es) free_is (record { turns = turned.turns; may = may; volume = begins_with });
+      sizes = refl;
+      catalogue = λ k. after_arrange c (has.rows k) (has.added k) (has.splits k);
+    }
+
     module _ (image : List ℕ) (made : HasCommitted found after (contents h1) image) where
-      agree_extents : (extents : List ℕ) → Agree (InExtents s extents) (contents h1) image
-      agree_extents extents =
-          halves_agree s extents (contents h1) image
-          (agree_fewer _ _ (contents h1) image (λ place out inside. out (within_halves s (1 - found.half.number) place (omega arith) inside)) made.elsewhere)
-
-      stay : All (KeptStays g (contents h1) image) es
-      stay =
-          All-weaker (Contains es) (KeptStays g (contents h1) image)
-          (λ e among bytes. All-weaker (Contains e.kept) (λ (k : OpenEntry). BeginWith s k.extents bytes (contents h1) → BeginWith s k.extents bytes image)
-          (λ k own begins. begin_with_agrees s k.extents bytes (contents h1) image (agree_extents k.extents) begins) e.kept (All-contains_itself e.kept))
-          es (All-contains_itself es)
-
-      arranged : AreArranged g image (free_count space) c es
-      arranged = record {
-        turns = turns_later g (contents h1) image (free_count space) c (due c) es stay turned.turns;
-        may = may;
-        volume = begin_with_agrees s (last_extents (after_splits c es).volumes) (grown_bytes g c es) (contents h1) image (agree_extents (last_extents (after_splits c es).volumes)) begins_with;
-      }
+      -- the commit writes before the extents
+      is_arranged : IsArrangedFrom held found after (contents h0) image
+      is_arranged = arranged_stays held found after (contents h0) (contents h1) image (opened-found (contents h0) found agrees.opens).obeys arranged_before
+          (halves_agree s (all_extents after.catalogue) (contents h1) image
+          (agree_fewer _ _ (contents h1) image (λ place out inside. out (within_halves s (1 - found.half.number) place (omega arith) inside)) made.elsewhere))
 
       named : Agree (InNamed s c) (contents h0) image
       named =
           agree_trans (InNamed s c) (contents h0) (contents h1) image
           (agree_fewer _ (InNamed s c) (contents h0) (contents h1) (λ place inside out. out.unnamed inside) (same_contents unnamed))
           (agree_fewer _ (InNamed s c) (contents h1) image (λ place inside out. (half_beside found (number-small found h0 agrees) place out).named inside) made.elsewhere)
-
-      free_is : free_count space ≡ s.extents - held - length (all_extents c)
-      free_is = omega (arith, counts-all space, taken_count-exact space (all_extents c) allotted.owners, allotted.count)
-
-      is_arranged : IsArrangedFrom held found after (contents h0) image
-      is_arranged = record {
-        entries = entries;
-        newest = newest;
-        splits = es;
-        turns = subst (λ free. AreArranged g image free c es) free_is arranged;
-        sizes = refl;
-        catalogue = λ k. after_arrange c (has.rows k) (has.added k) (has.splits k);
-      }
 
       settles : (shape : Shape) (st : VersionState) (phase : Phase) → Near (history shape st) → StandsFor shape st phase held (contents h0) → StandsFor shape st Settled held image
       settles shape st phase near stands = law shape st phase held (contents h0) image found after near stands agrees.opens waits made.opens is_arranged named

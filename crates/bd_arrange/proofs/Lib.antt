@@ -6,6 +6,7 @@ pub mod InGrown
 pub mod Laps
 pub mod LastVolume
 pub mod MoreMoved
+pub mod Moved
 pub mod NoDamage
 pub mod OneStretch
 pub mod OneTurn

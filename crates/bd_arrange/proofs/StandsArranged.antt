@@ -32,8 +32,7 @@ use Rattle.bd_roll.specs.Rules.{ascends, obeys, phase_holds}
 use Rattle.bd_roll.specs.Splitting.{AreSplits, SplitEntry, after_splits, kept_of, last_rows}
 use Rattle.bd_catalog.specs.Standing.{HasActives, HasNumbers, HasReserve, HasVolumes, StandsFor}
 use Rattle.bd_roll.proofs.Obeying.{bounded_of}
-use Rattle.bd_roll.proofs.OneArranging.{added_by, arrange_fits, one_arranging}
-use Rattle.bd_roll.proofs.Owning.{fit_splits}
+use Rattle.bd_roll.proofs.OneArranging.{may_splits, one_arranging}
 use Rattle.bd_catalog.proofs.Standing.{Shows, stands-shows, stands_by_parts}
 use Rattle.bd_catalog.proofs.StandingFound.{numbers-each, obeys-each, opened-found}
 use Rattle.bd_catalog.proofs.StandingOwned.{owned-stands}
@@ -172,11 +171,7 @@ module _ (shape : Shape) (st : VersionState) (held free cursor : ℕ) (old new :
         let starts : map (λ e. e.start) (map kept_of es) ≡ map (λ (e : SplitEntry). e.start) es = map-map (λ e. e.start) kept_of es in
         let ascend : ascends (c.base + 1) c.newest (map (λ e. e.start) (map kept_of es)) ≡ true =
         ap (ascends (c.base + 1) c.newest) starts ∙ ascends-wider cursor (newest h) (c.base + 1) c.newest (map (λ e. e.start) es) (omega (arith, waits.low)) (omega (arith, shows.numbers.newest, last)) led.ascend in
-        fit_splits s c (last_rows (after_splits c es).volumes) (added_by es) (map kept_of es) rules
-        (arrange_fits s (bounded_of shape) c es rules (λ is. never (sym shows.at_phase ∙ is)) turned.may ascend)
-      where
-        never : Waiting cursor ≡ Settled → ⊥
-        never same = cc
+        may_splits s c es rules turned.may ascend
 
     one : arranged_catalogue c es ≡ settled
     one = one_arranging c es splits

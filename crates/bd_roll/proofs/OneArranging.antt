@@ -128,6 +128,24 @@ one_arranging c es splits =
     (λ k. record c { phase = Settled; volumes = sym (splits_volumes c es) k; actives = sym (splits_actives c es splits) k })
     ∙ ap settled (sym (splits_else c es))
 
+-- ---- splits that may be made one after the other
+
+are_named : (s : Sizes) (c : Catalogue) (es : List SplitEntry) → MaySplits s c es → All (λ e. Named e.start e.kept) (map kept_of es)
+are_named s c [] may = All-nil (λ e. Named e.start e.kept)
+are_named s c (e ∷ es) may = All-cons (λ x. Named x.start x.kept) (kept_of e) (map kept_of es) may.0.kept_starts (are_named s (after_split c e) es may.1)
+
+are_few : (s : Sizes) (c : Catalogue) (es : List SplitEntry) → MaySplits s c es → All (λ e. length e.kept ≤ 1) (map kept_of es)
+are_few s c [] may = All-nil (λ e. length e.kept ≤ 1)
+are_few s c (e ∷ es) may = All-cons (λ x. length x.kept ≤ 1) (kept_of e) (map kept_of es) may.0.one (are_few s (after_split c e) es may.1)
+
+pub may_splits : (s : Sizes) (c : Catalogue) (es : List SplitEntry) → obeys s c ≡ true → MaySplits s c es → ascends (c.base + 1) c.newest (map (λ e. e.start) (map kept_of es)) ≡ true → AreSplits (map kept_of es) c.actives
+may_splits s c es rules may ascend = record {
+  apart = distinct_ascending (c.base + 1) c.newest (map (λ (e : KeptEntry). e.start) (map kept_of es)) ascend;
+  named = are_named s c es may;
+  one = are_few s c es may;
+  differ = distinct_ascending (c.base + 1) c.newest (starts c.actives) (open_ascend c (rules_of s c rules).open_starts);
+}
+
 -- ---- and its step fits
 
 module _ (s : Sizes) (bounded : IsBounded s) where
@@ -151,24 +169,11 @@ module _ (s : Sizes) (bounded : IsBounded s) where
       All-cons (IsOpen c) (kept_of e) (map kept_of es) may.0.is_open
       (All-weaker (IsOpen (after_split c e)) (IsOpen c) (λ x has. put_contains e.start x.start e.kept c.actives may.0.kept_starts has) (map kept_of es) (are_open (after_split c e) es may.1))
 
-  are_named : (c : Catalogue) (es : List SplitEntry) → MaySplits s c es → All (λ e. Named e.start e.kept) (map kept_of es)
-  are_named c [] may = All-nil (λ e. Named e.start e.kept)
-  are_named c (e ∷ es) may = All-cons (λ x. Named x.start x.kept) (kept_of e) (map kept_of es) may.0.kept_starts (are_named (after_split c e) es may.1)
-
-  are_few : (c : Catalogue) (es : List SplitEntry) → MaySplits s c es → All (λ e. length e.kept ≤ 1) (map kept_of es)
-  are_few c [] may = All-nil (λ e. length e.kept ≤ 1)
-  are_few c (e ∷ es) may = All-cons (λ x. length x.kept ≤ 1) (kept_of e) (map kept_of es) may.0.one (are_few (after_split c e) es may.1)
-
   -- Where each split may be made once the ones before it were, and their starts ascend, the step that makes them at once fits.
   pub arrange_fits : (c : Catalogue) (es : List SplitEntry) → obeys s c ≡ true → c.phase ≢ Settled → MaySplits s c es → ascends (c.base + 1) c.newest (map (λ e. e.start) (map kept_of es)) ≡ true →
       FitsArrange s c (last_rows (after_splits c es).volumes) (added_by es) (map kept_of es)
   arrange_fits c es rules waits may ascend =
-      let splits : AreSplits (map kept_of es) c.actives = record {
-        apart = distinct_ascending (c.base + 1) c.newest (map (λ (e : KeptEntry). e.start) (map kept_of es)) ascend;
-        named = are_named c es may;
-        one = are_few c es may;
-        differ = distinct_ascending (c.base + 1) c.newest (starts c.actives) (open_ascend c (rules_of s c rules).open_starts);
-      } in
+      let splits : AreSplits (map kept_of es) c.actives = may_splits s c es rules may ascend in
       record {
         waits = waits;
         rules = subst (λ d. obeys s d ≡ true) (sym (one_arranging c es splits)) (settled_rules (after_splits c es) (splits_rules c es rules may));

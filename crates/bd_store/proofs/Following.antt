@@ -165,7 +165,7 @@ module _ (disk files : Type 0) (command : Command) (before : Scene) (mid : Found
       untouched = λ refused. absurd (refuses_not refused);
       on_disk = λ told. record {
         agrees = (follows.on_disk told).agrees;
-        opens = opens_behind ready.settled.sizes (λ no. ready.same (rested no)) (λ no. (readied told).readies.quiet (rested no)) (readied told).readies.agrees (readied told).readies.opens (follows.on_disk told).writes (follows.on_disk told).opens;
+        opens = opens_behind (agrees told) ready.settled.sizes (λ no. ready.same (rested no)) (λ no. (readied told).readies.quiet (rested no)) (readied told).readies.agrees (readied told).readies.opens (follows.on_disk told).writes (follows.on_disk told).opens;
         writes = writes_before before.store.held before.store.found mid after.store.found before.disk h1 after.disk command makes (follows.on_disk told).writes result follows.ends (follows.on_disk told).step ready.same (readied told).readies.quiet
             (readied told).readies.answer.arranged (readied told).readies.agrees (readied told).writes;
         reads = reads told;

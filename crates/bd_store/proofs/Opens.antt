@@ -3,7 +3,7 @@ use Rattle.std.proofs.Common.{◌≡◌, ◌∙◌, ◌≤◌, ℕ, ◌-◌, tru
 use Rattle.bd_disk.specs.History.{History, Now, contents}
 use Rattle.bd_disk.specs.Images.{Agree, AgreeBut}
 use Rattle.bd_disk.specs.Made.{LeavesNow, LeavesSince, WritesNothing, WritesOnly}
-use Rattle.bd_disk.proofs.Agreeing.{agree_fewer, agree_refl, agree_sym, agree_trans}
+use Rattle.bd_disk.proofs.Agreeing.{agree_fewer, agree_sym, agree_trans}
 use Rattle.bd_disk.proofs.Frames.{leaves_and, leaves_both, leaves_by_writes, leaves_now, leaves_quiet, leaves_wider, nothing_within}
 use Rattle.bd_model.specs.Sizes.{extent_place}
 use Rattle.bd_model.specs.declared.command.Command.{Command}
@@ -13,8 +13,10 @@ use Rattle.bd_catalog.specs.Agreement.{Agrees, InExtents}
 use Rattle.bd_catalog.specs.Opening.{Found, opened}
 use Rattle.bd_catalog.specs.Steps.{HasCommitted, InOtherHalf, IsKeptOrCommitted, LeavesEither}
 use Rattle.bd_catalog.proofs.Staged.{same_catalogue}
+use Rattle.bd_catalog.proofs.StandingFound.{opened-found}
 use Rattle.bd_volume.proofs.Beside.{half_front}
 use Rattle.bd_arrange.specs.Opens.{ArrangedSoFar, HasCatalogueOf, IsSafeOpening, OpensSoFar, OpensWith}
+use Rattle.bd_arrange.proofs.Moved.{arranged_stays}
 use Rattle.bd_arrange.proofs.Opens.{opens_committed, opens_staged, same_both}
 use Rattle.bd_store.specs.Deeds.{Deed, TakesIn, GivesBack, GivesUp, Settles, Checks, Tells, deed_of}
 use Rattle.bd_store.specs.Opens.{KeepsOpening, KeepsReady, MakesNext, OpensNext, OpensOnEitherSide, OpensReady}
@@ -58,7 +60,7 @@ module _ (found : Found) (command : Command) (end : Shown) {h0 h1 : History} whe
 -- a store that isn't arranged
 pub opens_unarranged : {held : ℕ} {found : Found} {command : Command} {end : Shown} {old new : History} → KeepsReady found command end old new → KeepsOpening held found command end old new
 opens_unarranged {held} {found} {command} {end} {old} {new} keeps sure = leaves_wider (OpensOnEitherSide held found command end (contents old) (contents new))
-    (λ image is. record { ready = found; first = image; so = inl (record { sizes = refl; catalogue = refl }); owners = agree_refl _ image; rests = λ _. record { sizes = refl; catalogue = refl }; opens = is })
+    (λ image is. record { ready = found; so = inl (record { sizes = refl; catalogue = refl }); rests = λ _. record { sizes = refl; catalogue = refl }; opens = is })
     (keeps sure)
 
 -- the sizes stay
@@ -99,13 +101,11 @@ opens_before {held} {found} {command} {end} {h0} {h1} now quiet safe sure =
     elim (arranges found command) as (λ b. arranges found command ≡ b → LeavesSince Leaves h0 h1) [
       | true ↦ λ first. leaves_wider Leaves (λ image (is : OpensSoFar held found (contents h0) image). record {
         ready = is.ready;
-        first = image;
         so = is.so;
-        owners = agree_refl _ image;
         rests = λ no. not_both first no;
         opens = inl (record { again = is.ready; opens = is.opens; same = record { sizes = refl; catalogue = refl } });
       }) (safe sure)
-      | false ↦ λ no. leaves_wider Leaves (λ image is. record { ready = found; first = image; so = inl itself; owners = agree_refl _ image; rests = λ _. itself; opens = inl is }) (leaves_quiet (quiet no) sure)
+      | false ↦ λ no. leaves_wider Leaves (λ image is. record { ready = found; so = inl itself; rests = λ _. itself; opens = inl is }) (leaves_quiet (quiet no) sure)
     ] refl
   where
     Leaves : List ℕ → Type 0
@@ -123,24 +123,15 @@ only_unowned Settles found writes = nothing_within _ writes
 only_unowned Checks found writes = nothing_within _ writes
 only_unowned Tells found writes = nothing_within _ writes
 
--- an image so far as an arranging came in one before it, with the same bytes in each owner's extents
-record ArrangedBefore (held : ℕ) (found ready : Found) (old image : List ℕ) : Type 0 where
-  pub before : List ℕ
-  pub so : ArrangedSoFar held found ready old before
-  pub owners : Agree (InExtents ready.sizes (all_extents ready.catalogue)) before image
-
 -- and then
-pub opens_behind : {held : ℕ} {found mid : Found} {command : Command} {end : Shown} {h0 h1 h2 : History} → mid.sizes ≡ found.sizes → (arranges found command ≡ false → mid ≡ found) → (arranges found command ≡ false → WritesNothing h0 h1) → Agrees mid h1 →
+pub opens_behind : {held : ℕ} {found mid : Found} {command : Command} {end : Shown} {h0 h1 h2 : History} → Agrees found h0 → mid.sizes ≡ found.sizes → (arranges found command ≡ false → mid ≡ found) → (arranges found command ≡ false → WritesNothing h0 h1) → Agrees mid h1 →
     IsSafeOpening held found h0 h1 → WritesReady mid command h1 h2 → KeepsReady mid command end h1 h2 → KeepsOpening held found command end h0 h2
-opens_behind {held} {found} {mid} {command} {end} {h0} {h1} {h2} sizes rests quiet agrees safe writes keeps sure =
+opens_behind {held} {found} {mid} {command} {end} {h0} {h1} {h2} before sizes rests quiet agrees safe writes keeps sure =
     leaves_both (opens_before (contents h2) quiet safe sure)
     (leaves_wider (OpensOnEitherSide held found command end (contents h0) (contents h2))
-    (λ image is. let owned : ArrangedBefore held found mid (contents h0) image = is.1 in record { ready = mid; first = owned.before; so = owned.so; owners = owned.owners; rests = λ no. subst (HasCatalogueOf found) (sym (rests no)) (record { sizes = refl; catalogue = refl }); opens = is.0 })
-    (leaves_and (keeps (record { each = λ image now. (mid_now image now).0 })) (leaves_by_writes (ArrangedBefore held found mid (contents h0)) (only_unowned (deed_of mid command) mid writes) (λ before image now agree. record {
-      before = before;
-      so = (mid_now before now).1;
-      owners = agree_fewer _ _ before image (λ place owned unowned. unowned.owners owned) agree;
-    }))))
+    (λ image is. record { ready = mid; so = is.1; rests = λ no. subst (HasCatalogueOf found) (sym (rests no)) (record { sizes = refl; catalogue = refl }); opens = is.0 })
+    (leaves_and (keeps (record { each = λ image now. (mid_now image now).0 }))
+    (leaves_by_writes (ArrangedSoFar held found mid (contents h0)) (only_unowned (deed_of mid command) mid writes) (λ from image now agree. still_so_far from image (agree_fewer _ _ from image (λ place owned unowned. unowned.owners owned) agree) (mid_now from now).1))))
   where
     -- each image at that moment has this catalogue, so far as an arranging came
     mid_now : (image : List ℕ) → Now h1 image → OpensWith mid image × ArrangedSoFar held found mid (contents h0) image
@@ -149,3 +140,8 @@ opens_behind {held} {found} {mid} {command} {end} {h0} {h1} {h2} sizes rests qui
         let same : is.ready.sizes ≡ mid.sizes = sizes_so_far is.so ∙ sym sizes in
         let catalogue = same_catalogue (contents h1) image mid is.ready agrees.opens is.opens same (agrees.sure.each image now) in
         (record { again = is.ready; opens = is.opens; same = record { sizes = same; catalogue = catalogue } }, same_so_far (record { sizes = sym same; catalogue = sym catalogue }) is.so)
+
+    -- and so far it came where each owner's extents have the same bytes
+    still_so_far : (from image : List ℕ) → Agree (InExtents mid.sizes (all_extents mid.catalogue)) from image → ArrangedSoFar held found mid (contents h0) from → ArrangedSoFar held found mid (contents h0) image
+    still_so_far from image agree so =
+        ⊎_elim (λ same. inl same) (λ arranged. inr (arranged_stays held found mid (contents h0) from image (opened-found (contents h0) found before.opens).obeys arranged agree)) so

@@ -1,13 +1,12 @@
 -- What an image that a stop leaves opens with, whatever image it was before: whole catalogues.
 use Rattle.std.specs.Prelude.{◌≡◌, ◌⊎◌, ℕ, false, List, Ok}
 use Rattle.bd_disk.specs.History.{History, contents}
-use Rattle.bd_disk.specs.Images.{Agree, AgreeBut}
+use Rattle.bd_disk.specs.Images.{AgreeBut}
 use Rattle.bd_disk.specs.Made.{LeavesNow, LeavesSince}
 use Rattle.bd_model.specs.declared.command.Command.{Command}
 use Rattle.bd_gate.specs.Halves.{BeforeExtents}
-use Rattle.bd_roll.specs.Catalogue.{Catalogue, OpenEntry, VersionEntry, all_extents}
+use Rattle.bd_roll.specs.Catalogue.{Catalogue, OpenEntry, VersionEntry}
 use Rattle.bd_roll.specs.Growing.{after_backup}
-use Rattle.bd_catalog.specs.Agreement.{InExtents}
 use Rattle.bd_catalog.specs.Opening.{Found, opened}
 use Rattle.bd_roll.specs.Splitting.{after_expire}
 pub use Rattle.bd_arrange.specs.Opens.{ArrangedSoFar, HasCatalogueOf, OpensWith}
@@ -41,13 +40,10 @@ OpensReady ready command after now image = OpensWith ready image ⊎ OpensNext r
 abbrev pub KeepsReady : Found → Command → Shown → History → History → Type 0
 KeepsReady ready command after old new = LeavesNow (OpensWith ready) old → LeavesSince (OpensReady ready command after (contents new)) old new
 
--- And of any store: so far as an arranging came in an image with the same bytes in each owner's extents. A command that doesn't
--- arrange leaves no arranged one.
+-- And of any store: so far as an arranging came in the image. A command that doesn't arrange leaves no arranged catalogue.
 pub record OpensOnEitherSide (held : ℕ) (found : Found) (command : Command) (after : Shown) (old now image : List ℕ) : Type 0 where
   pub ready : Found
-  pub first : List ℕ
-  pub so : ArrangedSoFar held found ready old first
-  pub owners : Agree (InExtents ready.sizes (all_extents ready.catalogue)) first image
+  pub so : ArrangedSoFar held found ready old image
   pub rests : arranges found command ≡ false → HasCatalogueOf found ready
   pub opens : OpensReady ready command after now image
 
