@@ -23,10 +23,9 @@ use Rattle.bd_model.proofs.RowLemmas.{no_chunks, rows_over}
 use Rattle.bd_category.specs.Laws.{written_records}
 use Rattle.bd_roll.specs.Catalogue.{Catalogue, OpenEntry, bytes_of_rows, oldest_in}
 use Rattle.bd_catalog.specs.Rows.{open_row}
-use Rattle.bd_roll.specs.Rules.{active_holds, ascends}
+use Rattle.bd_roll.specs.Rules.{active_holds}
 use Rattle.bd_roll.specs.Splitting.{MaySplit, MaySplits, SplitEntry, after_split, after_splits, last_rows}
 use Rattle.bd_catalog.specs.Standing.{BeginWith, HasActives}
-use Rattle.bd_roll.proofs.Expiring.{ascends_cons, ascends_first}
 use Rattle.bd_roll.proofs.InPlace.{Named}
 use Rattle.bd_roll.proofs.Obeying.{open_row_of, row_of as row_rule, IsBounded}
 use Rattle.bd_volume.specs.Holding.{HoldsRow, HoldsRows, group_at, groups_over}
@@ -54,14 +53,6 @@ pub record Leads (s : Sizes) (h : History) (w : List (List ℕ)) (g : Ground) (n
   pub actives : HasActives s (grown h w) (Waiting (newest h + 1)) (after_splits d es) now
   pub rows : rows_of (after_splits d es).volumes ≡ map (rows (grown h w) (Waiting (newest h + 1))) (range_with_len (oldest h) (suc (newest h - oldest h)))
   pub bytes : records_of (closed_volume (grown h w) (Waiting i) (newest h)) ++ flat_map (archived_bytes g c) es ≡ records_of (closed_volume (grown h w) (Waiting (newest h + 1)) (newest h))
-  pub ascend : ascends i (newest h) (map (λ e. e.start) es) ≡ true
-
--- numbers that ascend between bounds do so between wider ones
-pub ascends-wider : (low high low_now high_now : ℕ) (ns : List ℕ) → low_now ≤ low → high ≤ high_now → ascends low high ns ≡ true → ascends low_now high_now ns ≡ true
-ascends-wider low high low_now high_now [] below above up = refl
-ascends-wider low high low_now high_now (n ∷ ns) below above up =
-    let first = ascends_first low high n ns up in
-    ascends_cons low_now high_now n ns (omega (arith, first.above)) (omega (arith, first.below)) (ascends-wider (n + 1) high (n + 1) high_now ns (omega arith) above first.rest)
 
 no_stored : (cs : List (List ℕ)) → map stored_of cs ≡ [] → cs ≡ []
 no_stored [] none = refl
@@ -166,15 +157,13 @@ module _ (s : Sizes) (h : History) (w : List (List ℕ)) (entries : List RecipeE
       actives = leads.actives;
       rows = leads.rows;
       bytes = ap (λ cs. records_of cs ++ flat_map (archived_bytes g c) es) (sym (same_volume s h w now are.sizes.extent are.some i low to none)) ∙ leads.bytes;
-      ascend = ascends-wider (i + 1) (newest h) i (newest h) (map (λ e. e.start) es) (omega arith) (omega arith) leads.ascend;
     }
 
-    after_one : (d : Catalogue) (e : SplitEntry) (es : List SplitEntry) → e.start ≡ i → archived_bytes g c e ≡ records_of (archived h w i) → Leads s h w g now c (i + 1) (after_split d e) es → Leads s h w g now c i d (e ∷ es)
-    after_one d e es start archives leads =
+    after_one : (d : Catalogue) (e : SplitEntry) (es : List SplitEntry) → archived_bytes g c e ≡ records_of (archived h w i) → Leads s h w g now c (i + 1) (after_split d e) es → Leads s h w g now c i d (e ∷ es)
+    after_one d e es archives leads =
         let step : ArrangesOne h w i = one_step_of_arranging.each h w i low to are.some in
         let before = closed_volume next (Waiting i) (newest h) in
         let rest = flat_map (archived_bytes g c) es in
-        let later : ascends (e.start + 1) (newest h) (map (λ x. x.start) es) ≡ true = ap (λ n. ascends (n + 1) (newest h) (map (λ (x : SplitEntry). x.start) es)) start ∙ leads.ascend in
         record {
           actives = leads.actives;
           rows = leads.rows;
@@ -183,7 +172,6 @@ module _ (s : Sizes) (h : History) (w : List (List ℕ)) (entries : List RecipeE
               ∙ sym (append_assoc (records_of before) (records_of (archived h w i)) rest)
               ∙ ap (λ bytes. bytes ++ rest) (sym (flat_map-append record_of before (archived h w i)) ∙ ap records_of (sym step.volume))
               ∙ leads.bytes;
-          ascend = ascends_cons i (newest h) e.start (map (λ x. x.start) es) (omega arith) (omega arith) later;
         }
 
     -- what the later turns make of each catalogue at the next start
@@ -208,7 +196,7 @@ module _ (s : Sizes) (h : History) (w : List (List ℕ)) (entries : List RecipeE
         let may_all : MaySplits s d (e ∷ rest) = subst (MaySplits s d) split.2 may in
         let so : SplitsSo s h w now i e = splits_so a holds.0 free d e split.3 may_all.0 in
         subst (Leads s h w g now c i d) (sym split.2)
-        (after_one d e rest so.start (archived_so a holds.0 e split.3.start (alone 0 a (omega arith)))
+        (after_one d e rest (archived_so a holds.0 e split.3.start (alone 0 a (omega arith)))
         (later (free - taken_by e) (after_split d e) more rest (split_at s h w now are.sizes.extent are.some i low to free d at e may_all.0 so) holds.1 others may_all.1 split.4)))
         turns
 
@@ -224,7 +212,6 @@ module _ (s : Sizes) (h : History) (w : List (List ℕ)) (entries : List RecipeE
         actives = done.actives;
         rows = done.rows;
         bytes = append-nil (records_of (closed_volume next (Waiting i) (newest h))) ∙ ap (λ n. records_of (closed_volume next (Waiting n) (newest h))) last;
-        ascend = refl;
       })
   turns_from zero i free d (a ∷ more) es end from at holds alone may turns = absurd holds
   turns_from (suc n) i free d more es end from at holds alone may turns =

@@ -1,7 +1,6 @@
 -- What arranging leaves of the states for which the contents stood.
 use Rattle.std.proofs.Common.{◌≡◌, ◌≢◌, ⊎_elim, inr, ℕ, zero, suc, ◌+◌, ◌-◌, ◌<◌, ◌≤◌, List, [], ◌∷◌, length, take, map, flat_map, refl, sym, ◌∙◌, ap, subst, arith}
-use Rattle.std.specs.Prelude.{All, Contains, IsTrue, OnErr, OnOk, Result, Ok, Err}
-use Rattle.std.proofs.lemmas.List.Elements.{All-contains_itself, All-weaker}
+use Rattle.std.specs.Prelude.{IsTrue, OnErr, OnOk, Result, Ok, Err}
 use Rattle.bd_disk.specs.History.{History, contents}
 use Rattle.bd_disk.specs.Images.{Agree, AgreeBut}
 use Rattle.bd_disk.specs.Made.{LeavesNow, LeavesSince, WritesOnly}
@@ -20,14 +19,13 @@ use Rattle.bd_gate.proofs.Kept.{within_halves}
 use Rattle.bd_space.specs.Allotment.{Allotment, free_count, held_count}
 use Rattle.bd_space.proofs.Exact.{taken_count-exact}
 use Rattle.bd_space.proofs.Uses.{counts-all}
-use Rattle.bd_catalog.specs.Agreement.{Agrees, InExtents}
-use Rattle.bd_roll.specs.Catalogue.{Catalogue, OpenEntry, all_extents, bytes_of_rows}
+use Rattle.bd_catalog.specs.Agreement.{Agrees}
+use Rattle.bd_roll.specs.Catalogue.{Catalogue, all_extents, bytes_of_rows}
 use Rattle.bd_catalog.specs.Opening.{Found}
 use Rattle.bd_roll.specs.Rules.{ascends, obeys}
 use Rattle.bd_roll.specs.Splitting.{FitsArrange, KeptEntry, MaySplits, SplitEntry, after_arrange, after_splits, kept_of, last_extents, last_rows}
 use Rattle.bd_catalog.specs.Standing.{BeginWith, StandsFor, Stands}
 use Rattle.bd_catalog.specs.Steps.{HasCommitted, InOtherHalf, IsMade, LeavesEither, committed}
-use Rattle.bd_catalog.proofs.Agreeing.{begin_with_agrees}
 use Rattle.bd_catalog.proofs.Committing.{number-small}
 use Rattle.bd_roll.proofs.Obeying.{IsBounded}
 use Rattle.bd_roll.proofs.OneArranging.{arrange_fits}
@@ -49,7 +47,6 @@ use Rattle.bd_arrange.specs.Underway.{HasSplits, HasTurned, IsStaged, arranged_a
 use Rattle.bd_arrange.proofs.Moved.{arranged_stays}
 use Rattle.bd_arrange.proofs.NoDamage.{never_damaged}
 use Rattle.bd_arrange.proofs.Opens.{not_yet, opens_committed, opens_staged}
-use Rattle.bd_arrange.proofs.TakingTurns.{KeptStays, turns_later}
 
 -- ---- nothing was done
 

@@ -1,9 +1,8 @@
 -- What was moved lies in extents that the arranged catalogue owns, so that an image with the same bytes there is arranged too.
-use Rattle.std.proofs.Common.{◌≡◌, ⊎_elim, ℕ, zero, suc, ◌+◌, ◌-◌, ◌<◌, ◌≤◌, true, false, cond, Bool, List, [], ◌∷◌, ◌++◌, length, map, filter, flat_map, nat_eq, refl, sym, ◌∙◌, ap, subst, arith}
+use Rattle.std.proofs.Common.{◌≡◌, ⊎_elim, ℕ, zero, suc, ◌+◌, ◌-◌, true, false, cond, Bool, List, [], ◌∷◌, ◌++◌, length, map, filter, flat_map, nat_eq, refl, sym, ◌∙◌, ap, subst, arith}
 use Rattle.std.specs.Prelude.{All, Contains, IsTrue}
 use Rattle.std.specs.List.{IsDistinct}
 use Rattle.std.proofs.lemmas.List.Elements.{All-contains_itself, All-weaker, Contains-append_cases, Contains-append_left, Contains-append_right}
-use Rattle.std.proofs.lemmas.Simd.{map-map}
 use Rattle.bd_disk.specs.Images.{Agree, InRange}
 use Rattle.bd_disk.proofs.Agreeing.{agree_fewer}
 use Rattle.bd_model.specs.Sizes.{Sizes, extent_place}
@@ -11,26 +10,26 @@ use Rattle.bd_model.specs.declared.layout.Phase.TheVariants.{Settled}
 use Rattle.bd_space.proofs.Distinct.{distinct_head, distinct_tail}
 use Rattle.bd_roll.specs.Catalogue.{Catalogue, OpenEntry, VersionEntry, VolumeEntry, all_extents}
 use Rattle.bd_roll.specs.Rules.{ascends, obeys}
-use Rattle.bd_roll.specs.Splitting.{MaySplits, SplitEntry, after_split, after_splits, extents_at, kept_of, last_extents}
+use Rattle.bd_roll.specs.Splitting.{AreSplits, MaySplits, SplitEntry, after_split, after_splits, extents_at, kept_of, last_extents}
 use Rattle.bd_roll.proofs.Expiring.{ascends_cons, ascends_first}
 use Rattle.bd_roll.proofs.InPlace.{at_other, first, later, put_differ, starts}
 use Rattle.bd_roll.proofs.Obeying.{open_ascend, rules_of}
 use Rattle.bd_roll.proofs.OneArranging.{may_splits, one_arranging}
-use Rattle.bd_roll.proofs.Owning.{distinct_ascending, in_categories}
+use Rattle.bd_roll.proofs.Owning.{in_categories}
+use Rattle.bd_roll.proofs.Splitting.{ascends_lower}
 use Rattle.bd_catalog.specs.Agreement.{InExtents}
 use Rattle.bd_catalog.specs.Opening.{Found}
 use Rattle.bd_catalog.specs.Standing.{BeginWith}
 use Rattle.bd_catalog.proofs.Agreeing.{begin_with_agrees}
 use Rattle.bd_volume.proofs.Unnamed.{in_flat}
-use Rattle.bd_arrange.specs.Arranged.{IsArrangedFrom, arranged_catalogue}
+use Rattle.bd_arrange.specs.Arranged.{IsArrangedFrom}
 use Rattle.bd_arrange.specs.Turns.{Ground, Turns, due, ground, grown_bytes, is_due, taken_by}
-use Rattle.bd_arrange.proofs.AllTurns.{ascends-wider}
 use Rattle.bd_arrange.proofs.OpenRows.{at_put}
 use Rattle.bd_arrange.proofs.Staying.{last_among_all}
 use Rattle.bd_arrange.proofs.TakingTurns.{KeptStays, turns_later}
 
 abbrev splits_starts : List SplitEntry → List ℕ
-splits_starts es = map (λ e. e.start) es
+splits_starts es = map (λ e. e.start) (map kept_of es)
 
 -- ---- the starts of splits ascend
 
@@ -41,7 +40,7 @@ some_ascend p low high (a ∷ cs) up =
     let rest = some_ascend p (a.row.start + 1) high cs next.rest in
     elim (p a) as (λ b. ascends low high (starts (cond b (a ∷ filter p cs) (filter p cs))) ≡ true) [
       | true ↦ ascends_cons low high a.row.start (starts (filter p cs)) next.above next.below rest
-      | false ↦ ascends-wider (a.row.start + 1) high low high (starts (filter p cs)) (omega (arith, next.above)) (omega arith) rest
+      | false ↦ ascends_lower low (a.row.start + 1) high (starts (filter p cs)) (omega (arith, next.above)) rest
     ]
 
 turns_ascend : (g : Ground) (now : List ℕ) (free : ℕ) (c : Catalogue) (low high : ℕ) (done : List OpenEntry) (es : List SplitEntry) → ascends low high (starts done) ≡ true → Turns g now free c done es → ascends low high (splits_starts es) ≡ true
@@ -49,7 +48,7 @@ turns_ascend g now free c low high [] es up turns = ap (λ xs. ascends low high 
 turns_ascend g now free c low high (a ∷ done) es up turns =
     let next = ascends_first low high a.row.start (starts done) up in
     ⊎_elim
-    (λ left. ascends-wider (a.row.start + 1) high low high (splits_starts es) (omega (arith, next.above)) (omega arith) (turns_ascend g now free c (a.row.start + 1) high done es next.rest left.1))
+    (λ left. ascends_lower low (a.row.start + 1) high (splits_starts es) (omega (arith, next.above)) (turns_ascend g now free c (a.row.start + 1) high done es next.rest left.1))
     (λ splits.
     let e = splits.0 in
     let rest = splits.1 in
@@ -57,6 +56,10 @@ turns_ascend g now free c low high (a ∷ done) es up turns =
     ap (λ xs. ascends low high (splits_starts xs)) splits.2
     ∙ subst (λ n. ascends low high (n ∷ splits_starts rest) ≡ true) (sym splits.3.start) (ascends_cons low high a.row.start (splits_starts rest) next.above next.below more))
     turns
+
+pub splits_ascend : (g : Ground) (now : List ℕ) (free : ℕ) (c : Catalogue) (es : List SplitEntry) → IsTrue (obeys g.sizes c) → Turns g now free c (due c) es → ascends (c.base + 1) c.newest (splits_starts es) ≡ true
+splits_ascend g now free c es rules turns =
+    turns_ascend g now free c (c.base + 1) c.newest (due c) es (some_ascend (is_due c.newest c.phase) (c.base + 1) c.newest c.actives (open_ascend c (rules_of g.sizes c rules).open_starts)) turns
 
 -- ---- what is kept of a split stands in the catalogue
 
@@ -103,14 +106,11 @@ module _ (held : ℕ) (found after : Found) (old now image : List ℕ) (rules : 
   abbrev free : ℕ
   free = s.extents - held - length (all_extents c)
 
-  open_up : ascends (c.base + 1) c.newest (starts c.actives) ≡ true
-  open_up = open_ascend c (rules_of s c rules).open_starts
-
-  up : ascends (c.base + 1) c.newest (splits_starts es) ≡ true
-  up = turns_ascend g now free c (c.base + 1) c.newest (due c) es (some_ascend (is_due c.newest c.phase) (c.base + 1) c.newest c.actives open_up) is.turns.turns
+  splits : AreSplits (map kept_of es) c.actives
+  splits = may_splits s c es rules is.turns.may (splits_ascend g now free c es rules is.turns.turns)
 
   one : after.catalogue ≡ record (after_splits c es) { phase = Settled }
-  one = is.catalogue ∙ one_arranging c es (may_splits s c es rules is.turns.may (ap (ascends (c.base + 1) c.newest) (map-map (λ e. e.start) kept_of es) ∙ up))
+  one = is.catalogue ∙ one_arranging c es splits
 
   agree_owner : (extents : List ℕ) → ((n : ℕ) → Contains extents n → Contains (all_extents (after_splits c es)) n) → Agree (InExtents s extents) now image
   agree_owner extents owned = agree_fewer _ (InExtents s extents) now image (λ place inside. record {
@@ -123,7 +123,7 @@ module _ (held : ℕ) (found after : Found) (old now image : List ℕ) (rules : 
   kept_among_all e among k own n has =
       let d = after_splits c es in
       Contains-append_right (flat_map (λ (x : VersionEntry). x.extents) d.versions ++ flat_map (λ (x : VolumeEntry). x.extents) d.volumes) (in_categories d.actives) n
-      (kept_owned s c es (distinct_ascending (c.base + 1) c.newest (starts c.actives) open_up) (distinct_ascending (c.base + 1) c.newest (splits_starts es) up) is.turns.may e among n (in_flat (λ (x : OpenEntry). x.extents) e.kept k n own has))
+      (kept_owned s c es splits.differ splits.apart is.turns.may e among n (in_flat (λ (x : OpenEntry). x.extents) e.kept k n own has))
 
   stay : All (KeptStays g now image) es
   stay =

@@ -1,9 +1,8 @@
 -- An arranged store stands for what it stood for, settled.
-use Rattle.std.proofs.Common.{◌≡◌, ℕ, ◌+◌, ◌-◌, ◌<◌, ◌≤◌, ◌&&◌, true, List, ◌++◌, length, map, refl, sym, ◌∙◌, ap, subst, arith, nat_le, nat_lt}
+use Rattle.std.proofs.Common.{◌≡◌, ℕ, ◌+◌, ◌-◌, ◌<◌, ◌≤◌, ◌&&◌, List, ◌++◌, length, map, refl, sym, ◌∙◌, ap, subst, arith, nat_le, nat_lt}
 use Rattle.std.specs.Prelude.{IsTrue, Ok}
 use Rattle.std.proofs.lemmas.Bool.{leb-true, ltb-true}
 use Rattle.std.proofs.lemmas.List.{length-take}
-use Rattle.std.proofs.lemmas.Simd.{map-map}
 use Rattle.bd_disk.specs.Images.{Agree}
 use Rattle.bd_model.specs.Category.{begins, lasts}
 use Rattle.bd_model.specs.Chunks.{numbers}
@@ -28,8 +27,8 @@ use Rattle.bd_model.proofs.StepLemmas.{backups_grow_the_history}
 use Rattle.bd_roll.specs.Catalogue.{Catalogue, all_extents}
 use Rattle.bd_catalog.specs.Opening.{Found, opened}
 use Rattle.bd_catalog.specs.Rows.{open_row}
-use Rattle.bd_roll.specs.Rules.{ascends, obeys, phase_holds}
-use Rattle.bd_roll.specs.Splitting.{AreSplits, SplitEntry, after_splits, kept_of, last_rows}
+use Rattle.bd_roll.specs.Rules.{obeys, phase_holds}
+use Rattle.bd_roll.specs.Splitting.{AreSplits, SplitEntry, after_splits, kept_of}
 use Rattle.bd_catalog.specs.Standing.{HasActives, HasNumbers, HasReserve, HasVolumes, StandsFor}
 use Rattle.bd_roll.proofs.Obeying.{bounded_of}
 use Rattle.bd_roll.proofs.OneArranging.{may_splits, one_arranging}
@@ -45,8 +44,9 @@ use Rattle.bd_volume.proofs.NamedPlaces.{named_agrees}
 use Rattle.bd_volume.proofs.StoredChunks.{Bounded}
 use Rattle.bd_arrange.specs.Arranged.{AnArrangedStoreStands, arranged_catalogue}
 use Rattle.bd_arrange.specs.Turns.{AreArranged, ground}
-use Rattle.bd_arrange.proofs.AllTurns.{AreWaiting, ascends-wider}
-use Rattle.bd_arrange.proofs.Settling.{actives_settle, leads, reserve_settles, volumes_settle}
+use Rattle.bd_arrange.proofs.AllTurns.{AreWaiting}
+use Rattle.bd_arrange.proofs.Moved.{splits_ascend}
+use Rattle.bd_arrange.proofs.Settling.{actives_settle, reserve_settles, volumes_settle}
 
 -- an open category has chunks of the version that it begins with
 open_bounded : (shape : Shape) (st : VersionState) (phase : Phase) (i : ℕ) → Bounded (sizes_of shape) (open_category (history shape st) phase i)
@@ -166,12 +166,7 @@ module _ (shape : Shape) (st : VersionState) (held free cursor : ℕ) (old new :
     settled = record (after_splits c es) { phase = Settled }
 
     splits : AreSplits (map kept_of es) c.actives
-    splits =
-        let led = leads s h w entries old new c cursor are high numbered rules shows.at_phase volumes_old volumes_now actives_now held_rows free es reserved turned in
-        let starts : map (λ e. e.start) (map kept_of es) ≡ map (λ (e : SplitEntry). e.start) es = map-map (λ e. e.start) kept_of es in
-        let ascend : ascends (c.base + 1) c.newest (map (λ e. e.start) (map kept_of es)) ≡ true =
-        ap (ascends (c.base + 1) c.newest) starts ∙ ascends-wider cursor (newest h) (c.base + 1) c.newest (map (λ e. e.start) es) (omega (arith, waits.low)) (omega (arith, shows.numbers.newest, last)) led.ascend in
-        may_splits s c es rules turned.may ascend
+    splits = may_splits s c es rules turned.may (splits_ascend (ground s entries old) new free c es rules turned.turns)
 
     one : arranged_catalogue c es ≡ settled
     one = one_arranging c es splits

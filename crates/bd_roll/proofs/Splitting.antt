@@ -124,7 +124,7 @@ last_among f added (e ∷ second ∷ es) some =
 
 -- ---- the open categories
 
-ascends_lower : (low from high : ℕ) (ns : List ℕ) → low ≤ from → ascends from high ns ≡ true → ascends low high ns ≡ true
+pub ascends_lower : (low from high : ℕ) (ns : List ℕ) → low ≤ from → ascends from high ns ≡ true → ascends low high ns ≡ true
 ascends_lower low from high [] le h = refl
 ascends_lower low from high (n ∷ ns) le h =
     let at : AscendsFrom from high n ns = ascends_first from high n ns h in
