@@ -1,5 +1,5 @@
 -- What comes of words that ask for nothing that is built, and of a request by the words that ask for it.
-use Rattle.std.proofs.Common.{IsTrue, ◌≡◌, ◌⊎◌, ◌∙◌, ℕ, List, [], ◌∷◌, sym, subst, ap, refl, arith, true, false, Bool, MatchBool, Some, inl, inr, append-nil}
+use Rattle.std.proofs.Common.{IsTrue, ◌≡◌, ◌⊎◌, ◌∙◌, ℕ, List, [], ◌∷◌, sym, subst, ap, refl, arith, true, false, Bool, MatchBool, Option, None, Some, inl, inr, append-nil}
 use Rattle.bd_disk.proofs.Frames.{made_none}
 use Rattle.bd_disk.proofs.Looking.{looks_from}
 use Rattle.bd_model.specs.Roomy.{Roomy}
@@ -13,14 +13,14 @@ use Rattle.mfdedup.specs.Failing.{end_of_words}
 use Rattle.mfdedup.specs.Headline.{Asks}
 use Rattle.mfdedup.specs.Noted.{NothingNoted}
 use Rattle.mfdedup.specs.Outside.{Outside}
-use Rattle.mfdedup.specs.Requests.{EndsAtOnce}
+use Rattle.mfdedup.specs.Requests.{EndsAtOnce, WordsUnread}
 use Rattle.bd_words.specs.declared.fault.WordsFault.{WordsFault}
 use Rattle.bd_words.specs.declared.fault.WordsFault.TheVariants.{BadWords, BadNumber, BadName, BadShape, OutOfMemory as WordsMemory}
 use Rattle.bd_words.specs.Words.{AsksFor, Reading, ToFormat, ToRun, ToScript, ToSoak, Refused}
 use Rattle.mfdedup.specs.Works.{Works, WorksByWords}
 use Rattle.mfdedup.specs.declared.progress.Progress.{Progress}
-use Rattle.mfdedup.specs.declared.report.End.{End}
 use Rattle.mfdedup.specs.declared.report.End.TheVariants.{OutOfMemory, Unbuilt}
+use Rattle.bd_words.specs.declared.request.Request.{Request}
 use Rattle.bd_words.specs.declared.request.Request.TheVariants.{Format, Run, Script, Soak}
 use Rattle.mfdedup.proofs.Causes.{untouched_cause}
 use Rattle.mfdedup.proofs.Noting.{no_clocks, no_texts}
@@ -62,6 +62,11 @@ unopened_memory {disk} p o none e = record {
 }
 
 -- ---- by the request
+
+-- words that ask for nothing show no request, and so do words that weren't read
+pub shows_none : {kept : Type 0} (reading : Reading) (fault : WordsFault) (request : Option Request) (p : Progress) → request ≡ None → p.end ≡ end_of_words fault → NothingNoted p → kept → (reading ≡ Refused fault) ⊎ (fault ≡ WordsMemory) → AsksFor reading request ⊎ (WordsUnread request p × kept)
+shows_none reading fault request p shown ends nothing kept (inl is) = inl (subst (AsksFor reading) (sym shown) (subst (λ r. AsksFor r None) (sym is) tt))
+shows_none reading fault request p shown ends nothing kept (inr is) = inr (record { ends = ends ∙ ap end_of_words is; shown = shown; nothing = nothing }, kept)
 
 pub format_asks : {disk files sink : Type 0} (reading : Reading) (shape : Shape) (p : Progress) (before now : Outside) → AsksFor reading (Some (Format shape)) → Works disk (Unit {0}) sink (ToFormat (sizes_of shape)) p before now → Works disk files sink reading p before now
 format_asks {disk} {files} {sink} (ToFormat sizes) shape p before now asks w =

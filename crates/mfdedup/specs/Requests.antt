@@ -15,6 +15,7 @@ use Rattle.bd_recover.specs.Answers.{format_refusal}
 use Rattle.bd_recover.specs.declared.fault.FormatFault.{FormatFault}
 use Rattle.bd_recover.specs.declared.fault.FormatFault.TheVariants.{AlreadyAStore as FormatMarked, TooSmall as FormatSmall}
 use Rattle.bd_store.specs.Openings.{MakingStops}
+use Rattle.bd_words.specs.declared.request.Request.{Request}
 use Rattle.mfdedup.specs.Noted.{AnswersAlone, NothingNoted}
 use Rattle.mfdedup.specs.Outside.{Outside}
 use Rattle.mfdedup.specs.declared.progress.Progress.{Progress}
@@ -32,6 +33,14 @@ pub record EndsAtOnce (ending : End) (p : Progress) (before now : Outside) : Typ
 -- the work was done, even if the text of the answer couldn't be put
 abbrev pub IsCarriedOut : End → Type 0
 IsCarriedOut ending = (ending ≡ Done) ⊎ (ending ≡ OutputFault)
+
+-- ---- words that weren't read
+
+-- memory ran out before the words were read: no request is shown, and nothing was given to a store, answered or noted
+pub record WordsUnread (request : Option Request) (p : Progress) : Type 0 where
+  pub ends : p.end ≡ OutOfMemory
+  pub shown : request ≡ None
+  pub nothing : NothingNoted p
 
 -- ---- the empty store
 

@@ -45,7 +45,7 @@ pub enum End {
 pub struct Report {
     /// The status for the system, which follows from the end and the answers.
     pub status: u8,
-    /// What the words were read as; None where they were refused.
+    /// What the words were read as; None where they were refused, or not read for want of memory.
     pub request: Option<Request>,
     /// The commands that the store was given.
     pub commands: Commands,

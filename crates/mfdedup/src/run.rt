@@ -4,11 +4,11 @@ ghost use Rattle.bd_model.specs.declared.command.Command.{Command as Asked};
 ghost use Rattle.mfdedup.specs.Failing.{end_of_words};
 ghost use Rattle.mfdedup.specs.Noted.{TellsEnd};
 ghost use Rattle.mfdedup.specs.Outside.{Outside, outside, with_disk};
+ghost use Rattle.mfdedup.specs.Requests.{WordsUnread};
 ghost use Rattle.mfdedup.specs.ScriptRuns.{RunsScript};
 ghost use Rattle.mfdedup.specs.Statuses.{end_text, status_of};
 ghost use Rattle.bd_words.specs.Words.{AsksFor, Reading, ToRun, reading};
 ghost use Rattle.mfdedup.specs.Works.{Did, Works, progress_of};
-ghost use Rattle.mfdedup.specs.declared.report.End.TheVariants.{OutOfMemory};
 
 use crate::command::{is_built, run_commands};
 use crate::once::{blank, format};
@@ -120,7 +120,8 @@ pub fn run<D: Disk, F: Files, O: Sink>(
 ) -> Report
     requires takes { O.tells → D.tells → O.takes D D.history }
     ensures status { result.status ≡ status_of result.end result.answers.items }
-    ensures request { (result.end ≡ OutOfMemory) ⊎ AsksFor (reading (map string_bytes words.now)) result.request }
+    // The request that was read is shown. Where memory ran out before, none is, and nothing was begun.
+    ensures request { AsksFor (reading (map string_bytes words.now)) result.request ⊎ (WordsUnread result.request (progress_of result) × ((disk.new ≡ disk.old) × (files.new ≡ files.old))) }
     // All that comes of the words: what is answered, read, written and kept, over whatever disk, files and sink.
     ensures did { Did D.tells F.tells O.tells (reading (map string_bytes words.now)) (progress_of result) (outside D.Disk F.Files O.Sink disk.old files.old out.old) (outside D.Disk F.Files O.Sink disk.new files.new out.new) }
 {

@@ -1,9 +1,10 @@
-use Rattle.std.proofs.Common.{◌∙◌, inl, map, string_bytes, subst, sym}
+use Rattle.std.proofs.Common.{◌∙◌, ap, inl, map, refl, string_bytes, subst, sym}
+use Rattle.mfdedup.specs.Noted.{NothingNoted}
 use Rattle.mfdedup.specs.Outside.{outside}
 use Rattle.bd_words.specs.Words.{reading}
 use Rattle.mfdedup.specs.Works.{Did}
 use Rattle.mfdedup.specs.declared.progress.Progress.{Progress}
-use Rattle.mfdedup.proofs.Asking.{ends_early}
+use Rattle.mfdedup.proofs.Asking.{ends_early, shows_none}
 use Rattle.mfdedup.proofs.run.run.Goals as goal
 
 pub returns-in-Ok-clause-did : goal.returns-in-Ok-clause-did
@@ -24,3 +25,8 @@ returns-in-Err-clause-did g c =
       works = ends_early (reading (map string_bytes c.args.words.now)) c.in-Err.fault c.none.result before (c.none.ensures.end ∙ c.end_of_words.ensures) (record { commands = c.none.ensures.commands; answers = c.none.ensures.answers; clocks = c.none.ensures.clocks }) c.in-Err.ensures.refused;
       tells = c.report-in-Err.ensures.tells before;
     })
+
+pub returns-in-Err-clause-request : goal.returns-in-Err-clause-request
+returns-in-Err-clause-request g c =
+    shows_none _ c.in-Err.fault c.report-in-Err.result.request _ c.report-in-Err.ensures.request (ap (λ (p : Progress). p.end) c.report-in-Err.ensures.progress ∙ (c.none.ensures.end ∙ c.end_of_words.ensures))
+    (subst NothingNoted (sym c.report-in-Err.ensures.progress) (record { commands = c.none.ensures.commands; answers = c.none.ensures.answers; clocks = c.none.ensures.clocks })) (refl, refl) c.in-Err.ensures.refused
