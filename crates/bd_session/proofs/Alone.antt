@@ -4,12 +4,12 @@ use Rattle.std.proofs.lemmas.List.{length_push}
 use Rattle.bd_model.specs.declared.answer.Answer.{Answer}
 use Rattle.bd_model.specs.declared.command.Command.{Command}
 use Rattle.bd_model.proofs.ListLemmas.{same_some}
-use Rattle.bd_session.specs.Course.{Around}
+use Rattle.bd_store.specs.Attempts.{Scene}
 use Rattle.bd_session.specs.Turns.{Turn, Turns, no_turn, next_turn}
 use Rattle.bd_session.proofs.Turning.{none_answered}
 
 -- the only answer is that of the command's turn, from where the list began
-pub record OneTurn (disk files sink : Type 0) (command : Command) (answer : Answer) (first now : Around) : Type 0 where
+pub record OneTurn (disk files sink : Type 0) (command : Command) (answer : Answer) (first now : Scene) : Type 0 where
   pub moment : ℕ
   pub turn : Turn disk files sink command answer moment first now
 
@@ -17,7 +17,7 @@ only_one : (answers : List Answer) (answer other : Answer) → answers ++ other 
 only_one [] answer other e = (refl, cc e)
 only_one (a ∷ answers) answer other e = absurd (omega (arith, length_push answers other, ap length e))
 
-pub one_turn : {disk files sink : Type 0} {command : Command} {first now : Around} {answers : List Answer} {clocks : List ℕ} → Turns disk files sink (command ∷ []) first answers clocks now → (answer : Answer) → answers ≡ answer ∷ [] → OneTurn disk files sink command answer first now
+pub one_turn : {disk files sink : Type 0} {command : Command} {first now : Scene} {answers : List Answer} {clocks : List ℕ} → Turns disk files sink (command ∷ []) first answers clocks now → (answer : Answer) → answers ≡ answer ∷ [] → OneTurn disk files sink command answer first now
 one_turn no_turn answer is = absurd (cc is)
 one_turn {disk} {files} {sink} {command} {first} {now} (next_turn {answers} {clocks} {before} asked other moment turns there turn) answer is =
     let one = only_one answers answer other is in
@@ -26,5 +26,5 @@ one_turn {disk} {files} {sink} {command} {first} {now} (next_turn {answers} {clo
       moment = moment;
       turn = subst (λ (x : Command). Turn disk files sink x answer moment first now) (sym same)
           (subst (λ (x : Answer). Turn disk files sink asked x moment first now) one.1
-          (subst (λ (x : Around). Turn disk files sink asked other moment x now) (none_answered turns one.0) turn));
+          (subst (λ (x : Scene). Turn disk files sink asked other moment x now) (none_answered turns one.0) turn));
     }

@@ -107,8 +107,8 @@ met_fault found Scrub (StoreDamaged damage) answers next is = absurd answers
 -- ---- what was answered
 
 -- an answer of many lines is that of a list, which touches nothing
-pub long_quiet : (command : Command) (answer : Answer) (before after : Scene) → is_long answer ≡ true → IsAnswerOf before.store.found command (Ok answer) → ReadsByCommand (attempt command (Ok answer) before after) command → KeepsFiles command before.files after.files →
-    (after.disk ≡ before.disk) × (after.files ≡ before.files)
+pub long_quiet : (command : Command) (answer : Answer) (before after : Scene) → is_long answer ≡ true → IsAnswerOf before.store.found command (Ok answer) → ReadsByCommand (attempt command (Ok answer) before after) command → KeepsFiles command before.world.files after.world.files →
+    (after.world.disk ≡ before.world.disk) × (after.world.files ≡ before.world.files)
 long_quiet Listing answer before after long answers reads keeps = (reads, keeps)
 long_quiet (Backup name) (Scrubbed report) before after long answers reads keeps = absurd answers
 long_quiet (Backup name) (Listed lines) before after long answers reads keeps = absurd answers
@@ -134,33 +134,33 @@ arranging_first Settled count e = absurd (cc e)
 arranging_first (Waiting cursor) count e = eqb-true count 2 e
 
 -- what was read between the clocks of a command, by its answer
-module _ (shape : Shape) (st : VersionState) (phase : Phase) (files : FileMap) (before after : Scene) (held : before.store.held ≡ 0) (agrees : Agrees before.store.found before.disk) (agrees_after : Agrees after.store.found after.disk)
-    (writes : WritesOnly (λ place. 64 ≤ place) before.disk after.disk) (stands : StandsFor shape st phase 0 (contents before.disk)) where
-  walked : (v : ℕ) → Near (history shape st) → WalksTo before.store.held before.store.found v before.disk after.disk → RestoreReads shape st after.disk (clock before.disk) (clock after.disk) v
+module _ (shape : Shape) (st : VersionState) (phase : Phase) (files : FileMap) (before after : Scene) (held : before.store.held ≡ 0) (agrees : Agrees before.store.found before.world.disk) (agrees_after : Agrees after.store.found after.world.disk)
+    (writes : WritesOnly (λ place. 64 ≤ place) before.world.disk after.world.disk) (stands : StandsFor shape st phase 0 (contents before.world.disk)) where
+  walked : (v : ℕ) → Near (history shape st) → WalksTo before.store.held before.store.found v before.world.disk after.world.disk → RestoreReads shape st after.world.disk (clock before.world.disk) (clock after.world.disk) v
   walked v near walks =
-      let walk = walks.each shape st phase near (subst (λ h. StandsFor shape st phase h (contents before.disk)) (sym held) stands) in
+      let walk = walks.each shape st phase near (subst (λ h. StandsFor shape st phase h (contents before.world.disk)) (sym held) stands) in
       record { found = before.store.found; before = ap opened (at_start writes) ∙ agrees.opens; places = reads_of_run walk.0; lean = walk.1 }
 
   -- an expiry that doesn't arrange reads nothing and drops the oldest version
-  dropped : 1 ≤ retained_in before.store.found.catalogue → (arranges_first before.store.found ≡ false → IsLeanExpiry before.store.found after.store.found before.disk after.disk × ReadsOnly [] before.disk after.disk) →
-      ExpiryReads after.disk (clock before.disk) (clock after.disk)
+  dropped : 1 ≤ retained_in before.store.found.catalogue → (arranges_first before.store.found ≡ false → IsLeanExpiry before.store.found after.store.found before.world.disk after.world.disk × ReadsOnly [] before.world.disk after.world.disk) →
+      ExpiryReads after.world.disk (clock before.world.disk) (clock after.world.disk)
   dropped some lean = record {
     before = before.store.found;
     after = after.store.found;
     before_it = ap opened (at_start writes) ∙ agrees.opens;
-    after_it = ap opened (at_now after.disk) ∙ agrees_after.opens;
-    so = elim (arranges_first before.store.found) as (λ b. arranges_first before.store.found ≡ b → ArrangesFirst before.store.found.catalogue.phase (retained_in before.store.found.catalogue) ⊎ ExpiryDrops after.disk (clock before.disk) (clock after.disk) before.store.found after.store.found) [
+    after_it = ap opened (at_now after.world.disk) ∙ agrees_after.opens;
+    so = elim (arranges_first before.store.found) as (λ b. arranges_first before.store.found ≡ b → ArrangesFirst before.store.found.catalogue.phase (retained_in before.store.found.catalogue) ⊎ ExpiryDrops after.world.disk (clock before.world.disk) (clock after.world.disk) before.store.found after.store.found) [
       | true ↦ λ e. inl (arranging_first before.store.found.catalogue.phase (retained_in before.store.found.catalogue) e)
       | false ↦ λ e. inr (record {
         places = reads_of_run (lean e).1;
-        drops = subst (Drops (retained_in before.store.found.catalogue) before.store.found.catalogue) (sym (lean e).0.catalogue) (drops_oldest before.store.found.sizes before.store.found.catalogue (opened-found (contents before.disk) before.store.found agrees.opens).obeys some);
+        drops = subst (Drops (retained_in before.store.found.catalogue) before.store.found.catalogue) (sym (lean e).0.catalogue) (drops_oldest before.store.found.sizes before.store.found.catalogue (opened-found (contents before.world.disk) before.store.found agrees.opens).obeys some);
       })
     ] refl;
   }
 
   pub reads_for : (command : Command) (answer : Answer) → IsNear (task shape 0 st files command) → IsAnswerOf before.store.found command (Ok answer) → ReadsByCommand (attempt command (Ok answer) before after) command →
-      ReadsFor shape st after.disk (clock before.disk) (clock after.disk) answer
-  reads_for (Restore v name) (Restored given bytes) near answers reads = subst (RestoreReads shape st after.disk (clock before.disk) (clock after.disk)) (sym answers.2) (walked v near reads.layout)
+      ReadsFor shape st after.world.disk (clock before.world.disk) (clock after.world.disk) answer
+  reads_for (Restore v name) (Restored given bytes) near answers reads = subst (RestoreReads shape st after.world.disk (clock before.world.disk) (clock after.world.disk)) (sym answers.2) (walked v near reads.layout)
   reads_for (Restore v name) (Expired given extents) near answers reads = absurd answers
   reads_for (Restore v name) _ near answers reads = tt
   reads_for (Backup name) (Restored given bytes) near answers reads = absurd answers

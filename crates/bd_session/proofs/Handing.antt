@@ -6,9 +6,10 @@ use Rattle.bd_model.specs.Texts.{answer_text}
 use Rattle.bd_model.specs.declared.answer.Answer.{Answer}
 use Rattle.bd_model.specs.declared.answer.Answer.TheVariants.{FullNumbers}
 use Rattle.bd_model.specs.declared.command.Command.{Command}
+use Rattle.bd_store.specs.Attempts.{Scene}
 use Rattle.bd_store.specs.declared.fault.StoreFault.{StoreFault}
-use Rattle.bd_session.specs.Course.{Around, Course}
-use Rattle.bd_session.specs.Ends.{EndsBy}
+use Rattle.bd_session.specs.Course.{Course}
+use Rattle.bd_session.specs.Ends.{Cause, EndsBy, session_cause}
 use Rattle.bd_session.specs.Telling.{HandsAnswers, told}
 use Rattle.bd_session.specs.Turns.{AllAnswered, Goes, LastTurn, NoneBegun, NotBegun, Turns, no_turn, next_turn}
 use Rattle.bd_session.proofs.Turning.{unsaid}
@@ -27,9 +28,9 @@ record HandedSoFar (disk : Type 0) (answers : List Answer) (clocks : List ℕ) (
   paired : length moments ≡ length answers
   so : now ≡ before ++ told moments answers
 
-module _ {disk files sink : Type 0} {commands : List Command} {first : Around} (tells : sink) where
-  so_far : {answers : List Answer} {clocks : List ℕ} {now : Around} → Turns disk files sink commands first answers clocks now → HandedSoFar disk answers clocks first.handed now.handed
-  so_far no_turn = record { moments = []; are = λ _. refl; paired = refl; so = sym (append-nil first.handed) }
+module _ {disk files sink : Type 0} {commands : List Command} {first : Scene} (tells : sink) where
+  so_far : {answers : List Answer} {clocks : List ℕ} {now : Scene} → Turns disk files sink commands first answers clocks now → HandedSoFar disk answers clocks first.world.handed now.world.handed
+  so_far no_turn = record { moments = []; are = λ _. refl; paired = refl; so = sym (append-nil first.world.handed) }
   so_far (next_turn {answers} {clocks} command answer moment turns there turn) =
       let earlier = so_far turns in
       let on = turn.handed tells in
@@ -37,18 +38,18 @@ module _ {disk files sink : Type 0} {commands : List Command} {first : Around} (
         moments = earlier.moments ++ on.noted ∷ [];
         are = λ d. (λ i. earlier.are d i ++ on.is d i ∷ []);
         paired = omega (arith, length_push earlier.moments on.noted, length_push answers answer, earlier.paired);
-        so = on.so ∙ ap (λ l. l ++ whole on.noted (answer_text answer) ∷ []) earlier.so ∙ append_assoc first.handed (told earlier.moments answers) (whole on.noted (answer_text answer) ∷ [])
-            ∙ ap (λ l. first.handed ++ l) (sym (told-push earlier.moments answers on.noted answer earlier.paired));
+        so = on.so ∙ ap (λ l. l ++ whole on.noted (answer_text answer) ∷ []) earlier.so ∙ append_assoc first.world.handed (told earlier.moments answers) (whole on.noted (answer_text answer) ∷ [])
+            ∙ ap (λ l. first.world.handed ++ l) (sym (told-push earlier.moments answers on.noted answer earlier.paired));
       }
 
 -- nothing behind the texts
-whole_only : {disk : Type 0} {c : Course} {before last now : List Handed} → HandedSoFar disk c.answers c.clocks before last → now ≡ last → HandsAnswers disk c before now
-whole_only {disk} {c} {before} {last} {now} far same = record {
+whole_only : {disk : Type 0} {answers : List Answer} {clocks : List ℕ} {cause : Cause} {before last now : List Handed} → HandedSoFar disk answers clocks before last → now ≡ last → HandsAnswers disk answers clocks cause before now
+whole_only {disk} {answers} {clocks} {cause} {before} {last} {now} far same = record {
   moments = far.moments;
   are = far.are;
   paired = far.paired;
   rest = [];
-  so = same ∙ far.so ∙ ap (λ l. before ++ l) (sym (append-nil (told far.moments c.answers)));
+  so = same ∙ far.so ∙ ap (λ l. before ++ l) (sym (append-nil (told far.moments answers)));
   nothing = λ _. refl;
   part = (FullNumbers, record { so = inl refl });
 }
@@ -60,15 +61,15 @@ rest_of {text} {old} {new} hands = by_so hands.so where
   by_so (inl same) = ([], same ∙ sym (append-nil old), record { so = inl refl })
   by_so (inr (count, more)) = (part (take count text) ∷ [], more, record { so = inr (count, refl) })
 
-pub hands_answers : {disk files sink : Type 0} {c : Course} {first now : Around} → Goes disk files sink c first now → sink → HandsAnswers disk c first.handed now.handed
+pub hands_answers : {disk files sink : Type 0} {c : Course} {first now : Scene} → Goes disk files sink c first now → sink → HandsAnswers disk c.answers c.clocks (session_cause c.ending) first.world.handed now.world.handed
 hands_answers {disk} {files} {sink} {c} {first} {now} goes tells = by_end goes.ends where
-  far : HandedSoFar disk c.answers c.clocks first.handed goes.last.handed
+  far : HandedSoFar disk c.answers c.clocks first.world.handed goes.last.world.handed
   far = so_far tells goes.turns
 
-  unmoved : now ≡ goes.last → HandsAnswers disk c first.handed now.handed
-  unmoved e = whole_only far (ap (λ (x : Around). x.handed) e)
+  unmoved : now ≡ goes.last → HandsAnswers disk c.answers c.clocks (session_cause c.ending) first.world.handed now.world.handed
+  unmoved e = whole_only far (ap (λ (x : Scene). x.world.handed) e)
 
-  by_result : (result : Result Answer StoreFault) → EndsBy sink result c.ending goes.last now → HandsAnswers disk c first.handed now.handed
+  by_result : (result : Result Answer StoreFault) → EndsBy sink result c.ending goes.last.world now.world → HandsAnswers disk c.answers c.clocks (session_cause c.ending) first.world.handed now.world.handed
   by_result (Err fault) ends = whole_only far ends.1.handed
   by_result (Ok answer) ends =
       ⊎_elim
@@ -79,14 +80,14 @@ hands_answers {disk} {files} {sink} {c} {first} {now} goes tells = by_end goes.e
         are = far.are;
         paired = far.paired;
         rest = left.0;
-        so = left.1 ∙ ap (λ l. l ++ left.0) far.so ∙ append_assoc first.handed (told far.moments c.answers) left.0;
-        nothing = λ other. absurd (other out.0);
+        so = left.1 ∙ ap (λ l. l ++ left.0) far.so ∙ append_assoc first.world.handed (told far.moments c.answers) left.0;
+        nothing = λ other. absurd (other (ap session_cause out.0));
         part = (answer, left.2);
       })
       (λ memory. whole_only far memory.2.handed)
-      (unsaid sink answer c.ending goes.last now ends)
+      (unsaid sink answer c.ending goes.last.world now.world ends)
 
-  by_end : AllAnswered c goes.last now ⊎ NoneBegun c goes.last now ⊎ NotBegun c goes.last now ⊎ LastTurn disk files sink c goes.last now → HandsAnswers disk c first.handed now.handed
+  by_end : AllAnswered c goes.last now ⊎ NoneBegun c goes.last now ⊎ NotBegun c goes.last now ⊎ LastTurn disk files sink c goes.last now → HandsAnswers disk c.answers c.clocks (session_cause c.ending) first.world.handed now.world.handed
   by_end (inl all) = unmoved all.same
   by_end (inr (inl begun)) = unmoved begun.same
   by_end (inr (inr (inl not_begun))) = unmoved not_begun.same

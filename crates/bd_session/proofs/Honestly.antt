@@ -6,6 +6,7 @@ use Rattle.std.proofs.lemmas.Option.{slice_get_within}
 use Rattle.bd_disk.specs.History.{History, clock, contents}
 use Rattle.bd_disk.specs.Made.{LeavesNow, LeavesSince, WritesOnly}
 use Rattle.bd_disk.proofs.Frames.{leaves_same, made_none}
+use Rattle.bd_files.specs.World.{Faults}
 use Rattle.bd_model.specs.FileMap.{FileMap}
 use Rattle.bd_model.specs.State.{VersionState}
 use Rattle.bd_model.specs.Step.{Outcome, phase_after}
@@ -20,17 +21,16 @@ use Rattle.bd_model.proofs.ListLemmas.{same_some}
 use Rattle.bd_catalog.specs.Standing.{Stands, StandsFor}
 use Rattle.bd_store.specs.Deeds.{target_of}
 use Rattle.bd_store.specs.Attempts.{Meets, MeetsOnBoth, Scene, attempt}
-use Rattle.bd_store.specs.Causes.{Counts}
 use Rattle.bd_store.specs.Steps.{Task, task, Answered, IsNear, IsOneStep, KeepsFiles, MakesStep}
 use Rattle.bd_store.specs.Stops.{IsSafeAtStops, StopsOnEitherSide}
 use Rattle.bd_store.specs.declared.fault.StoreFault.{StoreFault}
 use Rattle.bd_store.specs.declared.fault.StoreFault.TheVariants.{SourceFault as StoreSource, TargetFault as StoreTarget, DiskFault as StoreDisk, Damaged as StoreDamaged, OutOfMemory as StoreMemory}
-use Rattle.bd_session.specs.Course.{Around, Course, answered}
-use Rattle.bd_session.specs.Ends.{EndsBy, EndsByCount, end_of}
+use Rattle.bd_session.specs.Course.{Course, answered}
+use Rattle.bd_session.specs.Ends.{EndsBy, EndsByCount, end_of, session_cause}
 use Rattle.bd_session.specs.Headline.{IsHalfWritten, LeavesTarget, MeetsTheHeadline, NoFault, carried_out, last_state}
 use Rattle.bd_session.specs.Promised.{IsHonest, IsPromised, MarksTellApart, Start, start}
 use Rattle.bd_session.specs.Session.{MeetsHonestly}
-use Rattle.bd_session.specs.Turns.{AllAnswered, Goes, LastTurn, NoneBegun, NotBegun, Turns, no_turn, next_turn}
+use Rattle.bd_session.specs.Turns.{before_text, AllAnswered, Goes, LastTurn, NoneBegun, NotBegun, Turns, no_turn, next_turn}
 use Rattle.bd_session.specs.declared.report.SessionEnd.{SessionEnd}
 use Rattle.bd_session.specs.declared.report.SessionEnd.TheVariants.{Done, SourceFault, TargetFault, DiskFault, Damaged, OutputFault, OutOfMemory, Unbuilt}
 use Rattle.bd_session.proofs.ByCommand.{long_quiet, phase_after-room, reads_for, target_or_kept, writes_beyond}
@@ -40,18 +40,18 @@ use Rattle.bd_session.proofs.Turning.{IsOpen, along, by_count, damage_end, open_
 
 -- ---- one command from where the others led
 
-module _ (s : Start) (commands : List Command) (answers : List Answer) (clocks : List ℕ) (before after : Scene) (g : HasGone s commands answers clocks before.disk before.files)
-    (held : before.store.held ≡ 0) (command : Command) (near : IsNear (task s.shape 0 g.point.state g.point.files command)) (result : Result Answer StoreFault) (both : MeetsOnBoth (attempt command result before after)) where
-  made : MakesStep (task s.shape 0 g.point.state g.point.files command) g.phase (contents after.disk) after.files result
+module _ (s : Start) (commands : List Command) (answers : List Answer) (clocks : List ℕ) (before after : Scene) (g : HasGone s commands answers clocks before.world.disk before.world.files)
+    (held : before.store.held ≡ 0) (command : Command) (near : IsNear (task s.shape 0 g.point.state g.point.files command)) (result : Result Answer StoreFault) (both : MeetsOnBoth (attempt command result before (before_text before after))) where
+  made : MakesStep (task s.shape 0 g.point.state g.point.files command) g.phase (contents after.world.disk) after.world.files result
   made =
-      let free : IsOneStep command 0 0 before.disk after.disk before.files after.files result = subst (λ h. IsOneStep command h h before.disk after.disk before.files after.files result) held both.step in
-      let here : IsOneStep command 0 0 before.disk after.disk g.point.files after.files result = subst (λ (m : FileMap). IsOneStep command 0 0 before.disk after.disk m after.files result) g.beside free in
+      let free : IsOneStep command 0 0 before.world.disk after.world.disk before.world.files after.world.files result = subst (λ h. IsOneStep command h h before.world.disk after.world.disk before.world.files after.world.files result) held both.step in
+      let here : IsOneStep command 0 0 before.world.disk after.world.disk g.point.files after.world.files result = subst (λ (m : FileMap). IsOneStep command 0 0 before.world.disk after.world.disk m after.world.files result) g.beside free in
       here.each s.shape g.point.state g.phase near g.stands
 
-  stopped : StopsOnEitherSide (task s.shape 0 g.point.state g.point.files command) before.disk after.disk result
+  stopped : StopsOnEitherSide (task s.shape 0 g.point.state g.point.files command) before.world.disk after.world.disk result
   stopped =
-      let free : IsSafeAtStops command 0 0 before.disk after.disk before.files result = subst (λ h. IsSafeAtStops command h h before.disk after.disk before.files result) held both.stops in
-      let here : IsSafeAtStops command 0 0 before.disk after.disk g.point.files result = subst (λ (m : FileMap). IsSafeAtStops command 0 0 before.disk after.disk m result) g.beside free in
+      let free : IsSafeAtStops command 0 0 before.world.disk after.world.disk before.world.files result = subst (λ h. IsSafeAtStops command h h before.world.disk after.world.disk before.world.files result) held both.stops in
+      let here : IsSafeAtStops command 0 0 before.world.disk after.world.disk g.point.files result = subst (λ (m : FileMap). IsSafeAtStops command 0 0 before.world.disk after.world.disk m result) g.beside free in
       here.each s.shape g.point.state near g.sure
 
 -- the phase of the outcome is that of the answer
@@ -65,28 +65,28 @@ sure_on t phase answer files old new done stops = subst (λ (o : Outcome). Leave
 
 -- ---- the turns
 
-module _ {disk files sink : Type 0} {commands : List Command} {first : Around} (told : disk) (files_told : files) (shape : Shape) (st : VersionState) (phase : Phase) (opened : IsOpen disk first) (held : first.scene.store.held ≡ 0)
-    (honest : IsHonest (start shape st phase first.scene)) (n : ℕ) (apart : MarksTellApart (start shape st phase first.scene) commands n) where
-  held_on : {answers : List Answer} {clocks : List ℕ} {now : Around} → Turns disk files sink commands first answers clocks now → now.scene.store.held ≡ 0
+module _ {disk files sink : Type 0} {commands : List Command} {first : Scene} (told : disk) (files_told : files) (shape : Shape) (st : VersionState) (phase : Phase) (opened : IsOpen disk first) (held : first.store.held ≡ 0)
+    (honest : IsHonest (start shape st phase first.world)) (n : ℕ) (apart : MarksTellApart (start shape st phase first.world) commands n) where
+  held_on : {answers : List Answer} {clocks : List ℕ} {now : Scene} → Turns disk files sink commands first answers clocks now → now.store.held ≡ 0
   held_on turns = along (λ a b. b.store.held ≡ a.store.held) (λ a. refl) (λ a b c e f. f ∙ e) (λ command result a b meets. meets.store.held) turns ∙ held
 
-  has_gone : {answers : List Answer} {clocks : List ℕ} {now : Around} → Turns disk files sink commands first answers clocks now → length answers ≤ n → HasGone (start shape st phase first.scene) commands answers clocks now.scene.disk now.scene.files
-  has_gone no_turn low = none_gone (start shape st phase first.scene) commands honest
+  has_gone : {answers : List Answer} {clocks : List ℕ} {now : Scene} → Turns disk files sink commands first answers clocks now → length answers ≤ n → HasGone (start shape st phase first.world) commands answers clocks now.world.disk now.world.files
+  has_gone no_turn low = none_gone (start shape st phase first.world) commands honest
   has_gone (next_turn {answers} {clocks} {before} {after} command answer moment turns there turn) low =
-      let s = start shape st phase first.scene in
+      let s = start shape st phase first.world in
       let pushed : length (answers ++ answer ∷ []) ≡ length answers + 1 = length_push answers answer in
-      let g : HasGone s commands answers clocks before.scene.disk before.scene.files = has_gone turns (omega (arith, low, pushed)) in
+      let g : HasGone s commands answers clocks before.world.disk before.world.files = has_gone turns (omega (arith, low, pushed)) in
       let near : IsNear (task shape 0 g.point.state g.point.files command) = apart.each (length answers) (omega (arith, low, pushed)) command there g.point g.leads in
       let t = task shape 0 g.point.state g.point.files command in
       let both = turn.meets.on_both told files_told in
       let on_disk = turn.meets.on_disk told in
-      let done : Answered t g.phase answer (contents after.scene.disk) after.scene.files = made s commands answers clocks before.scene after.scene g (held_on turns) command near (Ok answer) both in
-      let stops : StopsOnEitherSide t before.scene.disk after.scene.disk (Ok answer) = stopped s commands answers clocks before.scene after.scene g (held_on turns) command near (Ok answer) both in
-      let writes : WritesOnly (λ place. 64 ≤ place) before.scene.disk after.scene.disk = writes_beyond before.scene.store.found command on_disk.writes in
-      subst (λ m. HasGone s commands (answers ++ answer ∷ []) (clocks ++ m ∷ []) after.scene.disk after.scene.files) (sym (turn.clock told))
-      (goes_on s commands answers clocks before.scene.disk after.scene.disk before.scene.files after.scene.files g command there done.outcome done.leads answer done.says writes
-      (stands_on t g.phase answer (contents after.scene.disk) after.scene.files done) (sure_on t g.phase answer after.scene.files before.scene.disk after.scene.disk done stops) stops.within done.beside
-      (reads_for shape g.point.state g.phase g.point.files before.scene after.scene (held_on turns) ((still_open turns opened).agrees told) ((open_after turn (still_open turns opened)).agrees told) writes g.stands command answer near turn.meets.answer on_disk.reads))
+      let done : Answered t g.phase answer (contents after.world.disk) after.world.files = made s commands answers clocks before after g (held_on turns) command near (Ok answer) both in
+      let stops : StopsOnEitherSide t before.world.disk after.world.disk (Ok answer) = stopped s commands answers clocks before after g (held_on turns) command near (Ok answer) both in
+      let writes : WritesOnly (λ place. 64 ≤ place) before.world.disk after.world.disk = writes_beyond before.store.found command on_disk.writes in
+      subst (λ m. HasGone s commands (answers ++ answer ∷ []) (clocks ++ m ∷ []) after.world.disk after.world.files) (sym (turn.clock told))
+      (goes_on s commands answers clocks before.world.disk after.world.disk before.world.files after.world.files g command there done.outcome done.leads answer done.says writes
+      (stands_on t g.phase answer (contents after.world.disk) after.world.files done) (sure_on t g.phase answer after.world.files before.world.disk after.world.disk done stops) stops.within done.beside
+      (reads_for shape g.point.state g.phase g.point.files before (before_text before after) (held_on turns) ((still_open turns opened).agrees told) ((open_after turn (still_open turns opened)).agrees told) writes g.stands command answer near turn.meets.answer on_disk.reads))
 
 -- ---- the ends
 
@@ -109,20 +109,20 @@ leaves_memory = record { not_done = λ e. cc e; not_out = λ e. cc e; carried = 
 leaves_unbuilt : Leaves Unbuilt
 leaves_unbuilt = record { not_done = λ e. cc e; not_out = λ e. cc e; carried = λ k. refl; last = λ k. refl }
 
-module _ {disk files sink : Type 0} {c : Course} {first now : Around} (told : disk) (files_told : files) (opened : IsOpen disk first) (held : first.scene.store.held ≡ 0) (goes : Goes disk files sink c first now)
-    (shape : Shape) (st : VersionState) (phase : Phase) (promised : IsPromised (start shape st phase first.scene) c.commands (answered c + 1)) where
+module _ {disk files sink : Type 0} {c : Course} {first now : Scene} (told : disk) (files_told : files) (opened : IsOpen disk first) (held : first.store.held ≡ 0) (goes : Goes disk files sink c first now)
+    (shape : Shape) (st : VersionState) (phase : Phase) (promised : IsPromised (start shape st phase first.world) c.commands (answered c + 1)) where
   abbrev s : Start
-  s = start shape st phase first.scene
+  s = start shape st phase first.world
 
-  g : HasGone s c.commands c.answers c.clocks goes.last.scene.disk goes.last.scene.files
+  g : HasGone s c.commands c.answers c.clocks goes.last.world.disk goes.last.world.files
   g = has_gone told files_told shape st phase opened held promised.disk (answered c + 1) promised.chunks goes.turns (omega arith)
 
   -- nothing was done behind the last answer
-  unmoved : Leaves c.ending → (c.ending ≢ OutOfMemory → answered c < length c.commands) → now.scene.disk ≡ goes.last.scene.disk → now.scene.files ≡ goes.last.scene.files → MeetsTheHeadline s (clock s.disk) c now.scene.disk now.scene.files
+  unmoved : Leaves c.ending → (c.ending ≢ OutOfMemory → answered c < length c.commands) → now.world.disk ≡ goes.last.world.disk → now.world.files ≡ goes.last.world.files → MeetsTheHeadline s (clock s.disk) c now.world.disk now.world.files
   unfolding g
   unmoved leaves cut same same_files =
-      subst (λ (h : History). MeetsTheHeadline s (clock s.disk) c h now.scene.files) (sym same)
-      (ends_kept s c goes.last.scene.disk goes.last.scene.disk goes.last.scene.files g (made_none _ _) now.scene.files leaves.not_done leaves.not_out (leaves.carried (answered c)) (leaves.last (answered c)) cut
+      subst (λ (h : History). MeetsTheHeadline s (clock s.disk) c h now.world.files) (sym same)
+      (ends_kept s c goes.last.world.disk goes.last.world.disk goes.last.world.files g (made_none _ _) now.world.files leaves.not_done leaves.not_out (leaves.carried (answered c)) (leaves.last (answered c)) cut
       (record { phase = g.phase; so = g.stands }) (leaves_same refl g.sure) (λ name. inr (ap (λ (m : FileMap). map.get m name) (same_files ∙ g.beside))))
 
   -- the last command
@@ -134,72 +134,72 @@ module _ {disk files sink : Type 0} {c : Course} {first now : Around} (told : di
     abbrev t : Task
     t = task shape 0 g.point.state g.point.files turn.command
 
-    held_last : goes.last.scene.store.held ≡ 0
+    held_last : goes.last.store.held ≡ 0
     held_last = held_on told files_told shape st phase opened held promised.disk (answered c + 1) promised.chunks goes.turns
 
-    writes : WritesOnly (λ place. 64 ≤ place) goes.last.scene.disk now.scene.disk
-    writes = writes_beyond goes.last.scene.store.found turn.command (turn.meets.on_disk told).writes
+    writes : WritesOnly (λ place. 64 ≤ place) goes.last.world.disk now.world.disk
+    writes = writes_beyond goes.last.store.found turn.command (turn.meets.on_disk told).writes
 
     more : answered c < length c.commands
     more = slice_get_within c.commands (answered c) turn.command turn.next
 
     -- each file but a half written target is as before
-    half_or_kept : LeavesTarget c.ending → KeepsFiles turn.command g.point.files now.scene.files → (name : List ℕ) → IsHalfWritten c name ⊎ (map.get now.scene.files name ≡ map.get g.point.files name)
-    half_or_kept leaves keeps name = by_name (target_or_kept (target_of turn.command) g.point.files now.scene.files name keeps) where
-      by_name : (target_of turn.command ≡ Some name) ⊎ (map.get now.scene.files name ≡ map.get g.point.files name) → IsHalfWritten c name ⊎ (map.get now.scene.files name ≡ map.get g.point.files name)
+    half_or_kept : LeavesTarget c.ending → KeepsFiles turn.command g.point.files now.world.files → (name : List ℕ) → IsHalfWritten c name ⊎ (map.get now.world.files name ≡ map.get g.point.files name)
+    half_or_kept leaves keeps name = by_name (target_or_kept (target_of turn.command) g.point.files now.world.files name keeps) where
+      by_name : (target_of turn.command ≡ Some name) ⊎ (map.get now.world.files name ≡ map.get g.point.files name) → IsHalfWritten c name ⊎ (map.get now.world.files name ≡ map.get g.point.files name)
       by_name (inl target) = inl (record { command = turn.command; next = turn.next; target = target; fault = leaves })
       by_name (inr same) = inr same
 
     -- an end that leaves the state
-    left : Leaves c.ending → Stands shape 0 g.point.state (contents now.scene.disk) → LeavesSince (Stands shape 0 g.point.state) goes.last.scene.disk now.scene.disk → ((name : List ℕ) → IsHalfWritten c name ⊎ (map.get now.scene.files name ≡ map.get g.point.files name)) →
-        MeetsTheHeadline s (clock s.disk) c now.scene.disk now.scene.files
+    left : Leaves c.ending → Stands shape 0 g.point.state (contents now.world.disk) → LeavesSince (Stands shape 0 g.point.state) goes.last.world.disk now.world.disk → ((name : List ℕ) → IsHalfWritten c name ⊎ (map.get now.world.files name ≡ map.get g.point.files name)) →
+        MeetsTheHeadline s (clock s.disk) c now.world.disk now.world.files
     left leaves stands within beside =
-        ends_kept s c goes.last.scene.disk now.scene.disk goes.last.scene.files g writes now.scene.files leaves.not_done leaves.not_out (leaves.carried (answered c)) (leaves.last (answered c)) (λ _. more) stands within beside
+        ends_kept s c goes.last.world.disk now.world.disk goes.last.world.files g writes now.world.files leaves.not_done leaves.not_out (leaves.carried (answered c)) (leaves.last (answered c)) (λ _. more) stands within beside
 
-    all_kept : now.scene.files ≡ g.point.files → (name : List ℕ) → IsHalfWritten c name ⊎ (map.get now.scene.files name ≡ map.get g.point.files name)
+    all_kept : now.world.files ≡ g.point.files → (name : List ℕ) → IsHalfWritten c name ⊎ (map.get now.world.files name ≡ map.get g.point.files name)
     all_kept same name = inr (ap (λ (m : FileMap). map.get m name) same)
 
-    by_fault : (fault : StoreFault) → c.ending ≡ end_of fault → MakesStep t g.phase (contents now.scene.disk) now.scene.files (Err fault) → StopsOnEitherSide t goes.last.scene.disk now.scene.disk (Err fault) → MeetsTheHeadline s (clock s.disk) c now.scene.disk now.scene.files
+    by_fault : (fault : StoreFault) → c.ending ≡ end_of fault → MakesStep t g.phase (contents now.world.disk) now.world.files (Err fault) → StopsOnEitherSide t goes.last.world.disk now.world.disk (Err fault) → MeetsTheHeadline s (clock s.disk) c now.world.disk now.world.files
     by_fault StoreSource is kept stops = left (subst Leaves (sym is) leaves_source) (record { phase = Settled; so = kept.stands }) stops.done (all_kept kept.beside)
     by_fault StoreTarget is kept stops = left (subst Leaves (sym is) leaves_target) kept.stands stops.done (half_or_kept (subst LeavesTarget (sym is) tt) kept.beside)
     by_fault StoreMemory is kept stops = left (subst Leaves (sym is) leaves_memory) kept.stands stops.done (half_or_kept (subst LeavesTarget (sym is) tt) kept.beside)
-    by_fault StoreDisk is kept stops = ends_failed s c goes.last.scene.disk now.scene.disk goes.last.scene.files g writes turn.command turn.next now.scene.files is kept.stands stops.within (half_or_kept (subst LeavesTarget (sym is) tt) kept.beside)
+    by_fault StoreDisk is kept stops = ends_failed s c goes.last.world.disk now.world.disk goes.last.world.files g writes turn.command turn.next now.world.files is kept.stands stops.within (half_or_kept (subst LeavesTarget (sym is) tt) kept.beside)
     by_fault (StoreDamaged damage) is kept stops = absurd kept
 
-    by_result : (result : Result Answer StoreFault) → Meets disk files (attempt turn.command result goes.last.scene now.scene) → EndsBy sink result c.ending goes.last now → MeetsTheHeadline s (clock s.disk) c now.scene.disk now.scene.files
+    by_result : (result : Result Answer StoreFault) → Meets disk files (attempt turn.command result goes.last (before_text goes.last now)) → EndsBy sink result c.ending goes.last.world now.world → MeetsTheHeadline s (clock s.disk) c now.world.disk now.world.files
     by_result (Err fault) meets ends =
         by_fault fault ends.0
-        (made s c.commands c.answers c.clocks goes.last.scene now.scene g held_last turn.command near (Err fault) (meets.on_both told files_told))
-        (stopped s c.commands c.answers c.clocks goes.last.scene now.scene g held_last turn.command near (Err fault) (meets.on_both told files_told))
+        (made s c.commands c.answers c.clocks goes.last now g held_last turn.command near (Err fault) (meets.on_both told files_told))
+        (stopped s c.commands c.answers c.clocks goes.last now g held_last turn.command near (Err fault) (meets.on_both told files_told))
     by_result (Ok answer) meets ends =
-        let done : Answered t g.phase answer (contents now.scene.disk) now.scene.files = made s c.commands c.answers c.clocks goes.last.scene now.scene g held_last turn.command near (Ok answer) (meets.on_both told files_told) in
-        let stops : StopsOnEitherSide t goes.last.scene.disk now.scene.disk (Ok answer) = stopped s c.commands c.answers c.clocks goes.last.scene now.scene g held_last turn.command near (Ok answer) (meets.on_both told files_told) in
+        let done : Answered t g.phase answer (contents now.world.disk) now.world.files = made s c.commands c.answers c.clocks goes.last now g held_last turn.command near (Ok answer) (meets.on_both told files_told) in
+        let stops : StopsOnEitherSide t goes.last.world.disk now.world.disk (Ok answer) = stopped s c.commands c.answers c.clocks goes.last now g held_last turn.command near (Ok answer) (meets.on_both told files_told) in
         ⊎_elim
-        (λ out. ends_unsaid s c goes.last.scene.disk now.scene.disk goes.last.scene.files g writes turn.command turn.next now.scene.files done.outcome done.leads out.0
-        (stands_on t g.phase answer (contents now.scene.disk) now.scene.files done) stops.within done.beside)
+        (λ out. ends_unsaid s c goes.last.world.disk now.world.disk goes.last.world.files g writes turn.command turn.next now.world.files done.outcome done.leads out.0
+        (stands_on t g.phase answer (contents now.world.disk) now.world.files done) stops.within done.beside)
         (λ memory.
-        let quiet = long_quiet turn.command answer goes.last.scene now.scene memory.1 meets.answer (meets.on_disk told).reads (meets.on_files files_told).beside in
+        let quiet = long_quiet turn.command answer goes.last (before_text goes.last now) memory.1 meets.answer (meets.on_disk told).reads (meets.on_files files_told).beside in
         unmoved (subst Leaves (sym memory.0) leaves_memory) (λ other. absurd (other memory.0)) quiet.0 quiet.1)
-        (unsaid sink answer c.ending goes.last now ends)
+        (unsaid sink answer c.ending goes.last.world now.world ends)
 
     -- no damage was met
-    no_damage : (result : Result Answer StoreFault) → Meets disk files (attempt turn.command result goes.last.scene now.scene) → EndsBy sink result c.ending goes.last now → (damage : Damage) → c.ending ≢ Damaged damage
+    no_damage : (result : Result Answer StoreFault) → Meets disk files (attempt turn.command result goes.last (before_text goes.last now)) → EndsBy sink result c.ending goes.last.world now.world → (damage : Damage) → c.ending ≢ Damaged damage
     no_damage (Err fault) meets ends damage is =
-        subst (λ f. MakesStep t g.phase (contents now.scene.disk) now.scene.files (Err f)) (damage_end fault damage (sym ends.0 ∙ is))
-        (made s c.commands c.answers c.clocks goes.last.scene now.scene g held_last turn.command near (Err fault) (meets.on_both told files_told))
-    no_damage (Ok answer) meets ends damage is = ⊎_elim (λ out. no_output (sym out.0 ∙ is)) (λ memory. no_memory (sym memory.0 ∙ is)) (unsaid sink answer c.ending goes.last now ends) where
+        subst (λ f. MakesStep t g.phase (contents now.world.disk) now.world.files (Err f)) (damage_end fault damage (sym ends.0 ∙ is))
+        (made s c.commands c.answers c.clocks goes.last now g held_last turn.command near (Err fault) (meets.on_both told files_told))
+    no_damage (Ok answer) meets ends damage is = ⊎_elim (λ out. no_output (sym out.0 ∙ is)) (λ memory. no_memory (sym memory.0 ∙ is)) (unsaid sink answer c.ending goes.last.world now.world ends) where
       no_output : OutputFault ≡ Damaged damage → ⊥
       no_output e = cc e
 
       no_memory : OutOfMemory ≡ Damaged damage → ⊥
       no_memory e = cc e
 
-  headline_met : AllAnswered c goes.last now ⊎ NoneBegun c goes.last now ⊎ NotBegun c goes.last now ⊎ LastTurn disk files sink c goes.last now → MeetsTheHeadline s (clock s.disk) c now.scene.disk now.scene.files
+  headline_met : AllAnswered c goes.last now ⊎ NoneBegun c goes.last now ⊎ NotBegun c goes.last now ⊎ LastTurn disk files sink c goes.last now → MeetsTheHeadline s (clock s.disk) c now.world.disk now.world.files
   unfolding g
-  headline_met (inl all) = subst (λ (x : Around). MeetsTheHeadline s (clock s.disk) c x.scene.disk x.scene.files) (sym all.same) (ends_done g all.done all.all)
-  headline_met (inr (inl begun)) = unmoved (subst Leaves (sym begun.memory) leaves_memory) (λ other. absurd (other begun.memory)) (ap (λ (x : Around). x.scene.disk) begun.same) (ap (λ (x : Around). x.scene.files) begun.same)
+  headline_met (inl all) = subst (λ (x : Scene). MeetsTheHeadline s (clock s.disk) c x.world.disk x.world.files) (sym all.same) (ends_done g all.done all.all)
+  headline_met (inr (inl begun)) = unmoved (subst Leaves (sym begun.memory) leaves_memory) (λ other. absurd (other begun.memory)) (ap (λ (x : Scene). x.world.disk) begun.same) (ap (λ (x : Scene). x.world.files) begun.same)
   headline_met (inr (inr (inl not_begun))) =
-      unmoved (subst Leaves (sym not_begun.ending) leaves_unbuilt) (λ _. slice_get_within c.commands (answered c) Scrub not_begun.next) (ap (λ (x : Around). x.scene.disk) not_begun.same) (ap (λ (x : Around). x.scene.files) not_begun.same)
+      unmoved (subst Leaves (sym not_begun.ending) leaves_unbuilt) (λ _. slice_get_within c.commands (answered c) Scrub not_begun.next) (ap (λ (x : Scene). x.world.disk) not_begun.same) (ap (λ (x : Scene). x.world.files) not_begun.same)
   headline_met (inr (inr (inr turn))) = by_result turn turn.result turn.meets turn.ends
 
   damage_met : AllAnswered c goes.last now ⊎ NoneBegun c goes.last now ⊎ NotBegun c goes.last now ⊎ LastTurn disk files sink c goes.last now → (damage : Damage) → c.ending ≢ Damaged damage
@@ -215,20 +215,20 @@ module _ {disk files sink : Type 0} {c : Course} {first now : Around} (told : di
   damage_met (inr (inr (inr turn))) damage is = no_damage turn turn.result turn.meets turn.ends damage is
 
 -- without a fault it ends well
-complete : (ending : SessionEnd) (before now : Around) → EndsByCount ending before now → ((damage : Damage) → ending ≢ Damaged damage) → NoFault before now → (ending ≡ Done) ⊎ ((ending ≡ OutOfMemory) ⊎ (ending ≡ Unbuilt))
+complete : (ending : SessionEnd) (before now : Faults) → EndsByCount (session_cause ending) before now → ((damage : Damage) → ending ≢ Damaged damage) → NoFault before now → (ending ≡ Done) ⊎ ((ending ≡ OutOfMemory) ⊎ (ending ≡ Unbuilt))
 complete Done before now cause whole none = inl refl
 complete OutOfMemory before now cause whole none = inr (inl refl)
 complete Unbuilt before now cause whole none = inr (inr refl)
 complete (Damaged damage) before now cause whole none = absurd (whole damage refl)
-complete SourceFault before now cause whole none = absurd (omega (arith, cause.store.0, ap (λ (x : Counts). x.sources) none.same, none.sources))
-complete TargetFault before now cause whole none = absurd (omega (arith, cause.store.0, ap (λ (x : Counts). x.targets) none.same, none.targets))
-complete DiskFault before now cause whole none = absurd (omega (arith, cause.store.0, ap (λ (x : Counts). x.disk) none.same, none.disk))
-complete OutputFault before now cause whole none = absurd (omega (arith, cause.sink, none.sink.0, none.sink.1))
+complete SourceFault before now cause whole none = absurd (omega (arith, cause.0, ap (λ (x : Faults). x.sources) none.same, none.sources))
+complete TargetFault before now cause whole none = absurd (omega (arith, cause.0, ap (λ (x : Faults). x.targets) none.same, none.targets))
+complete DiskFault before now cause whole none = absurd (omega (arith, cause.0, ap (λ (x : Faults). x.disk) none.same, none.disk))
+complete OutputFault before now cause whole none = absurd (omega (arith, cause.0, ap (λ (x : Faults). x.sink) none.same, none.sink))
 
-pub meets_honestly : {disk files sink : Type 0} {c : Course} {first now : Around} → IsOpen disk first → Goes disk files sink c first now → disk → files → first.scene.store.held ≡ 0 → MeetsHonestly c first now
+pub meets_honestly : {disk files sink : Type 0} {c : Course} {first now : Scene} → IsOpen disk first → Goes disk files sink c first now → disk → files → first.store.held ≡ 0 → MeetsHonestly c first.world now.world
 meets_honestly {disk} {files} {sink} {c} {first} {now} opened goes told files_told held = record {
   headline = λ shape st phase promised. headline_met told files_told opened held goes shape st phase promised goes.ends;
   ends = λ shape st phase promised.
       let whole = damage_met told files_told opened held goes shape st phase promised goes.ends in
-      record { whole = whole; complete = complete c.ending first now (by_count goes).cause whole };
+      record { whole = whole; complete = complete c.ending first.world.counts now.world.counts (by_count goes).by whole };
 }

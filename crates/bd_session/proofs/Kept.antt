@@ -12,9 +12,9 @@ use Rattle.bd_catalog.specs.Opening.{Found}
 use Rattle.bd_store.specs.Deeds.{target_of}
 use Rattle.bd_store.specs.Attempts.{IsAnswerOf, Scene, attempt, Meets}
 use Rattle.bd_store.specs.declared.fault.StoreFault.{StoreFault}
-use Rattle.bd_session.specs.Course.{Around, Course, next_command, answered}
+use Rattle.bd_session.specs.Course.{Course, next_command, answered}
 use Rattle.bd_session.specs.Ends.{EndsBy, IsMetBy}
-use Rattle.bd_session.specs.Turns.{AllAnswered, Goes, LastTurn, NoneBegun, NotBegun, Turns, no_turn, next_turn}
+use Rattle.bd_session.specs.Turns.{before_text, AllAnswered, Goes, LastTurn, NoneBegun, NotBegun, Turns, no_turn, next_turn}
 use Rattle.bd_session.specs.Keeping.{ClocksRise, IsTargetBelow, KeepsOthers, StraysOnlyFor, WritesByCommands}
 use Rattle.bd_session.proofs.Turning.{unsaid, paired, to_the_end}
 use Rattle.bd_session.proofs.ByCommand.{met_fault, quiet_writes, target_or_kept, writes_beyond}
@@ -26,26 +26,26 @@ record IsStep (disk files : Type 0) (commands : List Command) (k : ℕ) (a b : S
   command : Command
   there : slice_get commands k ≡ Some command
   result : Result Answer StoreFault
-  meets : Meets disk files (attempt command result a b)
+  meets : Meets disk files (attempt command result a (before_text a b))
 
-module _ {disk files sink : Type 0} {c : Course} {first now : Around} (goes : Goes disk files sink c first now) where
+module _ {disk files sink : Type 0} {c : Course} {first now : Scene} (goes : Goes disk files sink c first now) where
   -- what holds before the first command and is kept by each of those that were tried holds at the end
-  by_steps : (P : ℕ → Scene → Type 0) → ((k : ℕ) (a b : Scene) → k ≤ answered c → IsStep disk files c.commands k a b → P k a → P (k + 1) b) → ((k : ℕ) (a : Scene) → P k a → P (k + 1) a) → P 0 first.scene → P (answered c + 1) now.scene
+  by_steps : (P : ℕ → Scene → Type 0) → ((k : ℕ) (a b : Scene) → k ≤ answered c → IsStep disk files c.commands k a b → P k a → P (k + 1) b) → ((k : ℕ) (a : Scene) → P k a → P (k + 1) a) → P 0 first → P (answered c + 1) now
   by_steps P one wider begun = by_end goes.ends where
-    turned : {answers : List Answer} {clocks : List ℕ} {last : Around} → Turns disk files sink c.commands first answers clocks last → length answers ≤ answered c → P (length answers) last.scene
+    turned : {answers : List Answer} {clocks : List ℕ} {last : Scene} → Turns disk files sink c.commands first answers clocks last → length answers ≤ answered c → P (length answers) last
     turned no_turn low = begun
     turned (next_turn {answers} {clocks} {before} {after} command answer moment turns there turn) low =
-        subst (λ n. P n after.scene) (sym (length_push answers answer))
-        (one (length answers) before.scene after.scene (omega (arith, low, length_push answers answer)) (record { command = command; there = there; result = Ok answer; meets = turn.meets }) (turned turns (omega (arith, low, length_push answers answer))))
+        subst (λ n. P n after) (sym (length_push answers answer))
+        (one (length answers) before after (omega (arith, low, length_push answers answer)) (record { command = command; there = there; result = Ok answer; meets = turn.meets }) (turned turns (omega (arith, low, length_push answers answer))))
 
-    at_last : P (answered c) goes.last.scene
+    at_last : P (answered c) goes.last
     at_last = turned goes.turns (omega arith)
 
-    by_end : AllAnswered c goes.last now ⊎ NoneBegun c goes.last now ⊎ NotBegun c goes.last now ⊎ LastTurn disk files sink c goes.last now → P (answered c + 1) now.scene
-    by_end (inl all) = subst (λ (x : Around). P (answered c + 1) x.scene) (sym all.same) (wider _ _ at_last)
-    by_end (inr (inl begun)) = subst (λ (x : Around). P (answered c + 1) x.scene) (sym begun.same) (wider _ _ at_last)
-    by_end (inr (inr (inl not_begun))) = subst (λ (x : Around). P (answered c + 1) x.scene) (sym not_begun.same) (wider _ _ at_last)
-    by_end (inr (inr (inr turn))) = one (answered c) goes.last.scene now.scene (omega arith) (record { command = turn.command; there = turn.next; result = turn.result; meets = turn.meets }) at_last
+    by_end : AllAnswered c goes.last now ⊎ NoneBegun c goes.last now ⊎ NotBegun c goes.last now ⊎ LastTurn disk files sink c goes.last now → P (answered c + 1) now
+    by_end (inl all) = subst (P (answered c + 1)) (sym all.same) (wider _ _ at_last)
+    by_end (inr (inl begun)) = subst (P (answered c + 1)) (sym begun.same) (wider _ _ at_last)
+    by_end (inr (inr (inl not_begun))) = subst (P (answered c + 1)) (sym not_begun.same) (wider _ _ at_last)
+    by_end (inr (inr (inr turn))) = one (answered c) goes.last now (omega arith) (record { command = turn.command; there = turn.next; result = turn.result; meets = turn.meets }) at_last
 
   -- a target below a number is one below a greater number
   below_more : (k n : ℕ) (name : List ℕ) → k ≤ n → IsTargetBelow c k name → IsTargetBelow c n name
@@ -53,7 +53,7 @@ module _ {disk files sink : Type 0} {c : Course} {first now : Around} (goes : Go
 
   -- each name but targets of restores so far has what it had
   KeptSoFar : ℕ → Scene → Type 0
-  KeptSoFar k a = (name : List ℕ) → IsTargetBelow c k name ⊎ (map.get a.files name ≡ map.get first.scene.files name)
+  KeptSoFar k a = (name : List ℕ) → IsTargetBelow c k name ⊎ (map.get a.world.files name ≡ map.get first.world.files name)
 
   one_keeps : files → (k : ℕ) (a b : Scene) → k ≤ answered c → IsStep disk files c.commands k a b → KeptSoFar k a → KeptSoFar (k + 1) b
   unfolding KeptSoFar
@@ -63,21 +63,21 @@ module _ {disk files sink : Type 0} {c : Course} {first now : Around} (goes : Go
       (λ same. ⊎_elim
       (λ target. inl (record { number = k; command = step.command; below = omega arith; tried = record { tried = low; is = step.there }; target = target }))
       (λ stays. inr (stays ∙ same))
-      (target_or_kept (target_of step.command) a.files b.files name (step.meets.on_files told).beside))
+      (target_or_kept (target_of step.command) a.world.files b.world.files name (step.meets.on_files told).beside))
       (kept name)
 
   wider_keeps : (k : ℕ) (a : Scene) → KeptSoFar k a → KeptSoFar (k + 1) a
   unfolding KeptSoFar
   wider_keeps k a kept name = ⊎_elim (λ before. inl (below_more k (k + 1) name (omega arith) before)) (λ same. inr same) (kept name)
 
-  pub keeps_others : files → KeepsOthers c first.scene.files now.scene.files
+  pub keeps_others : files → KeepsOthers c first.world.files now.world.files
   unfolding KeptSoFar
   keeps_others told = record { others = by_steps KeptSoFar (one_keeps told) wider_keeps (λ name. inr refl) }
 
   -- files and strays so far
   record StraysSoFar (k : ℕ) (a : Scene) : Type 0 where
     kept : KeptSoFar k a
-    strays : StraysOnlyFor c first.scene a
+    strays : StraysOnlyFor c first.world a.world
 
   one_strays : files → (k : ℕ) (a b : Scene) → k ≤ answered c → IsStep disk files c.commands k a b → StraysSoFar k a → StraysSoFar (k + 1) b
   unfolding KeptSoFar
@@ -104,19 +104,19 @@ module _ {disk files sink : Type 0} {c : Course} {first now : Around} (goes : Go
         };
       }
 
-  pub strays_only : files → StraysOnlyFor c first.scene now.scene
+  pub strays_only : files → StraysOnlyFor c first.world now.world
   unfolding KeptSoFar
   strays_only told = (by_steps StraysSoFar (one_strays told) (λ k a far. record { kept = wider_keeps k a far.kept; strays = far.strays })
       (record { kept = λ name. inr refl; strays = record { later = omega arith; missing = inl refl } })).strays
 
   -- ---- the disk
-  beyond : disk → WritesOnly (λ place. 64 ≤ place) first.scene.disk now.scene.disk
-  beyond told = to_the_end goes (λ a b. WritesOnly (λ place. 64 ≤ place) a.disk b.disk) (λ a. made_none _ _) (λ a b d e f. made_both e f) (λ command result a b meets. writes_beyond a.store.found command (meets.on_disk told).writes)
+  beyond : disk → WritesOnly (λ place. 64 ≤ place) first.world.disk now.world.disk
+  beyond told = to_the_end goes (λ a b. WritesOnly (λ place. 64 ≤ place) a.world.disk b.world.disk) (λ a. made_none _ _) (λ a b d e f. made_both e f) (λ command result a b meets. writes_beyond a.store.found command (meets.on_disk told).writes)
 
-  pub by_commands : disk → WritesByCommands c first.scene.disk now.scene.disk
+  pub by_commands : disk → WritesByCommands c first.world.disk now.world.disk
   by_commands told = record {
     beyond = beyond told;
-    nothing = λ quiet. by_steps (λ k a. WritesNothing first.scene.disk a.disk)
+    nothing = λ quiet. by_steps (λ k a. WritesNothing first.world.disk a.world.disk)
         (λ k a b low step far. made_both far (quiet_writes a.store.found step.command (quiet k step.command (record { tried = low; is = step.there })) (step.meets.on_disk told).writes))
         (λ k a far. far) (made_none _ _);
   }
@@ -134,48 +134,48 @@ last-push begun clocks moment =
     ap (λ n. get_or ((begun ∷ clocks) ++ moment ∷ []) n 0) size
     ∙ get_or-append_right (begun ∷ clocks) (moment ∷ []) (length clocks + 1) (length clocks + 1) 0 (omega arith) (omega arith) ∙ ap (λ n. get_or (moment ∷ []) n 0) nothing
 
-module _ {disk files sink : Type 0} {commands : List Command} {first : Around} (told : disk) where
+module _ {disk files sink : Type 0} {commands : List Command} {first : Scene} (told : disk) where
   -- the last clock is the disk's
-  last_clock : {answers : List Answer} {clocks : List ℕ} {now : Around} → Turns disk files sink commands first answers clocks now → last_of (clock first.scene.disk) clocks ≡ clock now.scene.disk
+  last_clock : {answers : List Answer} {clocks : List ℕ} {now : Scene} → Turns disk files sink commands first answers clocks now → last_of (clock first.world.disk) clocks ≡ clock now.world.disk
   last_clock no_turn = refl
-  last_clock (next_turn {answers} {clocks} command answer moment turns there turn) = last-push (clock first.scene.disk) clocks moment ∙ turn.clock told
+  last_clock (next_turn {answers} {clocks} command answer moment turns there turn) = last-push (clock first.world.disk) clocks moment ∙ turn.clock told
 
-  rising : {answers : List Answer} {clocks : List ℕ} {now : Around} → Turns disk files sink commands first answers clocks now → (k : ℕ) → k < length clocks → get_or (clock first.scene.disk ∷ clocks) k 0 ≤ get_or clocks k 0
+  rising : {answers : List Answer} {clocks : List ℕ} {now : Scene} → Turns disk files sink commands first answers clocks now → (k : ℕ) → k < length clocks → get_or (clock first.world.disk ∷ clocks) k 0 ≤ get_or clocks k 0
   rising no_turn k low = absurd (omega (arith, low))
   rising (next_turn {answers} {clocks} {before} {after} command answer moment turns there turn) k low =
       ⊎_elim
-      (λ inside. omega (arith, get_or_append_left (clock first.scene.disk ∷ clocks) (moment ∷ []) 0 k (omega (arith, inside)), get_or_append_left clocks (moment ∷ []) 0 k inside, rising turns k inside))
+      (λ inside. omega (arith, get_or_append_left (clock first.world.disk ∷ clocks) (moment ∷ []) 0 k (omega (arith, inside)), get_or_append_left clocks (moment ∷ []) 0 k inside, rising turns k inside))
       (λ behind.
       let here : k ≡ length clocks = omega (arith, low, length_push clocks moment) in
-      let begun : get_or ((clock first.scene.disk ∷ clocks) ++ moment ∷ []) k 0 ≡ clock before.scene.disk = get_or_append_left (clock first.scene.disk ∷ clocks) (moment ∷ []) 0 k (omega (arith, here)) ∙ ap (λ n. get_or (clock first.scene.disk ∷ clocks) n 0) here ∙ last_clock turns in
+      let begun : get_or ((clock first.world.disk ∷ clocks) ++ moment ∷ []) k 0 ≡ clock before.world.disk = get_or_append_left (clock first.world.disk ∷ clocks) (moment ∷ []) 0 k (omega (arith, here)) ∙ ap (λ n. get_or (clock first.world.disk ∷ clocks) n 0) here ∙ last_clock turns in
       let nothing : length clocks - length clocks ≡ 0 = omega arith in
       let ended : get_or (clocks ++ moment ∷ []) k 0 ≡ moment = ap (λ n. get_or (clocks ++ moment ∷ []) n 0) here ∙ get_or-append_right clocks (moment ∷ []) (length clocks) (length clocks) 0 refl (omega arith) ∙ ap (λ n. get_or (moment ∷ []) n 0) nothing in
-      omega (arith, begun, ended, turn.clock told, later (writes_beyond before.scene.store.found command (turn.meets.on_disk told).writes)))
+      omega (arith, begun, ended, turn.clock told, later (writes_beyond before.store.found command (turn.meets.on_disk told).writes)))
       (cases_lt k (length clocks))
 
-pub clocks_rise : {disk files sink : Type 0} {c : Course} {first now : Around} → Goes disk files sink c first now → ClocksRise disk c first.scene now.scene
+pub clocks_rise : {disk files sink : Type 0} {c : Course} {first now : Scene} → Goes disk files sink c first now → ClocksRise disk c.answers c.clocks first.world.disk now.world.disk
 clocks_rise {disk} {files} {sink} {c} {first} {now} goes = record {
   paired = paired goes.turns;
   rise = λ told. rising told goes.turns;
   last = λ told. omega (arith, last_clock told goes.turns, ends told goes.ends);
 } where
-  ends : disk → AllAnswered c goes.last now ⊎ NoneBegun c goes.last now ⊎ NotBegun c goes.last now ⊎ LastTurn disk files sink c goes.last now → clock goes.last.scene.disk ≤ clock now.scene.disk
-  ends told (inl all) = omega (arith, ap (λ (x : Around). clock x.scene.disk) all.same)
-  ends told (inr (inl begun)) = omega (arith, ap (λ (x : Around). clock x.scene.disk) begun.same)
-  ends told (inr (inr (inl not_begun))) = omega (arith, ap (λ (x : Around). clock x.scene.disk) not_begun.same)
-  ends told (inr (inr (inr turn))) = later (writes_beyond goes.last.scene.store.found turn.command (turn.meets.on_disk told).writes)
+  ends : disk → AllAnswered c goes.last now ⊎ NoneBegun c goes.last now ⊎ NotBegun c goes.last now ⊎ LastTurn disk files sink c goes.last now → clock goes.last.world.disk ≤ clock now.world.disk
+  ends told (inl all) = omega (arith, ap (λ (x : Scene). clock x.world.disk) all.same)
+  ends told (inr (inl begun)) = omega (arith, ap (λ (x : Scene). clock x.world.disk) begun.same)
+  ends told (inr (inr (inl not_begun))) = omega (arith, ap (λ (x : Scene). clock x.world.disk) not_begun.same)
+  ends told (inr (inr (inr turn))) = later (writes_beyond goes.last.store.found turn.command (turn.meets.on_disk told).writes)
 
 -- ---- which command brought the end
 
-pub met_by : {disk files sink : Type 0} {c : Course} {first now : Around} → Goes disk files sink c first now → IsMetBy (next_command c) c.ending
+pub met_by : {disk files sink : Type 0} {c : Course} {first now : Scene} → Goes disk files sink c first now → IsMetBy (next_command c) c.ending
 met_by {disk} {files} {sink} {c} {first} {now} goes = by_end goes.ends where
-  by_result : (command : Command) (found : Found) (result : Result Answer StoreFault) → IsAnswerOf found command result → next_command c ≡ Some command → EndsBy sink result c.ending goes.last now → IsMetBy (next_command c) c.ending
+  by_result : (command : Command) (found : Found) (result : Result Answer StoreFault) → IsAnswerOf found command result → next_command c ≡ Some command → EndsBy sink result c.ending goes.last.world now.world → IsMetBy (next_command c) c.ending
   by_result command found (Err fault) answers is ends = subst (IsMetBy (next_command c)) (sym ends.0) (met_fault found command fault answers (next_command c) is)
   by_result command found (Ok answer) answers is ends =
-      ⊎_elim (λ out. subst (IsMetBy (next_command c)) (sym out.0) tt) (λ memory. subst (IsMetBy (next_command c)) (sym memory.0) tt) (unsaid sink answer c.ending goes.last now ends)
+      ⊎_elim (λ out. subst (IsMetBy (next_command c)) (sym out.0) tt) (λ memory. subst (IsMetBy (next_command c)) (sym memory.0) tt) (unsaid sink answer c.ending goes.last.world now.world ends)
 
   by_end : AllAnswered c goes.last now ⊎ NoneBegun c goes.last now ⊎ NotBegun c goes.last now ⊎ LastTurn disk files sink c goes.last now → IsMetBy (next_command c) c.ending
   by_end (inl all) = subst (IsMetBy (next_command c)) (sym all.done) tt
   by_end (inr (inl begun)) = subst (IsMetBy (next_command c)) (sym begun.memory) tt
   by_end (inr (inr (inl not_begun))) = subst (IsMetBy (next_command c)) (sym not_begun.ending) not_begun.next
-  by_end (inr (inr (inr turn))) = by_result turn.command goes.last.scene.store.found turn.result turn.meets.answer turn.next turn.ends
+  by_end (inr (inr (inr turn))) = by_result turn.command goes.last.store.found turn.result turn.meets.answer turn.next turn.ends

@@ -1,5 +1,6 @@
 -- All that is promised of a list follows from its turns.
-use Rattle.bd_session.specs.Course.{Around, Course}
+use Rattle.bd_store.specs.Attempts.{Scene}
+use Rattle.bd_session.specs.Course.{Course}
 use Rattle.bd_session.specs.Session.{MeetsSession}
 use Rattle.bd_session.specs.Turns.{Goes}
 use Rattle.bd_session.proofs.Honestly.{meets_honestly}
@@ -8,7 +9,7 @@ use Rattle.bd_session.proofs.Kept.{by_commands, clocks_rise, keeps_others, met_b
 use Rattle.bd_session.proofs.Stopping.{catalogues_stay}
 use Rattle.bd_session.proofs.Turning.{IsOpen, by_count, bytes_stay, keeps_store}
 
-pub meets_session : {disk files sink : Type 0} {c : Course} {before now : Around} → IsOpen disk before → Goes disk files sink c before now → MeetsSession disk files sink c before now
+pub meets_session : {disk files sink : Type 0} {c : Course} {before now : Scene} → IsOpen disk before → Goes disk files sink c before now → MeetsSession disk files sink c before now
 meets_session opened goes = record {
   bytes = bytes_stay goes;
   cause = by_count goes;

@@ -5,12 +5,12 @@ use Rattle.std.proofs.lemmas.Option.{slice_get-get_or}
 use Rattle.bd_model.specs.declared.answer.Answer.{Answer}
 use Rattle.bd_model.specs.declared.command.Command.{Command}
 use Rattle.bd_model.specs.declared.command.Command.TheVariants.{Scrub}
-use Rattle.bd_store.specs.Attempts.{Meets, attempt}
+use Rattle.bd_store.specs.Attempts.{Meets, Scene, attempt}
 use Rattle.bd_store.specs.declared.fault.StoreFault.{StoreFault}
-use Rattle.bd_session.specs.Course.{Around, course}
+use Rattle.bd_session.specs.Course.{course}
 use Rattle.bd_session.specs.Ends.{EndsBy}
 use Rattle.bd_session.specs.Session.{MeetsSession}
-use Rattle.bd_session.specs.Turns.{Turn, Turns, no_turn, next_turn}
+use Rattle.bd_session.specs.Turns.{before_text, Turn, Turns, no_turn, next_turn}
 use Rattle.bd_session.specs.declared.report.SessionEnd.{SessionEnd}
 use Rattle.bd_session.specs.declared.report.SessionEnd.TheVariants.{OutOfMemory, Unbuilt}
 use Rattle.bd_session.specs.declared.report.SessionReport.{SessionReport}
@@ -21,7 +21,7 @@ use Rattle.bd_session.proofs.Turning.{HasTurned, IsOpen, few, open_after}
 pub command_at : (commands shown : List Command) (k : ℕ) (command : Command) → shown ≡ commands → k < length shown → command ≡ get_or shown k command → slice_get commands k ≡ Some command
 command_at commands shown k command same low is = subst (λ cs. slice_get cs k ≡ Some command) same (slice_get-get_or shown k command low ∙ ap Some (sym is))
 
-module _ {disk files sink : Type 0} (commands : List Command) (first : Around) where
+module _ {disk files sink : Type 0} (commands : List Command) (first : Scene) where
   -- no command had its turn yet
   pub none_turned : (answers : List Answer) (clocks : List ℕ) → answers ≡ [] → clocks ≡ [] → Turns disk files sink commands first answers clocks first
   none_turned answers clocks e f = subst (λ xs. Turns disk files sink commands first xs clocks first) (sym e) (subst (λ xs. Turns disk files sink commands first [] xs first) (sym f) no_turn)
@@ -32,12 +32,12 @@ module _ {disk files sink : Type 0} (commands : List Command) (first : Around) w
       meets_session opened (record { last = first; turns = none_turned report.answers.items report.clocks.items no_answers no_clocks; ends = inr (inl (record { memory = memory; none = no_answers; same = refl })) })
 
   -- all had their turn
-  pub all_turned : (report : SessionReport) (index : ℕ) (now : Around) → IsOpen disk first → HasTurned disk files sink commands first report index now → length commands ≤ index → MeetsSession disk files sink (course commands report) first now
+  pub all_turned : (report : SessionReport) (index : ℕ) (now : Scene) → IsOpen disk first → HasTurned disk files sink commands first report index now → length commands ≤ index → MeetsSession disk files sink (course commands report) first now
   all_turned report index now opened far high =
       meets_session opened (record { last = now; turns = far.turns; ends = inl (record { done = far.ending; all = omega (arith, far.count, high, few far.turns); same = refl }) })
 
   -- the next command had its turn
-  pub turned : (report : SessionReport) (index : ℕ) (before : Around) → HasTurned disk files sink commands first report index before → (command : Command) → slice_get commands index ≡ Some command → (answer : Answer) (moment : ℕ) (after : Around) → Turn disk files sink command answer moment before after →
+  pub turned : (report : SessionReport) (index : ℕ) (before : Scene) → HasTurned disk files sink commands first report index before → (command : Command) → slice_get commands index ≡ Some command → (answer : Answer) (moment : ℕ) (after : Scene) → Turn disk files sink command answer moment before after →
       (next : SessionReport) → next.answers.items ≡ report.answers.items ++ answer ∷ [] → next.clocks.items ≡ report.clocks.items ++ moment ∷ [] → report.answers.spare ≤ next.answers.spare + 1 → report.clocks.spare ≤ next.clocks.spare + 1 → next.end ≡ report.end →
       HasTurned disk files sink commands first next (index + 1) after
   turned report index before far command there answer moment after turn next answers clocks answers_spare clocks_spare ending = record {
@@ -51,14 +51,14 @@ module _ {disk files sink : Type 0} (commands : List Command) (first : Around) w
   }
 
   -- it brought the end
-  pub ended : (report : SessionReport) (index : ℕ) (before : Around) → IsOpen disk first → HasTurned disk files sink commands first report index before → (command : Command) → slice_get commands index ≡ Some command → (result : Result Answer StoreFault) (now : Around) →
-      Meets disk files (attempt command result before.scene now.scene) → (ending : SessionEnd) → EndsBy sink result ending before now → (last : SessionReport) → last ≡ record report { end = ending } → MeetsSession disk files sink (course commands last) first now
+  pub ended : (report : SessionReport) (index : ℕ) (before : Scene) → IsOpen disk first → HasTurned disk files sink commands first report index before → (command : Command) → slice_get commands index ≡ Some command → (result : Result Answer StoreFault) (now : Scene) →
+      Meets disk files (attempt command result before (before_text before now)) → (ending : SessionEnd) → EndsBy sink result ending before.world now.world → (last : SessionReport) → last ≡ record report { end = ending } → MeetsSession disk files sink (course commands last) first now
   ended report index before opened far command there result now meets ending ends last is =
       subst (λ (r : SessionReport). MeetsSession disk files sink (course commands r) first now) (sym is)
       (meets_session opened (record { last = before; turns = far.turns; ends = inr (inr (inr (record { command = command; next = ap (slice_get commands) far.count ∙ there; result = result; meets = meets; ends = ends }))) }))
 
   -- the next command is a scrub
-  pub not_begun : (report : SessionReport) (index : ℕ) (now : Around) → IsOpen disk first → HasTurned disk files sink commands first report index now → slice_get commands index ≡ Some Scrub → (last : SessionReport) → last ≡ record report { end = Unbuilt } →
+  pub not_begun : (report : SessionReport) (index : ℕ) (now : Scene) → IsOpen disk first → HasTurned disk files sink commands first report index now → slice_get commands index ≡ Some Scrub → (last : SessionReport) → last ≡ record report { end = Unbuilt } →
       MeetsSession disk files sink (course commands last) first now
   not_begun report index now opened far there last is =
       subst (λ (r : SessionReport). MeetsSession disk files sink (course commands r) first now) (sym is)

@@ -5,22 +5,23 @@ use Rattle.bd_disk.proofs.Frames.{leaves_now, leaves_same, leaves_wider}
 use Rattle.bd_model.specs.declared.answer.Answer.{Answer}
 use Rattle.bd_model.specs.declared.command.Command.{Command}
 use Rattle.bd_store.proofs.Opens.{opens_on}
-use Rattle.bd_session.specs.Course.{Around, Course}
+use Rattle.bd_store.specs.Attempts.{Scene}
+use Rattle.bd_session.specs.Course.{Course}
 use Rattle.bd_session.specs.Stops.{OpensAsStore, OpensBehind, CataloguesStay}
 use Rattle.bd_session.specs.Turns.{AllAnswered, Goes, LastTurn, NoneBegun, NotBegun, Turn, Turns, no_turn, next_turn}
 use Rattle.bd_session.proofs.Turning.{IsOpen, open_after, still_open}
 
 module _ {disk files sink : Type 0} (told : disk) where
-  opens_after : {command : Command} {answer : Answer} {moment : ℕ} {before after : Around} → Turn disk files sink command answer moment before after → IsOpen disk before → OpensAsStore before → OpensAsStore after
+  opens_after : {command : Command} {answer : Answer} {moment : ℕ} {before after : Scene} → Turn disk files sink command answer moment before after → IsOpen disk before → OpensAsStore before → OpensAsStore after
   opens_after turn opened sure =
       let after = open_after turn opened in
       opens_on (turn.meets.store.sizes after.sound) (after.agrees told) (leaves_now ((turn.meets.on_disk told).opens sure))
 
-  still_opens : {commands : List Command} {first : Around} {answers : List Answer} {clocks : List ℕ} {now : Around} → Turns disk files sink commands first answers clocks now → IsOpen disk first → OpensAsStore first → OpensAsStore now
+  still_opens : {commands : List Command} {first : Scene} {answers : List Answer} {clocks : List ℕ} {now : Scene} → Turns disk files sink commands first answers clocks now → IsOpen disk first → OpensAsStore first → OpensAsStore now
   still_opens no_turn opened sure = sure
   still_opens (next_turn command answer moment turns there turn) opened sure = opens_after turn (still_open turns opened) (still_opens turns opened sure)
 
-  pub catalogues_stay : {c : Course} {first now : Around} (goes : Goes disk files sink c first now) → IsOpen disk first → OpensAsStore first → CataloguesStay goes
+  pub catalogues_stay : {c : Course} {first now : Scene} (goes : Goes disk files sink c first now) → IsOpen disk first → OpensAsStore first → CataloguesStay goes
   catalogues_stay {c} {first} {now} goes opened sure = record {
     answered = λ turns. still_opens turns opened sure;
     ended = by goes.ends;
@@ -28,8 +29,8 @@ module _ {disk files sink : Type 0} (told : disk) where
     last_sure : OpensAsStore goes.last
     last_sure = still_opens goes.turns opened sure
 
-    Ended : Around → Type 0
-    Ended a = LeavesSince (OpensBehind c goes.last a) goes.last.scene.disk a.scene.disk
+    Ended : Scene → Type 0
+    Ended a = LeavesSince (OpensBehind c goes.last a) goes.last.world.disk a.world.disk
 
     rests : Ended goes.last
     rests = leaves_wider (OpensBehind c goes.last goes.last) (λ image is. inl is) (leaves_same refl last_sure)

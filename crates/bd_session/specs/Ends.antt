@@ -2,6 +2,7 @@
 use Rattle.std.specs.Prelude.{◌≡◌, ℕ, ◌≤◌, List, true, Option, Some, Result, Ok, Err}
 use Rattle.bd_disk.specs.Calls.{Rose}
 use Rattle.bd_files.specs.Sinks.{HandsPart}
+use Rattle.bd_files.specs.World.{Faults, World}
 use Rattle.bd_model.specs.Texts.{answer_text}
 use Rattle.bd_model.specs.declared.answer.Answer.{Answer}
 use Rattle.bd_model.specs.declared.command.Command.{Command}
@@ -12,7 +13,6 @@ use Rattle.bd_store.specs.Deeds.{Deed, TakesIn, GivesBack, GivesUp, Settles, Che
 use Rattle.bd_store.specs.Causes.{HasRisen, NoneFell}
 use Rattle.bd_store.specs.declared.fault.StoreFault.{StoreFault}
 use Rattle.bd_store.specs.declared.fault.StoreFault.TheVariants.{SourceFault as StoreSource, TargetFault as StoreTarget, DiskFault as StoreDisk, Damaged as StoreDamaged, OutOfMemory as StoreMemory}
-use Rattle.bd_session.specs.Course.{Around}
 use Rattle.bd_session.specs.declared.report.SessionEnd.{SessionEnd}
 use Rattle.bd_session.specs.declared.report.SessionEnd.TheVariants.{Done, SourceFault, TargetFault, DiskFault, Damaged, OutputFault, OutOfMemory, Unbuilt}
 
@@ -25,19 +25,19 @@ end_of (StoreDamaged damage) = Damaged damage
 end_of StoreMemory = OutOfMemory
 
 -- the sink wasn't asked for anything
-pub record LeavesSink (before now : Around) : Type 0 where
-  pub faults : now.sink_faults ≡ before.sink_faults
+pub record LeavesSink (before now : World) : Type 0 where
+  pub faults : now.counts.sink ≡ before.counts.sink
   pub handed : now.handed ≡ before.handed
 
 -- the sink failed, and took a part of the text at most
-pub record FailsSink (sink : Type 0) (text : List ℕ) (before now : Around) : Type 0 where
-  pub later : before.sink_faults ≤ now.sink_faults
-  pub faults : Rose before.sink_faults now.sink_faults
+pub record FailsSink (sink : Type 0) (text : List ℕ) (before now : World) : Type 0 where
+  pub later : before.counts.sink ≤ now.counts.sink
+  pub faults : Rose before.counts.sink now.counts.sink
   pub handed : sink → HandsPart text before.handed now.handed
 
 -- Which end a command brings: its fault; or, where it was answered, that the text couldn't be put. For want of memory that
 -- is only the text of many lines.
-abbrev pub EndsBy : Type 0 → Result Answer StoreFault → SessionEnd → Around → Around → Type 0
+abbrev pub EndsBy : Type 0 → Result Answer StoreFault → SessionEnd → World → World → Type 0
 EndsBy sink (Err fault) ending before now = (ending ≡ end_of fault) × LeavesSink before now
 EndsBy sink (Ok answer) OutputFault before now = FailsSink sink (answer_text answer) before now
 EndsBy sink (Ok answer) OutOfMemory before now = (is_long answer ≡ true) × LeavesSink before now
@@ -45,32 +45,31 @@ EndsBy sink (Ok answer) ending before now = ⊥
 
 -- ---- by which count
 
-pub record LeavesCounts (before now : Around) : Type 0 where
-  pub store : now.scene.counts ≡ before.scene.counts
-  pub sink : now.sink_faults ≡ before.sink_faults
+-- what brings an end: an object that a store calls, the sink, or nothing that is called
+pub data Cause : Type 0 where
+  FromStore : StoreFault → Cause
+  FromSink : Cause
+  FromNothing : Cause
 
--- a fault of the store comes by the count of its object, and the sink didn't fail
-pub record StoreFailed (fault : StoreFault) (before now : Around) : Type 0 where
-  pub store : HasRisen fault before.scene.counts now.scene.counts
-  pub sink : now.sink_faults ≡ before.sink_faults
+abbrev pub session_cause : SessionEnd → Cause
+session_cause Done = FromNothing
+session_cause SourceFault = FromStore StoreSource
+session_cause TargetFault = FromStore StoreTarget
+session_cause DiskFault = FromStore StoreDisk
+session_cause (Damaged damage) = FromNothing
+session_cause OutputFault = FromSink
+session_cause OutOfMemory = FromNothing
+session_cause Unbuilt = FromNothing
 
--- the sink failed, and nothing else
-pub record SinkFailed (before now : Around) : Type 0 where
-  pub store : now.scene.counts ≡ before.scene.counts
-  pub sink : Rose before.sink_faults now.sink_faults
+abbrev pub EndsByCount : Cause → Faults → Faults → Type 0
+EndsByCount (FromStore fault) before now = HasRisen fault before now
+EndsByCount FromSink before now = Rose before.sink now.sink × (now ≡ record before { sink = now.sink })
+EndsByCount FromNothing before now = now ≡ before
 
-abbrev pub EndsByCount : SessionEnd → Around → Around → Type 0
-EndsByCount SourceFault before now = StoreFailed StoreSource before now
-EndsByCount TargetFault before now = StoreFailed StoreTarget before now
-EndsByCount DiskFault before now = StoreFailed StoreDisk before now
-EndsByCount OutputFault before now = SinkFailed before now
-EndsByCount ending before now = LeavesCounts before now
-
--- No count falls. Each fault comes by the count of its object; every other end, that for want of memory too, leaves all.
-pub record EndsOnlyByCount (ending : SessionEnd) (before now : Around) : Type 0 where
-  pub later : NoneFell before.scene.counts now.scene.counts
-  pub sink : before.sink_faults ≤ now.sink_faults
-  pub cause : EndsByCount ending before now
+-- No count falls. Each fault comes by the count of its object alone; every other end, that for want of memory too, leaves all.
+pub record EndsOnlyByCount (cause : Cause) (before now : Faults) : Type 0 where
+  pub later : NoneFell before now
+  pub by : EndsByCount cause before now
 
 -- ---- by which command
 

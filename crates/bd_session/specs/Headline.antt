@@ -3,6 +3,7 @@ use Rattle.std.specs.Prelude.{◌≡◌, ◌≢◌, ◌⊎◌, ℕ, ◌+◌, ◌
 use Rattle.std.specs.FinMap as file_map
 use Rattle.bd_disk.specs.History.{History, clock, contents, Since}
 use Rattle.bd_disk.specs.Made.{WritesOnly}
+use Rattle.bd_files.specs.World.{Faults}
 use Rattle.bd_model.specs.FileMap.{FileMap}
 use Rattle.bd_model.specs.declared.command.Command.{Command}
 use Rattle.bd_model.specs.declared.damage.Damage.{Damage}
@@ -11,7 +12,7 @@ use Rattle.bd_model.specs.Folds.{Point, answers_of, unheld}
 use Rattle.bd_model.specs.Step.{without_room}
 use Rattle.bd_catalog.specs.Standing.{StandsFor, Stands}
 use Rattle.bd_store.specs.Deeds.{target_of}
-use Rattle.bd_session.specs.Course.{Around, Course, answered, next_command}
+use Rattle.bd_session.specs.Course.{Course, answered, next_command}
 use Rattle.bd_session.specs.Promised.{Start, reached, phase_reached}
 use Rattle.bd_session.specs.Reads.{ReadsInCourse}
 use Rattle.bd_session.specs.declared.report.SessionEnd.{SessionEnd}
@@ -107,15 +108,15 @@ pub record MeetsTheHeadline (s : Start) (begun : ℕ) (c : Course) (disk : Histo
   pub reads : ReadsInCourse s begun c disk
 
 -- no count rose, and none stands at its last value
-pub record NoFault (before now : Around) : Type 0 where
-  pub same : now.scene.counts ≡ before.scene.counts
-  pub disk : now.scene.counts.disk < 2 ^ 64 - 1
-  pub sources : now.scene.counts.sources < 2 ^ 64 - 1
-  pub targets : now.scene.counts.targets < 2 ^ 64 - 1
-  pub sink : (now.sink_faults ≡ before.sink_faults) × (now.sink_faults < 2 ^ 64 - 1)
+pub record NoFault (before now : Faults) : Type 0 where
+  pub same : now ≡ before
+  pub disk : now.disk < 2 ^ 64 - 1
+  pub sources : now.sources < 2 ^ 64 - 1
+  pub targets : now.targets < 2 ^ 64 - 1
+  pub sink : now.sink < 2 ^ 64 - 1
 
 -- Over an honest disk no damage is met, and without a fault every command up to a scrub, which is still to come, is answered,
 -- but for want of memory.
-pub record EndsWell (c : Course) (before now : Around) : Type 0 where
+pub record EndsWell (c : Course) (before now : Faults) : Type 0 where
   pub whole : (damage : Damage) → c.ending ≢ Damaged damage
   pub complete : NoFault before now → (c.ending ≡ Done) ⊎ ((c.ending ≡ OutOfMemory) ⊎ (c.ending ≡ Unbuilt))

@@ -4,7 +4,9 @@ use Rattle.std.specs.FinMap as map
 use Rattle.bd_disk.specs.History.{History, clock}
 use Rattle.bd_disk.specs.Made.{WritesNothing, WritesOnly}
 use Rattle.bd_files.specs.Files.{Lacks}
+use Rattle.bd_files.specs.World.{World}
 use Rattle.bd_model.specs.FileMap.{FileMap}
+use Rattle.bd_model.specs.declared.answer.Answer.{Answer}
 use Rattle.bd_model.specs.declared.command.Command.{Command}
 use Rattle.bd_catalog.specs.Agreement.{Agrees}
 use Rattle.bd_catalog.specs.Opening.{Found}
@@ -19,13 +21,13 @@ pub record KeepsStore (disk : Type 0) (ending : SessionEnd) (before now : Scene)
   pub worn : (now.store.worn ≡ true) ↔ (ending ≡ DiskFault)
   pub sizes : now.store.worn ≡ false → now.store.found.sizes ≡ before.store.found.sizes
   pub held : now.store.held ≡ before.store.held
-  pub agrees : disk → now.store.worn ≡ false → Agrees now.store.found now.disk
+  pub agrees : disk → now.store.worn ≡ false → Agrees now.store.found now.world.disk
 
 -- there is a clock for each answer, and they don't fall, from the one at entry to the one at the end
-pub record ClocksRise (disk : Type 0) (c : Course) (before now : Scene) : Type 0 where
-  pub paired : length c.clocks ≡ answered c
-  pub rise : disk → (k : ℕ) → k < length c.clocks → get_or (clock before.disk ∷ c.clocks) k 0 ≤ get_or c.clocks k 0
-  pub last : disk → get_or (clock before.disk ∷ c.clocks) (length c.clocks) 0 ≤ clock now.disk
+pub record ClocksRise (disk : Type 0) (answers : List Answer) (clocks : List ℕ) (before now : History) : Type 0 where
+  pub paired : length clocks ≡ length answers
+  pub rise : disk → (k : ℕ) → k < length clocks → get_or (clock before ∷ clocks) k 0 ≤ get_or clocks k 0
+  pub last : disk → get_or (clock before ∷ clocks) (length clocks) 0 ≤ clock now
 
 -- command number k is among those that were answered, or the one behind them
 pub record IsTried (c : Course) (k : ℕ) (command : Command) : Type 0 where
@@ -55,7 +57,7 @@ pub record AsksForMissing (c : Course) (before : FileMap) : Type 0 where
   pub lacks : IsTargetBelow c number name ⊎ Lacks before name
 
 -- the count of missing sources rises only for one
-pub record StraysOnlyFor (c : Course) (before now : Scene) : Type 0 where
+pub record StraysOnlyFor (c : Course) (before now : World) : Type 0 where
   pub later : before.strays ≤ now.strays
   pub missing : (now.strays ≡ before.strays) ⊎ AsksForMissing c before.files
 

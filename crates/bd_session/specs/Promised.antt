@@ -2,6 +2,7 @@
 use Rattle.std.specs.Prelude.{◌≡◌, ℕ, ◌<◌, List, ◌∷◌, take, Option, Some, slice_get}
 use Rattle.bd_disk.specs.History.{History, contents}
 use Rattle.bd_disk.specs.Made.{LeavesNow}
+use Rattle.bd_files.specs.World.{World}
 use Rattle.bd_model.specs.declared.shape.Shape.{Shape}
 use Rattle.bd_model.specs.declared.command.Command.{Command}
 use Rattle.bd_model.specs.declared.layout.Phase.{Phase}
@@ -10,7 +11,6 @@ use Rattle.bd_model.specs.Folds.{Point, after, given, outcomes, phases, unheld}
 use Rattle.bd_model.specs.Marks.{Distinct}
 use Rattle.bd_model.specs.State.{VersionState}
 use Rattle.bd_catalog.specs.Standing.{StandsFor, Stands}
-use Rattle.bd_store.specs.Attempts.{Scene}
 use Rattle.bd_store.specs.Steps.{task, IsNear}
 
 -- where commands begin: a state of the version machine with its phase, the files beside it, and the disk
@@ -21,8 +21,8 @@ pub record Start : Type 0 where
   pub files : FileMap
   pub disk : History
 
-abbrev pub start : Shape → VersionState → Phase → Scene → Start
-start shape state phase s = record { shape = shape; state = state; phase = phase; files = s.files; disk = s.disk }
+abbrev pub start : Shape → VersionState → Phase → World → Start
+start shape state phase w = record { shape = shape; state = state; phase = phase; files = w.files; disk = w.disk }
 
 -- where the first k commands lead; the phase there
 abbrev pub reached : Start → List Command → ℕ → Option Point

@@ -5,8 +5,7 @@ use Rattle.bd_files.specs.Sinks.{Handed, HandsPart, whole}
 use Rattle.bd_model.specs.Texts.{answer_text}
 use Rattle.bd_model.specs.declared.answer.Answer.{Answer}
 use Rattle.bd_script.specs.Long.{is_long}
-use Rattle.bd_session.specs.Course.{Course}
-use Rattle.bd_session.specs.declared.report.SessionEnd.TheVariants.{OutputFault}
+use Rattle.bd_session.specs.Ends.{Cause, FromSink}
 use Rattle.bd_session.specs.declared.telling.Untold.{Untold}
 use Rattle.bd_session.specs.declared.telling.Untold.TheVariants.{Output, Memory}
 
@@ -22,12 +21,12 @@ told (moment ∷ moments) (answer ∷ answers) = whole moment (answer_text answe
 told _ _ = []
 
 -- What the sink was given: the text of each answer at its moment, in order, and nothing else, unless it failed. Then it may
--- have taken a part of one more answer's text behind them. Where the disk tells, the moments are the clocks.
-pub record HandsAnswers (disk : Type 0) (c : Course) (before now : List Handed) : Type 0 where
+-- have taken a part of one more text behind them. Where the disk tells, the moments are the clocks.
+pub record HandsAnswers (disk : Type 0) (answers : List Answer) (clocks : List ℕ) (cause : Cause) (before now : List Handed) : Type 0 where
   pub moments : List ℕ
-  pub are : disk → moments ≡ c.clocks
-  pub paired : length moments ≡ length c.answers
+  pub are : disk → moments ≡ clocks
+  pub paired : length moments ≡ length answers
   pub rest : List Handed
-  pub so : now ≡ before ++ (told moments c.answers ++ rest)
-  pub nothing : c.ending ≢ OutputFault → rest ≡ []
+  pub so : now ≡ before ++ (told moments answers ++ rest)
+  pub nothing : cause ≢ FromSink → rest ≡ []
   pub part : (answer : Answer) × HandsPart (answer_text answer) [] rest

@@ -6,56 +6,60 @@ use Rattle.bd_model.specs.Texts.{answer_text}
 use Rattle.bd_model.specs.declared.answer.Answer.{Answer}
 use Rattle.bd_model.specs.declared.command.Command.{Command}
 use Rattle.bd_model.specs.declared.command.Command.TheVariants.{Scrub}
-use Rattle.bd_store.specs.Attempts.{Meets, attempt}
+use Rattle.bd_store.specs.Attempts.{Meets, Scene, attempt}
 use Rattle.bd_store.specs.declared.fault.StoreFault.{StoreFault}
-use Rattle.bd_session.specs.Course.{Around, Course, answered, next_command}
+use Rattle.bd_session.specs.Course.{Course, answered, next_command}
 use Rattle.bd_session.specs.Ends.{EndsBy}
 use Rattle.bd_session.specs.declared.report.SessionEnd.TheVariants.{Done, OutOfMemory, Unbuilt}
 
+-- a scene before its command's text was put: the sink is as it was before the command
+abbrev pub before_text : Scene → Scene → Scene
+before_text before after = record after { world = record after.world { counts = record after.world.counts { sink = before.world.counts.sink }; handed = before.world.handed } }
+
 -- A command was carried out and answered, and then the sink took the text of its answer, at this moment.
-pub record Turn (disk files sink : Type 0) (command : Command) (answer : Answer) (moment : ℕ) (before after : Around) : Type 0 where
-  pub meets : Meets disk files (attempt command (Ok answer) before.scene after.scene)
-  pub clock : disk → moment ≡ clock after.scene.disk
-  pub faults : after.sink_faults ≡ before.sink_faults
-  pub handed : sink → HandsOn disk moment (answer_text answer) before.handed after.handed
+pub record Turn (disk files sink : Type 0) (command : Command) (answer : Answer) (moment : ℕ) (before after : Scene) : Type 0 where
+  pub meets : Meets disk files (attempt command (Ok answer) before (before_text before after))
+  pub clock : disk → moment ≡ clock after.world.disk
+  pub faults : after.world.counts.sink ≡ before.world.counts.sink
+  pub handed : sink → HandsOn disk moment (answer_text answer) before.world.handed after.world.handed
 
 -- The first of these commands had these answers, at these moments, one turn behind the other.
-pub data Turns (disk files sink : Type 0) (commands : List Command) (first : Around) : List Answer → List ℕ → Around → Type 0 where
+pub data Turns (disk files sink : Type 0) (commands : List Command) (first : Scene) : List Answer → List ℕ → Scene → Type 0 where
   -- none had one yet
   no_turn : Turns disk files sink commands first [] [] first
   -- the next command had its turn
-  next_turn : {answers : List Answer} {clocks : List ℕ} {before after : Around} (command : Command) (answer : Answer) (moment : ℕ) → Turns disk files sink commands first answers clocks before →
+  next_turn : {answers : List Answer} {clocks : List ℕ} {before after : Scene} (command : Command) (answer : Answer) (moment : ℕ) → Turns disk files sink commands first answers clocks before →
       slice_get commands (length answers) ≡ Some command → Turn disk files sink command answer moment before after →
       Turns disk files sink commands first (answers ++ answer ∷ []) (clocks ++ moment ∷ []) after
 
 -- the command behind the last answer brought the end
-pub record LastTurn (disk files sink : Type 0) (c : Course) (before now : Around) : Type 0 where
+pub record LastTurn (disk files sink : Type 0) (c : Course) (before now : Scene) : Type 0 where
   pub command : Command
   pub next : next_command c ≡ Some command
   pub result : Result Answer StoreFault
-  pub meets : Meets disk files (attempt command result before.scene now.scene)
-  pub ends : EndsBy sink result c.ending before now
+  pub meets : Meets disk files (attempt command result before (before_text before now))
+  pub ends : EndsBy sink result c.ending before.world now.world
 
 -- all commands were answered
-pub record AllAnswered (c : Course) (last now : Around) : Type 0 where
+pub record AllAnswered (c : Course) (last now : Scene) : Type 0 where
   pub done : c.ending ≡ Done
   pub all : answered c ≡ length c.commands
   pub same : now ≡ last
 
 -- no command was begun, for want of memory for the answers
-pub record NoneBegun (c : Course) (last now : Around) : Type 0 where
+pub record NoneBegun (c : Course) (last now : Scene) : Type 0 where
   pub memory : c.ending ≡ OutOfMemory
   pub none : c.answers ≡ []
   pub same : now ≡ last
 
 -- the next command is a scrub, and wasn't begun
-pub record NotBegun (c : Course) (last now : Around) : Type 0 where
+pub record NotBegun (c : Course) (last now : Scene) : Type 0 where
   pub ending : c.ending ≡ Unbuilt
   pub next : next_command c ≡ Some Scrub
   pub same : now ≡ last
 
 -- From first to last: the turns of the commands that were answered, and how it ended.
-pub record Goes (disk files sink : Type 0) (c : Course) (first now : Around) : Type 0 where
-  pub last : Around
+pub record Goes (disk files sink : Type 0) (c : Course) (first now : Scene) : Type 0 where
+  pub last : Scene
   pub turns : Turns disk files sink c.commands first c.answers c.clocks last
   pub ends : AllAnswered c last now ⊎ NoneBegun c last now ⊎ NotBegun c last now ⊎ LastTurn disk files sink c last now

@@ -1,8 +1,10 @@
 //! One command after the other.
 ghost use Rattle.std.specs.Prelude.{◌≡◌, ◌≤◌, false};
-ghost use Rattle.bd_session.specs.Course.{around, course};
+ghost use Rattle.bd_session.specs.Course.{course};
 ghost use Rattle.bd_session.specs.Session.{MeetsSession};
+ghost use Rattle.bd_store.specs.Attempts.{scene};
 ghost use Rattle.bd_store.specs.Shown.{IsOpenOn};
+ghost use Rattle.bd_files.specs.World.{world};
 
 use crate::report::{SessionEnd, SessionReport, end_of};
 use crate::telling::{Untold, tell_answer};
@@ -26,8 +28,8 @@ pub fn session<D: Disk, F: Files, O: Sink>(
     requires takes { O.tells → D.tells → O.takes D D.history }
     requires opened { IsOpenOn D.Disk store.old disk.old }
     ensures meets { MeetsSession D.tells F.tells O.tells (course commands.now.items result)
-        (around D.Disk F.Files O.Sink store.old disk.old files.old out.old)
-        (around D.Disk F.Files O.Sink store.new disk.new files.new out.new) }
+        (scene store.old (world D.Disk F.Files O.Sink disk.old files.old out.old))
+        (scene store.new (world D.Disk F.Files O.Sink disk.new files.new out.new)) }
 {
     let mut report = match SessionReport::with_room(alloc, commands.len()) {
         Ok(report) => report,

@@ -1,6 +1,7 @@
 -- A command that made the store ready meets its promise by what it does then.
 use Rattle.std.proofs.Common.{◌↔◌, true, false, ◌≡◌, ◌∙◌, ℕ, Bool, List, refl, sym, ap, subst, Result, Ok, Err}
 use Rattle.std.proofs.lemmas.Bool.{false_from_ne_true}
+use Rattle.bd_files.specs.World.{World, with_disk}
 use Rattle.bd_recipe.specs.Reading.{is_disk_fault}
 use Rattle.bd_recipe.specs.declared.fault.ReadFault.{ReadFault}
 use Rattle.bd_recipe.specs.declared.fault.ReadFault.TheVariants.{DiskFault as ReadDisk}
@@ -19,7 +20,7 @@ use Rattle.bd_model.specs.declared.layout.Phase.TheVariants.{Settled}
 use Rattle.bd_recipe.specs.Marked.{Marked}
 use Rattle.bd_store.specs.Writes.{arranges}
 use Rattle.bd_arrange.specs.Arranged.{IsSpared}
-use Rattle.bd_store.specs.Attempts.{Beside, scene_beside, Attempt, Meets, Scene, attempt, EndsFor, MayLook, NamesFor, TransfersByCommand, NewestEnds, ReadsByCommand}
+use Rattle.bd_store.specs.Attempts.{scene, Attempt, Meets, Scene, attempt, EndsFor, MayLook, NamesFor, TransfersByCommand, NewestEnds, ReadsByCommand}
 use Rattle.bd_store.specs.Deeds.{Deed, TakesIn, GivesBack, GivesUp, Settles, Checks, Tells, deed_of}
 use Rattle.bd_store.specs.Following.{Follows, IsMadeReady, IsMadeReadyOn, MakesReady, ReadiesFor}
 use Rattle.bd_store.specs.Naming.{NamesArranging}
@@ -36,9 +37,9 @@ use Rattle.bd_store.proofs.Opens.{opens_behind}
 use Rattle.bd_store.proofs.Taken.{counted_before, newest_same, taken_before}
 
 module _ (disk files : Type 0) (command : Command) (before : Scene) (mid : Found) (worn : Bool) (h1 : History) (after : Scene) (neighbour : Marked) (result : Result Answer StoreFault)
-    (makes : MakesReady before.store.found command) (agrees : disk → Agrees before.store.found before.disk) where
+    (makes : MakesReady before.store.found command) (agrees : disk → Agrees before.store.found before.world.disk) where
   abbrev now : Scene
-  now = gone_on before mid worn h1 before.counts.disk
+  now = gone_on before mid worn h1 before.world.counts.disk
 
   abbrev whole : Attempt
   whole = attempt command result before after
@@ -46,8 +47,8 @@ module _ (disk files : Type 0) (command : Command) (before : Scene) (mid : Found
   module _ (ready : IsReady before.store now.store neighbour) (readied : disk → IsMadeReadyOn before now (Ok neighbour)) (follows : Follows disk files (attempt command result now after)) where
     reads : disk → ReadsByCommand whole command
     reads told = by_ready before.store.found (λ c. ReadsByCommand whole c) (record {
-      backup = λ name not_full. backup_reads before.store.found before.disk after.disk result follows.ends (λ settled. then_none ((readied told).readies.answer.reads settled) (follows.on_disk told).reads);
-      expiry = λ first. by_end (ExpiryReads before.store.found after.store.found before.disk after.disk) (record {
+      backup = λ name not_full. backup_reads before.store.found before.world.disk after.world.disk result follows.ends (λ settled. then_none ((readied told).readies.answer.reads settled) (follows.on_disk told).reads);
+      expiry = λ first. by_end (ExpiryReads before.store.found after.store.found before.world.disk after.world.disk) (record {
         named = λ version bytes chunks fresh need no. not_both first no;
         full = λ counted free held no. not_both first no;
         expired = λ version extents no. not_both first no;
@@ -59,10 +60,10 @@ module _ (disk files : Type 0) (command : Command) (before : Scene) (mid : Found
       arranging = λ waiting settled. rests_not before.store.found waiting settled;
     }) command makes
 
-    looked : disk → LooksOnlyAt (InArranging before.store.found) before.disk after.disk
+    looked : disk → LooksOnlyAt (InArranging before.store.found) before.world.disk after.world.disk
     looked told = then_no_looks (readied told).looks (follows.on_disk told).reads
 
-    looks : disk → (deed : Deed) → ReadiesFor before.store.found deed → LooksOnlyAt (MayLook before.store.found deed) before.disk after.disk
+    looks : disk → (deed : Deed) → ReadiesFor before.store.found deed → LooksOnlyAt (MayLook before.store.found deed) before.world.disk after.world.disk
     looks told (TakesIn source) may = looked told
     looks told (GivesBack v target) may = absurd may
     looks told (GivesUp count) may = looked told
@@ -70,8 +71,8 @@ module _ (disk files : Type 0) (command : Command) (before : Scene) (mid : Found
     looks told Checks may = absurd may
     looks told Tells may = absurd may
 
-    names : NamesArranging before.store.found before.disk after.disk result
-    names = by_end (NamesArranging before.store.found before.disk after.disk) (record {
+    names : NamesArranging before.store.found before.world.disk after.world.disk result
+    names = by_end (NamesArranging before.store.found before.world.disk after.world.disk) (record {
       named = λ version bytes chunks fresh need. tt;
       full = λ counted free held. tt;
       expired = λ version extents. tt;
@@ -112,12 +113,12 @@ module _ (disk files : Type 0) (command : Command) (before : Scene) (mid : Found
       memory = λ is. is;
     }) result follows.ends
 
-    taken : disk → (old : List RecipeEntry) (stream : List ℕ) → IsNewestRecipe before.store.found (contents before.disk) old →
-        TakesStream (record { found = mid; held = before.store.held; old = old; stream = stream }) after.store.found (contents after.disk) result →
-        TakesStream (record { found = before.store.found; held = before.store.held; old = old; stream = stream }) after.store.found (contents after.disk) result
+    taken : disk → (old : List RecipeEntry) (stream : List ℕ) → IsNewestRecipe before.store.found (contents before.world.disk) old →
+        TakesStream (record { found = mid; held = before.store.held; old = old; stream = stream }) after.store.found (contents after.world.disk) result →
+        TakesStream (record { found = before.store.found; held = before.store.held; old = old; stream = stream }) after.store.found (contents after.world.disk) result
     taken told old stream newest_before =
         let of : Found → Source = λ f. record { found = f; held = before.store.held; old = old; stream = stream } in
-        by_end (λ e. TakesStream (of mid) after.store.found (contents after.disk) e → TakesStream (of before.store.found) after.store.found (contents after.disk) e) (record {
+        by_end (λ e. TakesStream (of mid) after.store.found (contents after.world.disk) e → TakesStream (of before.store.found) after.store.found (contents after.world.disk) e) (record {
           named = λ version bytes chunks fresh need is. taken_before before.store.found mid ready.settled before.store.held old stream is;
           full = λ counted free held is. counted_before before.store.found mid ready.settled before.store.held old stream is;
           expired = λ version extents is. tt;
@@ -139,8 +140,8 @@ module _ (disk files : Type 0) (command : Command) (before : Scene) (mid : Found
       arranging = λ waiting is. tt;
     }) command makes
 
-    same_files : KeepsFiles command before.files after.files → after.files ≡ before.files
-    same_files = by_ready before.store.found (λ c. KeepsFiles c before.files after.files → after.files ≡ before.files) (record {
+    same_files : KeepsFiles command before.world.files after.world.files → after.world.files ≡ before.world.files
+    same_files = by_ready before.store.found (λ c. KeepsFiles c before.world.files after.world.files → after.world.files ≡ before.world.files) (record {
       backup = λ name not_full keeps. keeps;
       expiry = λ first keeps. keeps;
       arranging = λ waiting keeps. keeps;
@@ -166,7 +167,7 @@ module _ (disk files : Type 0) (command : Command) (before : Scene) (mid : Found
       on_disk = λ told. record {
         agrees = (follows.on_disk told).agrees;
         opens = opens_behind (agrees told) ready.settled.sizes (λ no. ready.same (rested no)) (λ no. (readied told).readies.quiet (rested no)) (readied told).readies.agrees (readied told).readies.opens (follows.on_disk told).writes (follows.on_disk told).opens;
-        writes = writes_before before.store.held before.store.found mid after.store.found before.disk h1 after.disk command makes (follows.on_disk told).writes result follows.ends (follows.on_disk told).step ready.same (readied told).readies.quiet
+        writes = writes_before before.store.held before.store.found mid after.store.found before.world.disk h1 after.world.disk command makes (follows.on_disk told).writes result follows.ends (follows.on_disk told).step ready.same (readied told).readies.quiet
             (readied told).readies.answer.arranged (readied told).readies.agrees (readied told).writes;
         reads = reads told;
         looks = looks told (deed_of before.store.found command) makes;
@@ -176,28 +177,27 @@ module _ (disk files : Type 0) (command : Command) (before : Scene) (mid : Found
       on_files = λ told. record { beside = (follows.on_files told).beside; strays = (follows.on_files told).strays; finished = (follows.on_files told).finished };
       on_both = λ told files_tell. record {
         transfers = transfers told (follows.on_both told files_tell).transfers;
-        step = step_before command before.store.held before.store.found mid before.disk h1 after.disk before.files after.files result neighbour makes follows.ends follows.answer (agrees told) (readied told).readies.states (follows.on_both told files_tell).step (same_files (follows.on_files files_tell).beside);
-        stops = stops_before command before.store.held before.store.found mid before.disk h1 after.disk before.files after.files result neighbour makes follows.ends follows.answer (agrees told) (readied told).readies.states (follows.on_both told files_tell).stops;
+        step = step_before command before.store.held before.store.found mid before.world.disk h1 after.world.disk before.world.files after.world.files result neighbour makes follows.ends follows.answer (agrees told) (readied told).readies.states (follows.on_both told files_tell).step (same_files (follows.on_files files_tell).beside);
+        stops = stops_before command before.store.held before.store.found mid before.world.disk h1 after.world.disk before.world.files after.world.files result neighbour makes follows.ends follows.answer (agrees told) (readied told).readies.states (follows.on_both told files_tell).stops;
       };
     }
 
 -- what it does then is what it promises of the whole
-pub followed : {disk files : Type 0} {command : Command} {before now after : Scene} {neighbour : Marked} {result : Result Answer StoreFault} → MakesReady before.store.found command → (disk → Agrees before.store.found before.disk) →
+pub followed : {disk files : Type 0} {command : Command} {before now after : Scene} {neighbour : Marked} {result : Result Answer StoreFault} → MakesReady before.store.found command → (disk → Agrees before.store.found before.world.disk) →
     IsMadeReady disk before now (Ok neighbour) → Follows disk files (attempt command result now after) → Meets disk files (attempt command result before after)
 followed {disk} {files} {command} {before} {now} {after} {neighbour} {result} makes agrees is follows =
-    let same : gone_on before now.store.found now.store.worn now.disk before.counts.disk ≡ now = ap (gone_on before now.store.found now.store.worn now.disk) (sym is.cause.cause) ∙ went_on is in
-    ready_meets disk files command before now.store.found now.store.worn now.disk after neighbour result makes agrees
+    let same : gone_on before now.store.found now.store.worn now.world.disk before.world.counts.disk ≡ now = ap (gone_on before now.store.found now.store.worn now.world.disk) (sym is.cause.cause) ∙ went_on is in
+    ready_meets disk files command before now.store.found now.store.worn now.world.disk after neighbour result makes agrees
     (subst (λ (s : Scene). IsReady before.store s.store neighbour) (sym same) is.store)
     (λ told. subst (λ (s : Scene). IsMadeReadyOn before s (Ok neighbour)) (sym same) (is.told told))
     (subst (λ (s : Scene). Follows disk files (attempt command result s after)) (sym same) follows)
 
 -- a store and its disk that were made ready, whatever files are beside them
-pub made_ready : {D : Type 0} (d : DiskGhosts D) (beside : Beside) (old new : Shown) (disk0 disk1 : D) (result : Result Marked ReadFault) → Works d (InArranging old.found) (IsSpared old.found) disk0 disk1 →
+pub made_ready : {D : Type 0} (d : DiskGhosts D) (w : World) (old new : Shown) (disk0 disk1 : D) (result : Result Marked ReadFault) → Works d (InArranging old.found) (IsSpared old.found) disk0 disk1 →
     FailsByCount is_disk_fault (d.faults disk0) (d.faults disk1) result → (new.worn ≡ true) ↔ (result ≡ Err ReadDisk) → new.held ≡ old.held → Readies old new result →
-    (d.tells → ReadiesOn old.held old.found new.found (d.history disk0) (d.history disk1) result) → IsMadeReady d.tells (scene_beside d beside old disk0) (scene_beside d beside new disk1) result
-made_ready d beside old new disk0 disk1 result works cause worn held store told = record {
-  bytes = works.bytes;
-  beside = record { files = refl; unfinished = refl; sources = refl; targets = refl; strays = refl };
+    (d.tells → ReadiesOn old.held old.found new.found (d.history disk0) (d.history disk1) result) → IsMadeReady d.tells (scene old (with_disk d w disk0)) (scene new (with_disk d w disk1)) result
+made_ready d w old new disk0 disk1 result works cause worn held store told = record {
+  beside = λ k. record w { disk_bytes = works.bytes k; disk = d.history disk1; counts = record w.counts { disk = d.faults disk1 } };
   cause = cause;
   worn = worn;
   held = held;

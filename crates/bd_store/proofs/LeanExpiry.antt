@@ -14,6 +14,7 @@ use Rattle.bd_disk.specs.declared.disk.Failed.{Failed}
 use Rattle.bd_disk.proofs.Frames.{contents_now, leaves_same, leaves_wider, made_none, writes_wider}
 use Rattle.bd_disk.proofs.Looking.{looks_from}
 use Rattle.bd_disk.proofs.RunLemmas.{nothing_read, written}
+use Rattle.bd_files.specs.World.{World, with_disk}
 use Rattle.bd_model.specs.FileMap.{FileMap}
 use Rattle.bd_model.specs.declared.shape.Shape.{Shape}
 use Rattle.bd_model.specs.declared.layout.Phase.{Phase}
@@ -42,8 +43,7 @@ use Rattle.bd_catalog.proofs.StandingAnswers.{IsAnswered}
 use Rattle.bd_catalog.proofs.StandingExpired.{dropped-count, expired_answered}
 use Rattle.bd_roll.proofs.Obeying.{settled_with_few}
 use Rattle.bd_arrange.proofs.Opens.{same_both}
-use Rattle.bd_store.specs.Attempts.{Beside, Meets, Scene, attempt, scene_beside}
-use Rattle.bd_store.specs.Causes.{counts}
+use Rattle.bd_store.specs.Attempts.{Meets, Scene, attempt, scene}
 use Rattle.bd_store.specs.Following.{EndsReady, Follows}
 use Rattle.bd_store.specs.Kept.{IsKept}
 use Rattle.bd_store.specs.Steps.{Answered, IsOneStep, LeadsTo, StandsOnEitherSide, Task, task}
@@ -162,7 +162,7 @@ answer_of version extents (Ok u) = Ok (Expired version extents)
 answer_of version extents (Err failed) = Err DiskFault
 
 -- an expiry of a store and its disk, whatever files are beside them
-module _ {D : Type 0} (d : DiskGhosts D) (beside : Beside) (found : Found) (held : ℕ) (disk0 disk1 : D) (agrees : d.tells → Agrees found (d.history disk0)) (fits : FitsExpire found.catalogue) (writes : Writes d (InOtherHalf found) disk0 disk1) (files : Type 0) where
+module _ {D : Type 0} (d : DiskGhosts D) (w : World) (found : Found) (held : ℕ) (disk0 disk1 : D) (agrees : d.tells → Agrees found (d.history disk0)) (fits : FitsExpire found.catalogue) (writes : Writes d (InOtherHalf found) disk0 disk1) (files : Type 0) where
   abbrev h0 : History
   h0 = d.history disk0
 
@@ -170,10 +170,10 @@ module _ {D : Type 0} (d : DiskGhosts D) (beside : Beside) (found : Found) (held
   h1 = d.history disk1
 
   abbrev before : Scene
-  before = scene_beside d beside (record { found = found; held = held; worn = false }) disk0
+  before = scene (record { found = found; held = held; worn = false }) (with_disk d w disk0)
 
   abbrev after_it : Found → Bool → Scene
-  after_it now worn = scene_beside d beside (record { found = now; held = held; worn = worn }) disk1
+  after_it now worn = scene (record { found = now; held = held; worn = worn }) (with_disk d w disk1)
 
   -- it doesn't arrange, and writes the half that isn't the newest
   writes_half : d.tells → (now : Found) (result : Result Answer StoreFault) → StepsTo found.catalogue now.catalogue result → WritesByCommand held found now Expire h0 h1 result
@@ -191,7 +191,7 @@ module _ {D : Type 0} (d : DiskGhosts D) (beside : Beside) (found : Found) (held
       (d.tells → LeavesEither found (after_step found Dropping) h0 h1) → Meets d.tells files (attempt Expire (Ok (Expired version extents)) before (after_it (after_step found Dropping) false))
   expired_meets version extents is_version is_extents same made either = record {
     bytes = writes.bytes;
-    cause = record { later = record { disk = omega (arith, same); sources = omega arith; targets = omega arith }; cause = ap (λ n. counts n beside.source_faults beside.target_faults) same };
+    cause = record { later = record { disk = omega (arith, same); sources = omega arith; targets = omega arith; sink = omega arith }; cause = ap (λ n. record w.counts { disk = n }) same };
     answer = (fits.some, is_version);
     store = record {
       worn = (λ no. absurd (cc no), λ no. absurd (cc no));
@@ -214,15 +214,15 @@ module _ {D : Type 0} (d : DiskGhosts D) (beside : Beside) (found : Found) (held
     on_files = λ told. record { beside = refl; strays = record { later = omega arith; missing = inl refl }; finished = tt };
     on_both = λ told files_tell. record {
       transfers = tt;
-      step = expired_step found held beside.files h0 h1 (agrees told) fits version extents is_version is_extents (made told) (either told).stops;
-      stops = expired_stops found held beside.files h0 h1 (agrees told) fits version extents is_version is_extents (made told) (either told).stops;
+      step = expired_step found held w.files h0 h1 (agrees told) fits version extents is_version is_extents (made told) (either told).stops;
+      stops = expired_stops found held w.files h0 h1 (agrees told) fits version extents is_version is_extents (made told) (either told).stops;
     };
   }
 
   pub failed_meets : (now : Found) → d.faults disk0 ≤ d.faults disk1 → Rose (d.faults disk0) (d.faults disk1) → (d.tells → LeavesEither found (after_step found Dropping) h0 h1) → Meets d.tells files (attempt Expire (Err DiskFault) before (after_it now true))
   failed_meets now later rose either = record {
     bytes = writes.bytes;
-    cause = record { later = record { disk = later; sources = omega arith; targets = omega arith }; cause = (rose, refl, refl) };
+    cause = record { later = record { disk = later; sources = omega arith; targets = omega arith; sink = omega arith }; cause = (rose, refl, refl, refl) };
     answer = fits.some;
     store = record {
       worn = (λ _. refl, λ _. refl);
@@ -245,8 +245,8 @@ module _ {D : Type 0} (d : DiskGhosts D) (beside : Beside) (found : Found) (held
     on_files = λ told. record { beside = refl; strays = record { later = omega arith; missing = inl refl }; finished = tt };
     on_both = λ told files_tell. record {
       transfers = tt;
-      step = failed_step found held beside.files h0 h1 (agrees told) fits (either told);
-      stops = failed_stops found held beside.files h0 h1 (agrees told) fits (either told);
+      step = failed_step found held w.files h0 h1 (agrees told) fits (either told);
+      stops = failed_stops found held w.files h0 h1 (agrees told) fits (either told);
     };
   }
 
@@ -320,7 +320,7 @@ lean_follows {disk} {files} {result} {before} {after} settled some meets =
             opens = lean_opens no is.opens;
             writes = is.writes.ready no;
             step = is.writes.step no;
-            reads = by_end (λ e. ExpiryReads found after.store.found before.disk after.disk e → ReadsOnly [] before.disk after.disk) (record {
+            reads = by_end (λ e. ExpiryReads found after.store.found before.world.disk after.world.disk e → ReadsOnly [] before.world.disk after.world.disk) (record {
               named = λ version bytes chunks fresh need read. (read no).1;
               full = λ counted free held read. (read no).1;
               expired = λ version extents read. (read no).1;

@@ -55,7 +55,7 @@ module _ (command : Command) (result : Result Answer StoreFault) (s : Scene) whe
 
   -- what an answer says of its command alone
   pub record IsAnswered : Type 0 where
-    pub cause : ByCount result s.counts s.counts
+    pub cause : ByCount result s.world.counts s.world.counts
     pub has_disk : HasDisk result
     pub answer : IsAnswerOf s.store.found command result
     pub versions : KeepsVersions s.store s.store result
@@ -65,16 +65,16 @@ module _ (command : Command) (result : Result Answer StoreFault) (s : Scene) whe
     pub damage : DamageByCommand still command
     pub recipe : RecipeByCommand still command
     pub step : StepsTo s.store.found.catalogue s.store.found.catalogue result
-    pub arranging : arranges s.store.found command ≡ true → WritesArranging s.store.held s.store.found s.store.found command s.disk s.disk result
-    pub finished : FinishesByCommand command result s.unfinished
+    pub arranging : arranges s.store.found command ≡ true → WritesArranging s.store.held s.store.found s.store.found command s.world.disk s.world.disk result
+    pub finished : FinishesByCommand command result s.world.unfinished
     pub transfers : TransfersByCommand still command result
 
-  pub meets_untouched : {disk files : Type 0} → s.store.worn ≡ false → (disk → Agrees s.store.found s.disk) → IsAnswered →
-      (disk → files → IsOneStep command s.store.held s.store.held s.disk s.disk s.files s.files result) →
-      (disk → files → IsSafeAtStops command s.store.held s.store.held s.disk s.disk s.files result) → Meets disk files still
+  pub meets_untouched : {disk files : Type 0} → s.store.worn ≡ false → (disk → Agrees s.store.found s.world.disk) → IsAnswered →
+      (disk → files → IsOneStep command s.store.held s.store.held s.world.disk s.world.disk s.world.files s.world.files result) →
+      (disk → files → IsSafeAtStops command s.store.held s.store.held s.world.disk s.world.disk s.world.files result) → Meets disk files still
   meets_untouched {disk} {files} sound agrees is step stops = record {
     bytes = refl;
-    cause = record { later = record { disk = omega arith; sources = omega arith; targets = omega arith }; cause = is.cause };
+    cause = record { later = record { disk = omega arith; sources = omega arith; targets = omega arith; sink = omega arith }; cause = is.cause };
     answer = is.answer;
     store = record {
       worn = (λ worn. let no : true ≡ false = sym worn ∙ sound in cc, λ failed. absurd (subst HasDisk failed is.has_disk));
@@ -87,20 +87,24 @@ module _ (command : Command) (result : Result Answer StoreFault) (s : Scene) whe
     untouched = λ _. refl;
     on_disk = λ told. record {
       agrees = λ _. agrees told;
-      opens = opens_unarranged (opens_quiet (made_none _ s.disk));
-      writes = record { ready = λ _. quiet_writing (deed_of s.store.found command) s.store.found (made_none _ s.disk); step = λ _. is.step; arranging = is.arranging };
+      opens = opens_unarranged (opens_quiet (made_none _ s.world.disk));
+      writes = record { ready = λ _. quiet_writing (deed_of s.store.found command) s.store.found (made_none _ s.world.disk); step = λ _. is.step; arranging = is.arranging };
       reads = is.reads;
-      looks = made_none _ s.disk;
+      looks = made_none _ s.world.disk;
       damage = is.damage;
       recipe = is.recipe;
     };
     on_files = λ told. record {
-      beside = files_stay (target_of command) s.files;
+      beside = files_stay (target_of command) s.world.files;
       strays = record { later = omega arith; missing = inl refl };
       finished = is.finished;
     };
     on_both = λ told files_tell. record { transfers = is.transfers; step = step told files_tell; stops = stops told files_tell };
   }
+
+-- what is met of a command is met of the same one under another name
+pub meets_as : {disk files : Type 0} {command same : Command} {result : Result Answer StoreFault} {before after : Scene} → command ≡ same → Meets disk files (attempt same result before after) → Meets disk files (attempt command result before after)
+meets_as {disk} {files} {command} {same} {result} {before} {after} is = subst (λ (c : Command). Meets disk files (attempt c result before after)) (sym is)
 
 -- what is met whether or not the files tell
 pub meets_told : {disk : Type 0} (files : Type 0) {a : Attempt} → Meets disk (Unit {0}) a → Meets disk files a

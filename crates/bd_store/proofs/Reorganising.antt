@@ -55,12 +55,12 @@ module _ (store : Shown) (h : History) (files : FileMap) (figures : Figures) (ag
   arranged_stops : IsSafeAtStops Reorganise store.held store.held h h files (Ok answer)
   arranged_stops = refused_stops Reorganise store.held h files answer leads
 
-module _ {disk files : Type 0} (s : Scene) (figures : Figures) (sound : s.store.worn ≡ false) (agrees : disk → Agrees s.store.found s.disk) (settled : s.store.found.catalogue.phase ≡ Settled) (has : HasFigures s.store figures) (are : AreFiguresOf s.store figures) where
+module _ {disk files : Type 0} (s : Scene) (figures : Figures) (sound : s.store.worn ≡ false) (agrees : disk → Agrees s.store.found s.world.disk) (settled : s.store.found.catalogue.phase ≡ Settled) (has : HasFigures s.store figures) (are : AreFiguresOf s.store figures) where
   -- it follows the arranging
   pub arranged_follows : Follows disk files (attempt Reorganise (Ok (Arranged figures.owned figures.free)) s s)
   arranged_follows = record {
     bytes = refl;
-    cause = record { later = record { disk = omega arith; sources = omega arith; targets = omega arith }; cause = refl };
+    cause = record { later = record { disk = omega arith; sources = omega arith; targets = omega arith; sink = omega arith }; cause = refl };
     ends = tt;
     answer = tt;
     store = record {
@@ -71,12 +71,12 @@ module _ {disk files : Type 0} (s : Scene) (figures : Figures) (sound : s.store.
       settles = settled;
       figures = (has.owned, has.free);
     };
-    on_disk = λ told. record { agrees = λ _. agrees told; opens = opens_quiet (made_none _ s.disk); writes = made_none _ s.disk; step = refl; reads = reads_none s.disk };
+    on_disk = λ told. record { agrees = λ _. agrees told; opens = opens_quiet (made_none _ s.world.disk); writes = made_none _ s.world.disk; step = refl; reads = reads_none s.world.disk };
     on_files = λ told. record { beside = refl; strays = record { later = omega arith; missing = inl refl }; finished = tt };
     on_both = λ told files_tell. record {
       transfers = tt;
-      step = arranged_step s.store s.disk s.files figures (agrees told) settled has are;
-      stops = arranged_stops s.store s.disk s.files figures (agrees told) settled has are;
+      step = arranged_step s.store s.world.disk s.world.files figures (agrees told) settled has are;
+      stops = arranged_stops s.store s.world.disk s.world.files figures (agrees told) settled has are;
     };
   }
 
@@ -99,5 +99,5 @@ module _ {disk files : Type 0} (s : Scene) (figures : Figures) (sound : s.store.
         finished = tt;
         transfers = tt;
       })
-      (λ told files_tell. arranged_step s.store s.disk s.files figures (agrees told) settled has are)
-      (λ told files_tell. arranged_stops s.store s.disk s.files figures (agrees told) settled has are)
+      (λ told files_tell. arranged_step s.store s.world.disk s.world.files figures (agrees told) settled has are)
+      (λ told files_tell. arranged_stops s.store s.world.disk s.world.files figures (agrees told) settled has are)

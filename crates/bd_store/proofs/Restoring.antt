@@ -11,6 +11,7 @@ use Rattle.bd_disk.proofs.Frames.{unchanged}
 use Rattle.bd_disk.proofs.RunLemmas.{both_reads, looked, nothing_written, wider_reads}
 use Rattle.bd_files.specs.Files.{ChangesOnly, IsFinished}
 use Rattle.bd_files.specs.declared.files.Files.{Ghosts as FilesGhosts}
+use Rattle.bd_files.specs.World.{Faults, World, counts, with_disk, with_files}
 use Rattle.bd_model.specs.declared.answer.Answer.{Answer}
 use Rattle.bd_model.specs.declared.answer.Answer.TheVariants.{Restored}
 use Rattle.bd_model.specs.declared.command.Command.TheVariants.{Restore}
@@ -33,7 +34,7 @@ use Rattle.bd_volume.specs.Headers.{HasGoodHeaders}
 use Rattle.bd_restore.specs.declared.fault.RestoreFault.{RestoreFault}
 use Rattle.bd_restore.specs.declared.fault.RestoreFault.TheVariants.{TargetFault as RestoreTarget, DiskFault as RestoreDisk, Damaged as RestoreDamaged, OutOfMemory as RestoreMemory}
 use Rattle.bd_store.specs.Attempts.{Scene, Attempt, attempt, scene, EndsInDamage, KeepsStore, KeepsVersions, Meets, RestoreReads, SettlesBy, TellsFigures}
-use Rattle.bd_store.specs.Causes.{counts, FailsOnlyByCount}
+use Rattle.bd_store.specs.Causes.{FailsOnlyByCount}
 use Rattle.bd_store.specs.Naming.{fault_of_reading, fault_of_restore}
 use Rattle.bd_store.specs.Shown.{SameVersions, Shown}
 use Rattle.bd_store.specs.Touches.{is_retained, AnswersByVersion, InRestore}
@@ -51,16 +52,16 @@ changed_target : {F : Type 0} {f : FilesGhosts F} {name : List ℕ} {a b : F} �
 unfolding KeepsOthers
 changed_target changed told = changed.others told
 
-module _ {D F : Type 0} (d : DiskGhosts D) (f : FilesGhosts F) (found : Found) (stays : ℕ) (v : ℕ) (name : List ℕ) (disk0 : D) (files0 : F)
+module _ {D F : Type 0} (d : DiskGhosts D) (f : FilesGhosts F) (w : World) (found : Found) (stays : ℕ) (v : ℕ) (name : List ℕ) (disk0 : D) (files0 : F)
     (agrees : d.tells → Agrees found (d.history disk0)) (from : oldest_in found.catalogue ≤ v) (to : v ≤ found.catalogue.newest) where
   abbrev store : Bool → Shown
   store worn = record { found = found; held = stays; worn = worn }
 
   abbrev before : Scene
-  before = scene d f (store false) disk0 files0
+  before = scene (store false) (with_files f (with_disk d w disk0) files0)
 
   abbrev ended : Result Answer StoreFault → Bool → D → F → Attempt
-  ended result worn disk files = attempt (Restore v name) result before (scene d f (store worn) disk files)
+  ended result worn disk files = attempt (Restore v name) result before (scene (store worn) (with_files f (with_disk d w disk) files))
 
   retained : is_retained found v ≡ true
   retained = retained_is found v from to
@@ -113,10 +114,10 @@ module _ {D F : Type 0} (d : DiskGhosts D) (f : FilesGhosts F) (found : Found) (
     pub seen : IfDamaged {T = Planned} (Err fault) (λ damage. d.tells → IsSeen found.sizes found.catalogue (contents (d.history disk0)) [] damage (d.history disk0) (d.history disk1))
 
   module _ (disk1 : D) where
-    unread_cause : (fault : ReadFault) → CouldNotRead disk1 fault → (n m : ℕ) → FailsOnlyByCount (counts (d.faults disk0) n m) (counts (d.faults disk1) n m) (Err (fault_of_reading fault))
-    unread_cause ReadDisk is n m = record { later = record { disk = is.cause.later; sources = omega arith; targets = omega arith }; cause = (is.cause.cause, refl, refl) }
-    unread_cause (ReadDamaged damage) is n m = record { later = record { disk = is.cause.later; sources = omega arith; targets = omega arith }; cause = ap (λ k. counts k n m) is.cause.cause }
-    unread_cause ReadMemory is n m = record { later = record { disk = is.cause.later; sources = omega arith; targets = omega arith }; cause = ap (λ k. counts k n m) is.cause.cause }
+    unread_cause : (fault : ReadFault) → CouldNotRead disk1 fault → (c : Faults) → FailsOnlyByCount (record c { disk = d.faults disk0 }) (record c { disk = d.faults disk1 }) (Err (fault_of_reading fault))
+    unread_cause ReadDisk is c = record { later = record { disk = is.cause.later; sources = omega arith; targets = omega arith; sink = omega arith }; cause = (is.cause.cause, refl, refl, refl) }
+    unread_cause (ReadDamaged damage) is c = record { later = record { disk = is.cause.later; sources = omega arith; targets = omega arith; sink = omega arith }; cause = ap (λ n. record c { disk = n }) is.cause.cause }
+    unread_cause ReadMemory is c = record { later = record { disk = is.cause.later; sources = omega arith; targets = omega arith; sink = omega arith }; cause = ap (λ n. record c { disk = n }) is.cause.cause }
 
     unread_answer : (fault : ReadFault) → AnswersByVersion found v (Err (fault_of_reading fault))
     unread_answer ReadDisk = retained
@@ -137,7 +138,7 @@ module _ {D F : Type 0} (d : DiskGhosts D) (f : FilesGhosts F) (found : Found) (
         Meets d.tells f.tells (ended (Err (fault_of_reading fault)) worn disk1 files0)
     meets_unread fault worn is fails = record {
       bytes = is.disk.bytes;
-      cause = unread_cause fault is (f.source_faults files0) (f.target_faults files0);
+      cause = unread_cause fault is before.world.counts;
       answer = unread_answer fault;
       store = store_kept (Err (fault_of_reading fault)) worn disk1 files0 (beside_unread fault worn disk1 files0) fails;
       untouched = λ refused. absurd refused;
@@ -196,8 +197,8 @@ module _ {D F : Type 0} (d : DiskGhosts D) (f : FilesGhosts F) (found : Found) (
     meets_restored given ran gave = record {
       bytes = (reads _ ran).bytes;
       cause = record {
-        later = record { disk = omega (arith, ran.cause.disk.later, read.faults); sources = omega (arith, ran.files.sources); targets = ran.cause.target.later };
-        cause = λ k. counts ((ran.cause.disk.cause ∙ read.faults) k) (ran.files.sources k) (ran.cause.target.cause k);
+        later = record { disk = omega (arith, ran.cause.disk.later, read.faults); sources = omega (arith, ran.files.sources); targets = ran.cause.target.later; sink = omega arith };
+        cause = λ k. counts ((ran.cause.disk.cause ∙ read.faults) k) (ran.files.sources k) (ran.cause.target.cause k) w.counts.sink;
       };
       answer = (omega (arith, from, to), retained, refl, gave.length ∙ read.recipe.sum);
       store = store_kept (Ok (Restored v given)) false disk2 files2 (record { versions = same false; settles = tt; figures = tt; step = refl }) (λ e. let no : false ≡ true = e in absurd (cc), λ e. let no : ◌≡◌ {A = Result Answer StoreFault} (Ok (Restored v given)) (Err DiskFault) = e in absurd (cc));
@@ -229,22 +230,22 @@ module _ {D F : Type 0} (d : DiskGhosts D) (f : FilesGhosts F) (found : Found) (
     -- it stopped at a fault
 
     stopped_cause : (fault : RestoreFault) → Ran (Err fault) →
-        FailsOnlyByCount (counts (d.faults disk0) (f.source_faults files0) (f.target_faults files0)) (counts (d.faults disk2) (f.source_faults files2) (f.target_faults files2)) (Err (fault_of_restore fault))
+        FailsOnlyByCount (counts (d.faults disk0) (f.source_faults files0) (f.target_faults files0) w.counts.sink) (counts (d.faults disk2) (f.source_faults files2) (f.target_faults files2) w.counts.sink) (Err (fault_of_restore fault))
     stopped_cause RestoreTarget ran = record {
-      later = record { disk = omega (arith, ran.cause.disk.later, read.faults); sources = omega (arith, ran.files.sources); targets = ran.cause.target.later };
-      cause = (ran.cause.target.cause, ran.cause.disk.cause ∙ read.faults, ran.files.sources);
+      later = record { disk = omega (arith, ran.cause.disk.later, read.faults); sources = omega (arith, ran.files.sources); targets = ran.cause.target.later; sink = omega arith };
+      cause = (ran.cause.target.cause, ran.cause.disk.cause ∙ read.faults, ran.files.sources, refl);
     }
     stopped_cause RestoreDisk ran = record {
-      later = record { disk = omega (arith, ran.cause.disk.later, read.faults); sources = omega (arith, ran.files.sources); targets = ran.cause.target.later };
-      cause = (subst (λ n. Rose n (d.faults disk2)) read.faults ran.cause.disk.cause, ran.files.sources, ran.cause.target.cause);
+      later = record { disk = omega (arith, ran.cause.disk.later, read.faults); sources = omega (arith, ran.files.sources); targets = ran.cause.target.later; sink = omega arith };
+      cause = (subst (λ n. Rose n (d.faults disk2)) read.faults ran.cause.disk.cause, ran.files.sources, ran.cause.target.cause, refl);
     }
     stopped_cause (RestoreDamaged damage) ran = record {
-      later = record { disk = omega (arith, ran.cause.disk.later, read.faults); sources = omega (arith, ran.files.sources); targets = ran.cause.target.later };
-      cause = λ k. counts ((ran.cause.disk.cause ∙ read.faults) k) (ran.files.sources k) (ran.cause.target.cause k);
+      later = record { disk = omega (arith, ran.cause.disk.later, read.faults); sources = omega (arith, ran.files.sources); targets = ran.cause.target.later; sink = omega arith };
+      cause = λ k. counts ((ran.cause.disk.cause ∙ read.faults) k) (ran.files.sources k) (ran.cause.target.cause k) w.counts.sink;
     }
     stopped_cause RestoreMemory ran = record {
-      later = record { disk = omega (arith, ran.cause.disk.later, read.faults); sources = omega (arith, ran.files.sources); targets = ran.cause.target.later };
-      cause = λ k. counts ((ran.cause.disk.cause ∙ read.faults) k) (ran.files.sources k) (ran.cause.target.cause k);
+      later = record { disk = omega (arith, ran.cause.disk.later, read.faults); sources = omega (arith, ran.files.sources); targets = ran.cause.target.later; sink = omega arith };
+      cause = λ k. counts ((ran.cause.disk.cause ∙ read.faults) k) (ran.files.sources k) (ran.cause.target.cause k) w.counts.sink;
     }
 
     stopped_answer : (fault : RestoreFault) → AnswersByVersion found v (Err (fault_of_restore fault))

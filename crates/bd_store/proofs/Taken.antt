@@ -44,7 +44,7 @@ holds_committed found {before = before} {after = after} small elsewhere holds = 
   apart extents = agree_fewer _ (InExtents found.sizes extents) before after (λ place owned written. front_apart found.sizes extents place (half_front found.sizes (1 - found.half.number) place (omega (arith, small)) written) owned) elsewhere
 
 -- so does a source that wasn't taken in
-pub takes_nothing : {a : Attempt} {name : List ℕ} {result : Result Answer StoreFault} → ((s : Source) → TakesStream s a.after.store.found (contents a.after.disk) result) → TakesNothing result → TakesSource a name result
+pub takes_nothing : {a : Attempt} {name : List ℕ} {result : Result Answer StoreFault} → ((s : Source) → TakesStream s a.after.store.found (contents a.after.world.disk) result) → TakesNothing result → TakesSource a name result
 takes_nothing every nothing = record { taken = λ old stream newest there. every _; missing = λ lacks. nothing }
 
 -- ---- behind what settled the store

@@ -12,6 +12,7 @@ use Rattle.bd_disk.proofs.Frames.{made_both, made_none, writes_wider}
 use Rattle.bd_disk.proofs.RunLemmas.{nothing_read, written}
 use Rattle.bd_disk.proofs.Traces.{reads_both, reads_none}
 use Rattle.bd_files.specs.declared.files.Files.{Ghosts as FilesGhosts}
+use Rattle.bd_files.specs.World.{World, counts, with_disk, with_files}
 use Rattle.bd_model.specs.FileMap.{FileMap}
 use Rattle.bd_model.specs.Chunks.{chunks}
 use Rattle.bd_model.specs.Laws.{entries_in}
@@ -46,7 +47,7 @@ use Rattle.bd_intake.specs.Filling.{CountsMissing, LeavesFiles}
 use Rattle.bd_intake.specs.Firsts.{cut_in, new_by_mark}
 use Rattle.bd_arrange.proofs.Opens.{opens_staged}
 use Rattle.bd_store.specs.Attempts.{Scene, attempt, scene, KeepsVersions, SettlesBy, TakesSource, TellsFigures}
-use Rattle.bd_store.specs.Causes.{counts, FailsOnlyByCount, StraysOnlyBy}
+use Rattle.bd_store.specs.Causes.{FailsOnlyByCount, StraysOnlyBy}
 use Rattle.bd_store.specs.Following.{EndsReady, Follows}
 use Rattle.bd_store.specs.Kept.{IsKept}
 use Rattle.bd_store.specs.Naming.{refusal_of, with_room, AnswersNaming}
@@ -148,7 +149,7 @@ refused_figures new SourceFailed free has = tt
 refused_figures new DiskFailed free has = tt
 refused_figures new MemoryFailed free has = tt
 
-module _ {D F : Type 0} (d : DiskGhosts D) (f : FilesGhosts F) (found : Found) (space : Allotment) (name : List ℕ) (disk1 : D) (files0 : F) (begun : Begun found space d.tells (d.history disk1))
+module _ {D F : Type 0} (d : DiskGhosts D) (f : FilesGhosts F) (w : World) (found : Found) (space : Allotment) (name : List ℕ) (disk1 : D) (files0 : F) (begun : Begun found space d.tells (d.history disk1))
     (law : (h : Versions) (w : List (List ℕ)) → Distinct (version h (newest h) ++ w) → new_by_mark (recipe h (newest h)) w ≡ fresh h w)
     (old : List RecipeEntry) (is_old : d.tells → IsNewestRecipe found (contents (d.history disk1)) old) (disk2 : D) (files2 : F) where
   abbrev held : ℕ
@@ -158,7 +159,7 @@ module _ {D F : Type 0} (d : DiskGhosts D) (f : FilesGhosts F) (found : Found) (
   start = record { found = found; held = held; worn = false }
 
   abbrev before : Scene
-  before = scene d f start disk1 files0
+  before = scene start (with_files f (with_disk d w disk1) files0)
 
   abbrev h1 : History
   h1 = d.history disk1
@@ -189,22 +190,22 @@ module _ {D F : Type 0} (d : DiskGhosts D) (f : FilesGhosts F) (found : Found) (
   free_is free has = omega (arith, has.so, counts-all space, taken_count-exact space (all_extents found.catalogue) begun.owners, begun.count)
 
   refused_cause : (fault : IntakeFault) → TookIn (Err fault) →
-      FailsOnlyByCount (counts (d.faults disk1) (f.source_faults files0) (f.target_faults files0)) (counts (d.faults disk2) (f.source_faults files2) (f.target_faults files2)) (refusal_of fault)
+      FailsOnlyByCount (counts (d.faults disk1) (f.source_faults files0) (f.target_faults files0) w.counts.sink) (counts (d.faults disk2) (f.source_faults files2) (f.target_faults files2) w.counts.sink) (refusal_of fault)
   refused_cause (Full counted free kept) took = record {
-    later = record { disk = took.cause.disk_later; sources = took.cause.source_later; targets = omega (arith, took.files.targets) };
-    cause = λ k. counts (took.cause.cause.0 k) (took.cause.cause.1 k) (took.files.targets k);
+    later = record { disk = took.cause.disk_later; sources = took.cause.source_later; targets = omega (arith, took.files.targets); sink = omega arith };
+    cause = λ k. counts (took.cause.cause.0 k) (took.cause.cause.1 k) (took.files.targets k) w.counts.sink;
   }
   refused_cause SourceFailed took = record {
-    later = record { disk = took.cause.disk_later; sources = took.cause.source_later; targets = omega (arith, took.files.targets) };
-    cause = (took.cause.cause.0, took.cause.cause.1, took.files.targets);
+    later = record { disk = took.cause.disk_later; sources = took.cause.source_later; targets = omega (arith, took.files.targets); sink = omega arith };
+    cause = (took.cause.cause.0, took.cause.cause.1, took.files.targets, refl);
   }
   refused_cause DiskFailed took = record {
-    later = record { disk = took.cause.disk_later; sources = took.cause.source_later; targets = omega (arith, took.files.targets) };
-    cause = (took.cause.cause.0, took.cause.cause.1, took.files.targets);
+    later = record { disk = took.cause.disk_later; sources = took.cause.source_later; targets = omega (arith, took.files.targets); sink = omega arith };
+    cause = (took.cause.cause.0, took.cause.cause.1, took.files.targets, refl);
   }
   refused_cause MemoryFailed took = record {
-    later = record { disk = took.cause.disk_later; sources = took.cause.source_later; targets = omega (arith, took.files.targets) };
-    cause = λ k. counts (took.cause.cause.0 k) (took.cause.cause.1 k) (took.files.targets k);
+    later = record { disk = took.cause.disk_later; sources = took.cause.source_later; targets = omega (arith, took.files.targets); sink = omega arith };
+    cause = λ k. counts (took.cause.cause.0 k) (took.cause.cause.1 k) (took.files.targets k) w.counts.sink;
   }
 
   -- the refusal with the room that the store has now is the intake's own
@@ -221,7 +222,7 @@ module _ {D F : Type 0} (d : DiskGhosts D) (f : FilesGhosts F) (found : Found) (
 
   -- what is counted of the source is beside the recipe of the version before
   refused_transfers : (fault : IntakeFault) (worn : Bool) → TookIn (Err fault) → d.tells → f.tells →
-      TakesSource (attempt (Backup name) (refusal_of fault) before (scene d f (record { found = found; held = held; worn = worn }) disk2 files2)) name (refusal_of fault)
+      TakesSource (attempt (Backup name) (refusal_of fault) before (scene (record { found = found; held = held; worn = worn }) (with_files f (with_disk d w disk2) files2))) name (refusal_of fault)
   refused_transfers (Full counted free kept) worn took told files_tell = record {
     taken = λ older stream newest there.
         let so = took.counted files_tell stream there in
@@ -237,7 +238,7 @@ module _ {D F : Type 0} (d : DiskGhosts D) (f : FilesGhosts F) (found : Found) (
   refused_transfers MemoryFailed worn took told files_tell = takes_nothing (λ s. tt) tt
 
   follows_refused : (fault : IntakeFault) (worn : Bool) → TookIn (Err fault) → TellsFigures (record { found = found; held = held; worn = worn }) (refusal_of fault) → ((worn ≡ true) ↔ (refusal_of fault ≡ Err DiskFault)) →
-      Follows d.tells f.tells (attempt (Backup name) (refusal_of fault) before (scene d f (record { found = found; held = held; worn = worn }) disk2 files2))
+      Follows d.tells f.tells (attempt (Backup name) (refusal_of fault) before (scene (record { found = found; held = held; worn = worn }) (with_files f (with_disk d w disk2) files2)))
   follows_refused fault worn took figures fails = record {
     bytes = took.disk.bytes;
     cause = refused_cause fault took;
@@ -270,7 +271,7 @@ module _ {D F : Type 0} (d : DiskGhosts D) (f : FilesGhosts F) (found : Found) (
 
   -- it is answered with the room that the store has now
   pub refused_follows : (fault : IntakeFault) (free : ℕ) (worn : Bool) → TookIn (Err fault) → HasFree start free → ((worn ≡ true) ↔ (refusal_of (with_room free held fault) ≡ Err DiskFault)) →
-      Follows d.tells f.tells (attempt (Backup name) (refusal_of (with_room free held fault)) before (scene d f (record { found = found; held = held; worn = worn }) disk2 files2))
+      Follows d.tells f.tells (attempt (Backup name) (refusal_of (with_room free held fault)) before (scene (record { found = found; held = held; worn = worn }) (with_files f (with_disk d w disk2) files2)))
   refused_follows fault free worn took has fails =
       follows_refused (with_room free held fault) worn (with_room_is fault free has took) (refused_figures (record { found = found; held = held; worn = worn }) fault free (record { so = has.so })) fails
 
@@ -305,7 +306,7 @@ module _ {D F : Type 0} (d : DiskGhosts D) (f : FilesGhosts F) (found : Found) (
     figures = BackedUp (found.catalogue.newest + 1) staged.version.length staged.version.chunks staged.version.fresh staged.need
 
     taken_in : (disk3 : D) (found3 : Found) (space3 : Allotment) (worn : Bool) → d.tells → f.tells → found3 ≡ after → IsMade found after h2 (d.history disk3) →
-        TakesSource (attempt (Backup name) (Ok figures) before (scene d f (record { found = found3; held = held_count space3; worn = worn }) disk3 files2)) name (Ok figures)
+        TakesSource (attempt (Backup name) (Ok figures) before (scene (record { found = found3; held = held_count space3; worn = worn }) (with_files f (with_disk d w disk3) files2))) name (Ok figures)
     taken_in disk3 found3 space3 worn told files_tell made done = record {
       taken = λ older stream newest there.
           let same : old ≡ older = newest_same (is_old told) newest in
@@ -326,7 +327,7 @@ module _ {D F : Type 0} (d : DiskGhosts D) (f : FilesGhosts F) (found : Found) (
 
     -- it is named
     named_follows : (disk3 : D) (found3 : Found) (space3 : Allotment) (worn : Bool) → (answer : Answer) → Named disk3 found3 space3 (Ok answer) → ((worn ≡ true) ↔ (◌≡◌ {A = Result Answer StoreFault} (Ok answer) (Err DiskFault))) →
-        Follows d.tells f.tells (attempt (Backup name) (Ok answer) before (scene d f (record { found = found3; held = held_count space3; worn = worn }) disk3 files2))
+        Follows d.tells f.tells (attempt (Backup name) (Ok answer) before (scene (record { found = found3; held = held_count space3; worn = worn }) (with_files f (with_disk d w disk3) files2)))
     named_follows disk3 found3 space3 worn answer is fails =
         let says = sym is.answer in
         let grows = gained found.catalogue (version_entry staged.version) (fresh_entries staged.fresh) in
@@ -334,8 +335,8 @@ module _ {D F : Type 0} (d : DiskGhosts D) (f : FilesGhosts F) (found : Found) (
         record {
           bytes = is.disk.bytes ∙ took.disk.bytes;
           cause = record {
-            later = record { disk = omega (arith, took.cause.disk_later, is.cause.later); sources = took.cause.source_later; targets = omega (arith, took.files.targets) };
-            cause = λ k. counts ((is.cause.kept ∙ took.cause.cause.0) k) (took.cause.cause.1 k) (took.files.targets k);
+            later = record { disk = omega (arith, took.cause.disk_later, is.cause.later); sources = took.cause.source_later; targets = omega (arith, took.files.targets); sink = omega arith };
+            cause = λ k. counts ((is.cause.kept ∙ took.cause.cause.0) k) (took.cause.cause.1 k) (took.files.targets k) w.counts.sink;
           };
           ends = subst (λ a. EndsReady (Ok a)) says tt;
           answer = subst (λ a. AnswersByNumbers found (Ok a)) says (goes, refl);
@@ -361,7 +362,7 @@ module _ {D F : Type 0} (d : DiskGhosts D) (f : FilesGhosts F) (found : Found) (
           };
           on_files = λ told. record { beside = took.files.same told; strays = strays_of _ _ _ _ (took.files.strays told); finished = tt };
           on_both = λ told files_tell. record {
-            transfers = subst (λ a. TakesSource (attempt (Backup name) (Ok a) before (scene d f end disk3 files2)) name (Ok a)) says (taken_in disk3 found3 space3 worn told files_tell is.made (is.done told));
+            transfers = subst (λ a. TakesSource (attempt (Backup name) (Ok a) before (scene end (with_files f (with_disk d w disk3) files2))) name (Ok a)) says (taken_in disk3 found3 space3 worn told files_tell is.made (is.done told));
             step = made_one_step found name (f.files files0) (f.files files2) (took.files.same files_tell) h1 h2 space (begun.agrees told) begun.settled begun.below begun.fewer (written took.disk told) begun.count begun.owners old (is_old told)
                 law staged (took.counted files_tell) (took.files.missing files_tell) (stored told files_tell) (d.history disk3) answer is.answer (is.done told).kept;
             stops = made_safe found name (f.files files0) (f.files files2) (took.files.same files_tell) h1 h2 space (begun.agrees told) begun.settled begun.below begun.fewer (written took.disk told) begun.count begun.owners old (is_old told)
@@ -371,14 +372,14 @@ module _ {D F : Type 0} (d : DiskGhosts D) (f : FilesGhosts F) (found : Found) (
 
     -- its commit failed
     failed_follows : (disk3 : D) (found3 : Found) (space3 : Allotment) (worn : Bool) → Named disk3 found3 space3 (Err DiskFault) → ((worn ≡ true) ↔ (◌≡◌ {A = Result Answer StoreFault} (Err DiskFault) (Err DiskFault))) →
-        Follows d.tells f.tells (attempt (Backup name) (Err DiskFault) before (scene d f (record { found = found3; held = held_count space3; worn = worn }) disk3 files2))
+        Follows d.tells f.tells (attempt (Backup name) (Err DiskFault) before (scene (record { found = found3; held = held_count space3; worn = worn }) (with_files f (with_disk d w disk3) files2)))
     failed_follows disk3 found3 space3 worn is fails =
         let gone : worn ≡ true = fails.1 refl in
         record {
           bytes = is.disk.bytes ∙ took.disk.bytes;
           cause = record {
-            later = record { disk = omega (arith, took.cause.disk_later, is.cause.later); sources = took.cause.source_later; targets = omega (arith, took.files.targets) };
-            cause = (subst (λ n. Rose n (d.faults disk3)) took.cause.cause.0 is.cause.failed, took.cause.cause.1, took.files.targets);
+            later = record { disk = omega (arith, took.cause.disk_later, is.cause.later); sources = took.cause.source_later; targets = omega (arith, took.files.targets); sink = omega arith };
+            cause = (subst (λ n. Rose n (d.faults disk3)) took.cause.cause.0 is.cause.failed, took.cause.cause.1, took.files.targets, refl);
           };
           ends = tt;
           answer = goes;
@@ -401,23 +402,23 @@ module _ {D F : Type 0} (d : DiskGhosts D) (f : FilesGhosts F) (found : Found) (
         }
 
     pub named_or_failed : (disk3 : D) (found3 : Found) (space3 : Allotment) (worn : Bool) (result : Result Answer StoreFault) → Named disk3 found3 space3 result → ((worn ≡ true) ↔ (result ≡ Err DiskFault)) →
-        Follows d.tells f.tells (attempt (Backup name) result before (scene d f (record { found = found3; held = held_count space3; worn = worn }) disk3 files2))
+        Follows d.tells f.tells (attempt (Backup name) result before (scene (record { found = found3; held = held_count space3; worn = worn }) (with_files f (with_disk d w disk3) files2)))
     named_or_failed disk3 found3 space3 worn (Ok answer) is fails = named_follows disk3 found3 space3 worn answer is fails
     named_or_failed disk3 found3 space3 worn (Err fault) is fails =
         let Met : StoreFault → Type 0 =
         λ e. Named disk3 found3 space3 (Err e) → ((worn ≡ true) ↔ (◌≡◌ {A = Result Answer StoreFault} (Err e) (Err DiskFault))) →
-        Follows d.tells f.tells (attempt (Backup name) (Err e) before (scene d f (record { found = found3; held = held_count space3; worn = worn }) disk3 files2)) in
+        Follows d.tells f.tells (attempt (Backup name) (Err e) before (scene (record { found = found3; held = held_count space3; worn = worn }) (with_files f (with_disk d w disk3) files2))) in
         subst Met (sym is.answer) (failed_follows disk3 found3 space3 worn) is fails
 
 -- memory wasn't there to name a version
-pub follows_without_memory : {disk files : Type 0} (name : List ℕ) (s : Scene) → s.store.worn ≡ false → (disk → Agrees s.store.found s.disk) → is_full s.store.found ≡ false → Follows disk files (attempt (Backup name) (Err OutOfMemory) s s)
+pub follows_without_memory : {disk files : Type 0} (name : List ℕ) (s : Scene) → s.store.worn ≡ false → (disk → Agrees s.store.found s.world.disk) → is_full s.store.found ≡ false → Follows disk files (attempt (Backup name) (Err OutOfMemory) s s)
 follows_without_memory name s sound agrees goes = record {
   bytes = refl;
-  cause = record { later = record { disk = omega arith; sources = omega arith; targets = omega arith }; cause = refl };
+  cause = record { later = record { disk = omega arith; sources = omega arith; targets = omega arith; sink = omega arith }; cause = refl };
   ends = tt;
   answer = goes;
   store = record { worn = (λ worn. not_both worn sound, λ failed. absurd (cc failed)); sizes = λ _. refl; held = refl; versions = same_versions s.store; settles = tt; figures = tt };
-  on_disk = λ told. record { agrees = λ _. agrees told; opens = opens_quiet (made_none _ s.disk); writes = made_none _ s.disk; step = refl; reads = reads_none s.disk };
+  on_disk = λ told. record { agrees = λ _. agrees told; opens = opens_quiet (made_none _ s.world.disk); writes = made_none _ s.world.disk; step = refl; reads = reads_none s.world.disk };
   on_files = λ told. record { beside = refl; strays = record { later = omega arith; missing = inl refl }; finished = tt };
-  on_both = λ told files_tell. record { transfers = takes_nothing (λ s. tt) tt; step = memory_step (Backup name) s.store.held s.disk s.files; stops = safe_untouched (Backup name) s.store.held s.disk s.files OutOfMemory };
+  on_both = λ told files_tell. record { transfers = takes_nothing (λ s. tt) tt; step = memory_step (Backup name) s.store.held s.world.disk s.world.files; stops = safe_untouched (Backup name) s.store.held s.world.disk s.world.files OutOfMemory };
 }

@@ -5,6 +5,7 @@ use Rattle.bd_disk.specs.History.{History, contents}
 use Rattle.bd_disk.specs.Looks.{LooksOnlyAt}
 use Rattle.bd_disk.specs.Made.{LeavesSince, WritesNothing, WritesOnly}
 use Rattle.bd_disk.proofs.Frames.{leaves_wider}
+use Rattle.bd_files.specs.World.{Faults}
 use Rattle.bd_model.specs.FileMap.{FileMap}
 use Rattle.bd_model.specs.declared.answer.Answer.{Answer}
 use Rattle.bd_model.specs.declared.command.Command.{Command}
@@ -20,7 +21,7 @@ use Rattle.bd_recipe.specs.declared.fault.ReadFault.{ReadFault}
 use Rattle.bd_recipe.specs.declared.fault.ReadFault.TheVariants.{DiskFault as ReadDisk, Damaged as ReadDamaged, OutOfMemory as ReadMemory}
 use Rattle.bd_arrange.specs.Arranged.{Arranges, ButDiskFault, IsSpared, KeepsStates}
 use Rattle.bd_store.specs.Attempts.{Attempt, EndsInDamage, IsAnswerOf, KeepsVersions, SettlesBy, TellsFigures, Meets, Scene, attempt, EndsFor, Finishes, MayLook, NamesFor, NewestEnds, ReadsByCommand, TransfersFor}
-use Rattle.bd_store.specs.Causes.{counts, FailsOnlyByCount}
+use Rattle.bd_store.specs.Causes.{FailsOnlyByCount}
 use Rattle.bd_store.specs.Deeds.{Deed, TakesIn, GivesBack, GivesUp, Settles, Checks, Tells, deed_of, target_of}
 use Rattle.bd_store.specs.Following.{MakesReady, ReadiesFor, IsMadeReady}
 use Rattle.bd_store.specs.Naming.{fault_of_reading, NamesArranging}
@@ -41,10 +42,10 @@ use Rattle.bd_store.proofs.Taken.{takes_nothing}
 
 -- ---- over whatever disk
 
-pub unready_cause : (fault : ReadFault) (before now n m : ℕ) → FailsByOne {T = Marked} is_disk_fault before now (Err fault) → FailsOnlyByCount (counts before n m) (counts now n m) (Err (fault_of_reading fault))
-unready_cause ReadDisk before now n m is = record { later = record { disk = is.later; sources = omega arith; targets = omega arith }; cause = (is.cause, refl, refl) }
-unready_cause (ReadDamaged damage) before now n m is = record { later = record { disk = is.later; sources = omega arith; targets = omega arith }; cause = ap (λ k. counts k n m) is.cause }
-unready_cause ReadMemory before now n m is = record { later = record { disk = is.later; sources = omega arith; targets = omega arith }; cause = ap (λ k. counts k n m) is.cause }
+pub unready_cause : (fault : ReadFault) (c : Faults) (now : ℕ) → FailsByOne {T = Marked} is_disk_fault c.disk now (Err fault) → FailsOnlyByCount c (record c { disk = now }) (Err (fault_of_reading fault))
+unready_cause ReadDisk c now is = record { later = record { disk = is.later; sources = omega arith; targets = omega arith; sink = omega arith }; cause = (is.cause, refl, refl, refl) }
+unready_cause (ReadDamaged damage) c now is = record { later = record { disk = is.later; sources = omega arith; targets = omega arith; sink = omega arith }; cause = ap (λ n. record c { disk = n }) is.cause }
+unready_cause ReadMemory c now is = record { later = record { disk = is.later; sources = omega arith; targets = omega arith; sink = omega arith }; cause = ap (λ n. record c { disk = n }) is.cause }
 
 pub unready_answer : (command : Command) (old new : Shown) (fault : ReadFault) → MakesReady old.found command → Readies old new (Err fault) → IsAnswerOf old.found command (Err (fault_of_reading fault))
 unready_answer command old new fault makes is = by_ready old.found (λ c. IsAnswerOf old.found c (Err (fault_of_reading fault))) (record {
@@ -188,12 +189,12 @@ module _ (disk files : Type 0) (command : Command) (before : Scene) (mid : Found
   module _ (is : IsMadeReady disk before failed (Err fault)) where
     refusal_reads : ReadsByCommand refusal command
     refusal_reads = by_ready before.store.found (λ c. ReadsByCommand refusal c) (record {
-      backup = λ name not_full. unready_reads before.store.found before.disk h1 fault;
-      expiry = λ first. unready_expiry before.store.found mid before.disk h1 fault first;
+      backup = λ name not_full. unready_reads before.store.found before.world.disk h1 fault;
+      expiry = λ first. unready_expiry before.store.found mid before.world.disk h1 fault first;
       arranging = λ waiting settled. rests_not before.store.found waiting settled;
     }) command makes
 
-    refusal_looks : disk → (deed : Deed) → ReadiesFor before.store.found deed → LooksOnlyAt (MayLook before.store.found deed) before.disk h1
+    refusal_looks : disk → (deed : Deed) → ReadiesFor before.store.found deed → LooksOnlyAt (MayLook before.store.found deed) before.world.disk h1
     refusal_looks told (TakesIn source) may = (is.told told).looks
     refusal_looks told (GivesBack v target) may = absurd may
     refusal_looks told (GivesUp count) may = (is.told told).looks
@@ -201,8 +202,8 @@ module _ (disk files : Type 0) (command : Command) (before : Scene) (mid : Found
     refusal_looks told Checks may = absurd may
     refusal_looks told Tells may = absurd may
 
-    names_due : disk → NamesArranging before.store.found before.disk h1 (Err (fault_of_reading fault))
-    names_due told = unready_names before.store.held before.store.found mid before.disk h1 fault (is.told told).readies.answer
+    names_due : disk → NamesArranging before.store.found before.world.disk h1 (Err (fault_of_reading fault))
+    names_due told = unready_names before.store.held before.store.found mid before.world.disk h1 fault (is.told told).readies.answer
 
     refusal_names : disk → (deed : Deed) → ReadiesFor before.store.found deed → NamesFor refusal deed
     refusal_names told (TakesIn source) may = names_due told
@@ -223,7 +224,7 @@ module _ (disk files : Type 0) (command : Command) (before : Scene) (mid : Found
     refusal_recipe told Checks may = absurd may
     refusal_recipe told Tells may = absurd may
 
-    refusal_finishes : (target : Option (List ℕ)) → Finishes target (Err (fault_of_reading fault)) before.unfinished
+    refusal_finishes : (target : Option (List ℕ)) → Finishes target (Err (fault_of_reading fault)) before.world.unfinished
     refusal_finishes None = tt
     refusal_finishes (Some target) = given_nothing _ (fault_of_reading fault)
 
@@ -238,7 +239,7 @@ module _ (disk files : Type 0) (command : Command) (before : Scene) (mid : Found
     refusal_meets : Meets disk files refusal
     refusal_meets = record {
       bytes = refl;
-      cause = unready_cause fault before.counts.disk faults before.counts.sources before.counts.targets is.cause;
+      cause = unready_cause fault before.world.counts faults is.cause;
       answer = unready_answer command before.store failed.store fault makes is.store;
       store = record {
         worn = unready_worn fault worn is.worn;
@@ -252,21 +253,21 @@ module _ (disk files : Type 0) (command : Command) (before : Scene) (mid : Found
       on_disk = λ told. record {
         agrees = unready_agrees fault worn (Agrees mid h1) is.worn (is.told told).readies.agrees;
         opens = opens_before (contents h1) (λ no. (is.told told).readies.quiet (ready_settled before.store.found (deed_of before.store.found command) makes no)) (is.told told).readies.opens;
-        writes = unready_writes before.store.held command before.store failed.store before.disk h1 fault makes is.store (is.told told).readies.quiet (is.told told).writes;
+        writes = unready_writes before.store.held command before.store failed.store before.world.disk h1 fault makes is.store (is.told told).readies.quiet (is.told told).writes;
         reads = refusal_reads;
         looks = refusal_looks told (deed_of before.store.found command) makes;
         damage = refusal_names told (deed_of before.store.found command) makes;
         recipe = refusal_recipe told (deed_of before.store.found command) makes;
       };
       on_files = λ told. record {
-        beside = files_stay (target_of command) before.files;
+        beside = files_stay (target_of command) before.world.files;
         strays = record { later = omega arith; missing = inl refl };
         finished = refusal_finishes (target_of command);
       };
       on_both = λ told files_tell. record {
         transfers = refusal_transfers (deed_of before.store.found command) makes;
-        step = unready_step command before.store.held before.disk h1 before.files fault (is.told told).readies.states (files_stay (target_of command) before.files);
-        stops = unready_stops command before.store.held before.disk h1 before.files fault (is.told told).readies.states;
+        step = unready_step command before.store.held before.world.disk h1 before.world.files fault (is.told told).readies.states (files_stay (target_of command) before.world.files);
+        stops = unready_stops command before.store.held before.world.disk h1 before.world.files fault (is.told told).readies.states;
       };
     }
 
@@ -275,4 +276,4 @@ pub refused : {disk files : Type 0} {command : Command} {before now : Scene} {fa
     IsMadeReady disk before now (Err fault) → Meets disk files (attempt command (Err (fault_of_reading fault)) before now)
 refused {disk} {files} {command} {before} {now} {fault} makes is =
     subst (λ (s : Scene). Meets disk files (attempt command (Err (fault_of_reading fault)) before s)) (went_on is)
-    (refusal_meets disk files command before now.store.found now.store.worn now.disk now.counts.disk fault makes (subst (λ (s : Scene). IsMadeReady disk before s (Err fault)) (sym (went_on is)) is))
+    (refusal_meets disk files command before now.store.found now.store.worn now.world.disk now.world.counts.disk fault makes (subst (λ (s : Scene). IsMadeReady disk before s (Err fault)) (sym (went_on is)) is))

@@ -1,12 +1,11 @@
 -- A command on a store, what came of it, and all that is promised of that.
 use Rattle.std.specs.Prelude.{◌≡◌, ◌↔◌, ◌≤◌, ℕ, ◌+◌, true, false, List, [], ◌∷◌, ◌++◌, length, Option, Some, None, Result, Ok, Err}
 use Rattle.std.specs.FinMap as map
-use Rattle.bd_disk.specs.History.{History, contents}
+use Rattle.bd_disk.specs.History.{contents}
 use Rattle.bd_disk.specs.Looks.{LooksOnlyAt}
 use Rattle.bd_disk.specs.Made.{TouchesNothing}
-use Rattle.bd_disk.specs.declared.disk.Disk.{Ghosts as DiskGhosts}
 use Rattle.bd_files.specs.Files.{Holds, IsFinished, Lacks}
-use Rattle.bd_files.specs.declared.files.Files.{Ghosts as FilesGhosts}
+use Rattle.bd_files.specs.World.{World}
 use Rattle.bd_model.specs.FileMap.{FileMap}
 use Rattle.bd_model.specs.declared.answer.Answer.{Answer}
 use Rattle.bd_model.specs.declared.answer.Answer.TheVariants.{Listed}
@@ -26,7 +25,7 @@ use Rattle.bd_roll.specs.Splitting.{after_expire, expired}
 use Rattle.bd_recipe.specs.Reading.{recipe_found}
 use Rattle.bd_restore.specs.Target.{held, HasChunks}
 use Rattle.bd_volume.specs.Headers.{HasGoodHeaders}
-use Rattle.bd_store.specs.Causes.{Counts, counts, FailsOnlyByCount, StraysOnlyBy}
+use Rattle.bd_store.specs.Causes.{FailsOnlyByCount, StraysOnlyBy}
 use Rattle.bd_store.specs.Deeds.{Deed, TakesIn, GivesBack, GivesUp, Settles, Checks, Tells, deed_of, target_of}
 use Rattle.bd_store.specs.Naming.{IfFound, NamesArranging, NamesDamage}
 use Rattle.bd_store.specs.Newest.{IsNewestRecipe}
@@ -43,46 +42,13 @@ use Rattle.bd_store.specs.declared.fault.StoreFault.TheVariants.{DiskFault, Dama
 
 -- ---- what is seen of a command
 
--- a store with what lies round it: its disk and the files, as far as they tell, and their counts
+-- a store, and what lies round it
 pub record Scene : Type 0 where
   pub store : Shown
-  pub disk_bytes : ℕ
-  pub disk : History
-  pub files : FileMap
-  pub unfinished : List (List ℕ)
-  pub counts : Counts
-  pub strays : ℕ
+  pub world : World
 
--- the files, as far as they are told, and their counts
-pub record Beside : Type 0 where
-  pub files : FileMap
-  pub unfinished : List (List ℕ)
-  pub source_faults : ℕ
-  pub target_faults : ℕ
-  pub strays : ℕ
-
-abbrev pub beside_of : {F : Type 0} → FilesGhosts F → F → Beside
-beside_of f files = record {
-  files = f.files files;
-  unfinished = f.unfinished files;
-  source_faults = f.source_faults files;
-  target_faults = f.target_faults files;
-  strays = f.strays files;
-}
-
-abbrev pub scene_beside : {D : Type 0} → DiskGhosts D → Beside → Shown → D → Scene
-scene_beside d beside store disk = record {
-  store = store;
-  disk_bytes = d.bytes disk;
-  disk = d.history disk;
-  files = beside.files;
-  unfinished = beside.unfinished;
-  counts = counts (d.faults disk) beside.source_faults beside.target_faults;
-  strays = beside.strays;
-}
-
-abbrev pub scene : {D F : Type 0} → DiskGhosts D → FilesGhosts F → Shown → D → F → Scene
-scene d f store disk files = scene_beside d (beside_of f files) store disk
+abbrev pub scene : Shown → World → Scene
+scene store world = record { store = store; world = world }
 
 -- a command, what was answered, and the scene before and after it
 pub record Attempt : Type 0 where
@@ -198,19 +164,19 @@ pub record KeepsStore (a : Attempt) : Type 0 where
 
 -- what a restore that was answered read: each place once, and in the order of the layout
 pub record ReadsRestored (a : Attempt) (v : ℕ) : Type 0 where
-  pub once : ReadsOnce a.before.store.found v a.before.disk a.after.disk
-  pub layout : WalksTo a.before.store.held a.before.store.found v a.before.disk a.after.disk
+  pub once : ReadsOnce a.before.store.found v a.before.world.disk a.after.world.disk
+  pub layout : WalksTo a.before.store.held a.before.store.found v a.before.world.disk a.after.world.disk
 
 -- A restore that was answered reads its walk. One that is refused touches nothing.
 abbrev pub WalksAs : Kind → Attempt → ℕ → Type 0
-WalksAs (Gained bytes chunks fresh) a v = TouchesNothing a.before.disk a.after.disk
-WalksAs (Lost extents) a v = TouchesNothing a.before.disk a.after.disk
+WalksAs (Gained bytes chunks fresh) a v = TouchesNothing a.before.world.disk a.after.world.disk
+WalksAs (Lost extents) a v = TouchesNothing a.before.world.disk a.after.world.disk
 WalksAs Given a v = ReadsRestored a v
-WalksAs (Figures owned free) a v = TouchesNothing a.before.disk a.after.disk
-WalksAs (NoRoom counted free held) a v = TouchesNothing a.before.disk a.after.disk
-WalksAs ByNumbers a v = TouchesNothing a.before.disk a.after.disk
-WalksAs Shows a v = TouchesNothing a.before.disk a.after.disk
-WalksAs Elsewhere a v = TouchesNothing a.before.disk a.after.disk
+WalksAs (Figures owned free) a v = TouchesNothing a.before.world.disk a.after.world.disk
+WalksAs (NoRoom counted free held) a v = TouchesNothing a.before.world.disk a.after.world.disk
+WalksAs ByNumbers a v = TouchesNothing a.before.world.disk a.after.world.disk
+WalksAs Shows a v = TouchesNothing a.before.world.disk a.after.world.disk
+WalksAs Elsewhere a v = TouchesNothing a.before.world.disk a.after.world.disk
 
 abbrev pub RestoreReads : Attempt → ℕ → Result Answer StoreFault → Type 0
 RestoreReads a v (Ok answer) = WalksAs (kind_of answer) a v
@@ -222,12 +188,12 @@ RestoreReads a v (Err OutOfMemory) = Unit {0}
 
 -- which places are read, at every answer
 abbrev pub ReadsByCommand : Attempt → Command → Type 0
-ReadsByCommand a (Backup name) = BackupReads a.before.store.found a.before.disk a.after.disk a.result
+ReadsByCommand a (Backup name) = BackupReads a.before.store.found a.before.world.disk a.after.world.disk a.result
 ReadsByCommand a (Restore v name) = RestoreReads a v a.result
-ReadsByCommand a Expire = ExpiryReads a.before.store.found a.after.store.found a.before.disk a.after.disk a.result
-ReadsByCommand a Reorganise = ArrangingReads a.before.store.found a.before.disk a.after.disk
-ReadsByCommand a Scrub = TouchesNothing a.before.disk a.after.disk
-ReadsByCommand a Listing = TouchesNothing a.before.disk a.after.disk
+ReadsByCommand a Expire = ExpiryReads a.before.store.found a.after.store.found a.before.world.disk a.after.world.disk a.result
+ReadsByCommand a Reorganise = ArrangingReads a.before.store.found a.before.world.disk a.after.world.disk
+ReadsByCommand a Scrub = TouchesNothing a.before.world.disk a.after.world.disk
+ReadsByCommand a Listing = TouchesNothing a.before.world.disk a.after.world.disk
 
 -- a place that a command may read, whatever image it is and at every answer: to make the store ready the newest recipe and the
 -- open categories that are due, and to give a version back its recipe and the rows on its walk
@@ -240,7 +206,7 @@ MayLook found Checks = InStored found
 MayLook found Tells = λ place. ⊥
 
 abbrev pub LooksByCommand : Attempt → Command → Type 0
-LooksByCommand a command = LooksOnlyAt (MayLook a.before.store.found (deed_of a.before.store.found command)) a.before.disk a.after.disk
+LooksByCommand a command = LooksOnlyAt (MayLook a.before.store.found (deed_of a.before.store.found command)) a.before.world.disk a.after.world.disk
 
 -- no damage is named
 abbrev pub NamesNone : Result Answer StoreFault → Type 0
@@ -248,10 +214,10 @@ NamesNone result = IfFound result (λ damage. ⊥)
 
 -- A damage is one that the command looks for, its bytes were read, and they break its rule.
 abbrev pub NamesFor : Attempt → Deed → Type 0
-NamesFor a (TakesIn source) = NamesArranging a.before.store.found a.before.disk a.after.disk a.result
-NamesFor a (GivesBack v target) = NamesDamage a.before.store.found v a.before.disk a.after.disk a.result
-NamesFor a (GivesUp count) = NamesArranging a.before.store.found a.before.disk a.after.disk a.result
-NamesFor a Settles = NamesArranging a.before.store.found a.before.disk a.after.disk a.result
+NamesFor a (TakesIn source) = NamesArranging a.before.store.found a.before.world.disk a.after.world.disk a.result
+NamesFor a (GivesBack v target) = NamesDamage a.before.store.found v a.before.world.disk a.after.world.disk a.result
+NamesFor a (GivesUp count) = NamesArranging a.before.store.found a.before.world.disk a.after.world.disk a.result
+NamesFor a Settles = NamesArranging a.before.store.found a.before.world.disk a.after.world.disk a.result
 NamesFor a Checks = NamesNone a.result
 NamesFor a Tells = NamesNone a.result
 
@@ -260,7 +226,7 @@ DamageByCommand a command = NamesFor a (deed_of a.before.store.found command)
 
 -- what the recipe of a version is found to be
 abbrev pub recipe_before : Attempt → ℕ → Result (List RecipeEntry) Damage
-recipe_before a v = recipe_found a.before.store.found.sizes a.before.store.found.catalogue (contents a.before.disk) v
+recipe_before a v = recipe_found a.before.store.found.sizes a.before.store.found.catalogue (contents a.before.world.disk) v
 
 -- a recipe that doesn't hold ends in its damage, but for a fault of the disk and want of memory before it, and where the
 -- catalogue refuses alone
@@ -290,10 +256,10 @@ RecipeByCommand a command = EndsFor a (deed_of a.before.store.found command)
 
 -- over every image
 pub record MeetsOnDisk (a : Attempt) : Type 0 where
-  pub agrees : a.after.store.worn ≡ false → Agrees a.after.store.found a.after.disk
+  pub agrees : a.after.store.worn ≡ false → Agrees a.after.store.found a.after.world.disk
   -- a stop at any moment leaves a whole catalogue: the one before, the arranged one, or the command's
-  pub opens : KeepsOpening a.before.store.held a.before.store.found a.command a.after.store a.before.disk a.after.disk
-  pub writes : WritesByCommand a.before.store.held a.before.store.found a.after.store.found a.command a.before.disk a.after.disk a.result
+  pub opens : KeepsOpening a.before.store.held a.before.store.found a.command a.after.store a.before.world.disk a.after.world.disk
+  pub writes : WritesByCommand a.before.store.held a.before.store.found a.after.store.found a.command a.before.world.disk a.after.world.disk a.result
   pub reads : ReadsByCommand a a.command
   pub looks : LooksByCommand a a.command
   pub damage : DamageByCommand a a.command
@@ -329,9 +295,9 @@ abbrev pub FinishesByCommand : Command → Result Answer StoreFault → List (Li
 FinishesByCommand command result unfinished = Finishes (target_of command) result unfinished
 
 pub record MeetsOnFiles (a : Attempt) : Type 0 where
-  pub beside : KeepsFiles a.command a.before.files a.after.files
-  pub strays : StraysOnlyBy a.command a.before.files a.before.strays a.after.strays
-  pub finished : FinishesByCommand a.command a.result a.after.unfinished
+  pub beside : KeepsFiles a.command a.before.world.files a.after.world.files
+  pub strays : StraysOnlyBy a.command a.before.world.files a.before.world.strays a.after.world.strays
+  pub finished : FinishesByCommand a.command a.result a.after.world.unfinished
 
 -- ---- where both tell
 
@@ -345,14 +311,14 @@ pub record GivesContent (found : Found) (v : ℕ) (name image : List ℕ) (old n
 -- whatever image it is: a backup takes the file under the name in, beside the newest recipe, and nothing where there is no
 -- such file
 pub record TakesSource (a : Attempt) (name : List ℕ) (result : Result Answer StoreFault) : Type 0 where
-  pub taken : (old : List RecipeEntry) (stream : List ℕ) → IsNewestRecipe a.before.store.found (contents a.before.disk) old → Holds a.before.files name stream →
-      TakesStream (record { found = a.before.store.found; held = a.before.store.held; old = old; stream = stream }) a.after.store.found (contents a.after.disk) result
-  pub missing : Lacks a.before.files name → TakesNothing result
+  pub taken : (old : List RecipeEntry) (stream : List ℕ) → IsNewestRecipe a.before.store.found (contents a.before.world.disk) old → Holds a.before.world.files name stream →
+      TakesStream (record { found = a.before.store.found; held = a.before.store.held; old = old; stream = stream }) a.after.store.found (contents a.after.world.disk) result
+  pub missing : Lacks a.before.world.files name → TakesNothing result
 
 -- what goes from the disk to the target, and from the source to the disk
 abbrev pub TransfersFor : Attempt → Deed → Result Answer StoreFault → Type 0
 TransfersFor a (TakesIn source) result = TakesSource a source result
-TransfersFor a (GivesBack v target) result = WhereRestored result (GivesContent a.before.store.found v target (contents a.before.disk) a.before.files a.after.files)
+TransfersFor a (GivesBack v target) result = WhereRestored result (GivesContent a.before.store.found v target (contents a.before.world.disk) a.before.world.files a.after.world.files)
 TransfersFor a (GivesUp count) result = Unit {0}
 TransfersFor a Settles result = Unit {0}
 TransfersFor a Checks result = Unit {0}
@@ -364,17 +330,17 @@ TransfersByCommand a command result = TransfersFor a (deed_of a.before.store.fou
 pub record MeetsOnBoth (a : Attempt) : Type 0 where
   pub transfers : TransfersByCommand a a.command a.result
   -- it is one step of the version machine
-  pub step : IsOneStep a.command a.before.store.held a.before.store.held a.before.disk a.after.disk a.before.files a.after.files a.result
+  pub step : IsOneStep a.command a.before.store.held a.before.store.held a.before.world.disk a.after.world.disk a.before.world.files a.after.world.files a.result
   -- a stop at any moment leaves the state before it or the one after
-  pub stops : IsSafeAtStops a.command a.before.store.held a.before.store.held a.before.disk a.after.disk a.before.files a.result
+  pub stops : IsSafeAtStops a.command a.before.store.held a.before.store.held a.before.world.disk a.after.world.disk a.before.world.files a.result
 
 -- ---- all of it
 
 -- All that is promised of a command on a store. `disk` and `files` are that these two tell what they hold.
 pub record Meets (disk files : Type 0) (a : Attempt) : Type 0 where
-  pub bytes : a.after.disk_bytes ≡ a.before.disk_bytes
-  -- a fault comes by the count of its object, and leaves the two other counts
-  pub cause : FailsOnlyByCount a.before.counts a.after.counts a.result
+  pub bytes : a.after.world.disk_bytes ≡ a.before.world.disk_bytes
+  -- a fault comes by the count of its object, and leaves the other counts
+  pub cause : FailsOnlyByCount a.before.world.counts a.after.world.counts a.result
   pub answer : IsAnswerOf a.before.store.found a.command a.result
   pub store : KeepsStore a
   -- a refusal by the catalogue alone leaves everything as it was

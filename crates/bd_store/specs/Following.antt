@@ -4,6 +4,7 @@ use Rattle.bd_disk.specs.Calls.{FailsByCount}
 use Rattle.bd_disk.specs.Looks.{LooksOnlyAt}
 use Rattle.bd_disk.specs.Made.{WritesOnly}
 use Rattle.bd_disk.specs.Trace.{ReadsOnly}
+use Rattle.bd_files.specs.World.{World}
 use Rattle.bd_model.specs.declared.answer.Answer.{Answer}
 use Rattle.bd_model.specs.declared.command.Command.{Command}
 use Rattle.bd_catalog.specs.Agreement.{Agrees}
@@ -38,25 +39,20 @@ ReadiesFor found Tells = ⊥
 abbrev pub MakesReady : Found → Command → Type 0
 MakesReady found command = ReadiesFor found (deed_of found command)
 
--- what is round the store stays
-pub record StaysBeside (before after : Scene) : Type 0 where
-  pub files : after.files ≡ before.files
-  pub unfinished : after.unfinished ≡ before.unfinished
-  pub sources : after.counts.sources ≡ before.counts.sources
-  pub targets : after.counts.targets ≡ before.counts.targets
-  pub strays : after.strays ≡ before.strays
+-- but for the disk and its count, what lies round the store stays
+abbrev pub StaysBeside : World → World → Type 0
+StaysBeside before after = after ≡ record before { disk = after.disk; counts = record before.counts { disk = after.counts.disk } }
 
 -- where the disk tells: what is read and written for it, and what it leaves
 pub record IsMadeReadyOn (before after : Scene) (result : Result Marked ReadFault) : Type 0 where
-  pub looks : LooksOnlyAt (InArranging before.store.found) before.disk after.disk
-  pub writes : WritesOnly (IsSpared before.store.found) before.disk after.disk
-  pub readies : ReadiesOn before.store.held before.store.found after.store.found before.disk after.disk result
+  pub looks : LooksOnlyAt (InArranging before.store.found) before.world.disk after.world.disk
+  pub writes : WritesOnly (IsSpared before.store.found) before.world.disk after.world.disk
+  pub readies : ReadiesOn before.store.held before.store.found after.store.found before.world.disk after.world.disk result
 
 -- a store that was made ready, or not
 pub record IsMadeReady (disk : Type 0) (before after : Scene) (result : Result Marked ReadFault) : Type 0 where
-  pub bytes : after.disk_bytes ≡ before.disk_bytes
-  pub beside : StaysBeside before after
-  pub cause : FailsByCount is_disk_fault before.counts.disk after.counts.disk result
+  pub beside : StaysBeside before.world after.world
+  pub cause : FailsByCount is_disk_fault before.world.counts.disk after.world.counts.disk result
   pub worn : (after.store.worn ≡ true) ↔ (result ≡ Err ReadDisk)
   pub held : after.store.held ≡ before.store.held
   pub store : Readies before.store after.store result
@@ -82,21 +78,21 @@ EndsReady (Err (Damaged damage)) = ⊥
 EndsReady (Err OutOfMemory) = Unit {0}
 
 pub record FollowsOnDisk (a : Attempt) : Type 0 where
-  pub agrees : a.after.store.worn ≡ false → Agrees a.after.store.found a.after.disk
-  pub opens : KeepsReady a.before.store.found a.command a.after.store a.before.disk a.after.disk
-  pub writes : WritesReady a.before.store.found a.command a.before.disk a.after.disk
+  pub agrees : a.after.store.worn ≡ false → Agrees a.after.store.found a.after.world.disk
+  pub opens : KeepsReady a.before.store.found a.command a.after.store a.before.world.disk a.after.world.disk
+  pub writes : WritesReady a.before.store.found a.command a.before.world.disk a.after.world.disk
   pub step : StepsTo a.before.store.found.catalogue a.after.store.found.catalogue a.result
-  pub reads : ReadsOnly [] a.before.disk a.after.disk
+  pub reads : ReadsOnly [] a.before.world.disk a.after.world.disk
 
 pub record FollowsOnBoth (a : Attempt) : Type 0 where
   pub transfers : TransfersByCommand a a.command a.result
-  pub step : IsOneStep a.command a.before.store.held a.before.store.held a.before.disk a.after.disk a.before.files a.after.files a.result
-  pub stops : IsSafeAtStops a.command a.before.store.held a.before.store.held a.before.disk a.after.disk a.before.files a.result
+  pub step : IsOneStep a.command a.before.store.held a.before.store.held a.before.world.disk a.after.world.disk a.before.world.files a.after.world.files a.result
+  pub stops : IsSafeAtStops a.command a.before.store.held a.before.store.held a.before.world.disk a.after.world.disk a.before.world.files a.result
 
 -- What a command does with a store that is ready: it reads nothing, and writes what nobody has.
 pub record Follows (disk files : Type 0) (a : Attempt) : Type 0 where
-  pub bytes : a.after.disk_bytes ≡ a.before.disk_bytes
-  pub cause : FailsOnlyByCount a.before.counts a.after.counts a.result
+  pub bytes : a.after.world.disk_bytes ≡ a.before.world.disk_bytes
+  pub cause : FailsOnlyByCount a.before.world.counts a.after.world.counts a.result
   pub ends : EndsReady a.result
   pub answer : IsAnswerOf a.before.store.found a.command a.result
   pub store : KeepsStore a

@@ -10,7 +10,8 @@ ghost use Rattle.bd_roll.specs.Catalogue.{retained_in};
 ghost use Rattle.bd_recipe.specs.Reading.{is_disk_fault as is_read_disk_fault};
 ghost use Rattle.bd_arrange.specs.Arranged.{IsSpared};
 ghost use Rattle.bd_intake.specs.Given.{IsRecipeOrNone};
-ghost use Rattle.bd_store.specs.Attempts.{Beside, Meets, attempt, scene, scene_beside};
+ghost use Rattle.bd_files.specs.World.{World, with_disk, with_files};
+ghost use Rattle.bd_store.specs.Attempts.{Meets, attempt, scene};
 ghost use Rattle.bd_store.specs.Following.{Follows};
 ghost use Rattle.bd_store.specs.Newest.{IsNewestRecipe};
 ghost use Rattle.bd_store.specs.Readying.{Readies, ReadiesOn};
@@ -75,7 +76,7 @@ impl Store {
         name: &Name,
     ) -> Result<Answer, StoreFault>
         requires opened { IsOpenOn D.Disk self.old disk.old }
-        ensures meets { Meets D.tells F.tells (attempt (Backup name.now) result (scene D.Disk F.Files self.old disk.old files.old) (scene D.Disk F.Files self.new disk.new files.new)) }
+        ensures meets { (w : World) → Meets D.tells F.tells (attempt (Backup name.now) result (scene self.old (with_files F.Files (with_disk D.Disk w disk.old) files.old)) (scene self.new (with_files F.Files (with_disk D.Disk w disk.new) files.new))) }
     {
         let shape = self.catalog.shape();
         let retained = self.catalog.retained();
@@ -98,7 +99,7 @@ impl Store {
         requires number { self.old.found.catalogue.newest < last_number }
         requires limit { retained_in self.old.found.catalogue < self.old.found.sizes.retain }
         requires opened { IsOpenOn D.Disk self.old disk.old }
-        ensures meets { Meets D.tells F.tells (attempt (Backup name.now) result (scene D.Disk F.Files self.old disk.old files.old) (scene D.Disk F.Files self.new disk.new files.new)) }
+        ensures meets { (w : World) → Meets D.tells F.tells (attempt (Backup name.now) result (scene self.old (with_files F.Files (with_disk D.Disk w disk.old) files.old)) (scene self.new (with_files F.Files (with_disk D.Disk w disk.new) files.new))) }
     {
         match self.ready(disk) {
             Ok(neighbour) => self.take_in(disk, files, name, &neighbour),
@@ -120,7 +121,7 @@ impl Store {
         requires opened { IsOpenOn D.Disk self.old disk.old }
         requires recipe { IsRecipeOrNone self.old.found.sizes self.old.found.catalogue neighbour.now.entries }
         requires newest { D.tells → IsNewestRecipe self.old.found (contents (D.history disk.old)) neighbour.now.entries }
-        ensures follows { Follows D.tells F.tells (attempt (Backup name.now) result (scene D.Disk F.Files self.old disk.old files.old) (scene D.Disk F.Files self.new disk.new files.new)) }
+        ensures follows { (w : World) → Follows D.tells F.tells (attempt (Backup name.now) result (scene self.old (with_files F.Files (with_disk D.Disk w disk.old) files.old)) (scene self.new (with_files F.Files (with_disk D.Disk w disk.new) files.new))) }
     {
         if self.catalog.reserve().is_err() {
             return Err(StoreFault::OutOfMemory);
@@ -153,7 +154,7 @@ impl Store {
     /// Arranges the store, where it waits, and answers its figures. A settled store is left as it is.
     pub fn reorganise<D: Disk>(&mut self, disk: &mut D) -> Result<Answer, StoreFault>
         requires opened { IsOpenOn D.Disk self.old disk.old }
-        ensures meets { (beside : Beside) → Meets D.tells (Unit {0}) (attempt Reorganise result (scene_beside D.Disk beside self.old disk.old) (scene_beside D.Disk beside self.new disk.new)) }
+        ensures meets { (w : World) → Meets D.tells (Unit {0}) (attempt Reorganise result (scene self.old (with_disk D.Disk w disk.old)) (scene self.new (with_disk D.Disk w disk.new))) }
     {
         match self.catalog.phase() {
             Phase::Settled => {

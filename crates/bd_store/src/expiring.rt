@@ -2,7 +2,8 @@
 ghost use Rattle.std.specs.Prelude.{◌≡◌, ◌≤◌, true, false};
 ghost use Rattle.bd_model.specs.declared.command.Command.TheVariants.{Expire};
 ghost use Rattle.bd_roll.specs.Splitting.{FitsExpire};
-ghost use Rattle.bd_store.specs.Attempts.{Beside, Meets, attempt, scene_beside};
+ghost use Rattle.bd_files.specs.World.{World, with_disk};
+ghost use Rattle.bd_store.specs.Attempts.{Meets, attempt, scene};
 ghost use Rattle.bd_store.specs.Shown.{IsOpenOn};
 ghost use Rattle.bd_store.specs.Touches.{arranges_first};
 
@@ -18,7 +19,7 @@ impl Store {
     /// it is arranged first then.
     pub fn expire<D: Disk>(&mut self, disk: &mut D) -> Result<Answer, StoreFault>
         requires opened { IsOpenOn D.Disk self.old disk.old }
-        ensures meets { (beside : Beside) → Meets D.tells (Unit {0}) (attempt Expire result (scene_beside D.Disk beside self.old disk.old) (scene_beside D.Disk beside self.new disk.new)) }
+        ensures meets { (w : World) → Meets D.tells (Unit {0}) (attempt Expire result (scene self.old (with_disk D.Disk w disk.old)) (scene self.new (with_disk D.Disk w disk.new))) }
     {
         let retained = self.catalog.retained();
         if retained == 0 {
@@ -34,7 +35,7 @@ impl Store {
     fn arrange_and_give_up<D: Disk>(&mut self, disk: &mut D) -> Result<Answer, StoreFault>
         requires first { arranges_first self.old.found ≡ true }
         requires opened { IsOpenOn D.Disk self.old disk.old }
-        ensures meets { (beside : Beside) → Meets D.tells (Unit {0}) (attempt Expire result (scene_beside D.Disk beside self.old disk.old) (scene_beside D.Disk beside self.new disk.new)) }
+        ensures meets { (w : World) → Meets D.tells (Unit {0}) (attempt Expire result (scene self.old (with_disk D.Disk w disk.old)) (scene self.new (with_disk D.Disk w disk.new))) }
     {
         match self.ready(disk) {
             Ok(_) => self.give_up_oldest(disk),
@@ -46,7 +47,7 @@ impl Store {
     fn give_up_oldest<D: Disk>(&mut self, disk: &mut D) -> Result<Answer, StoreFault>
         requires fits { FitsExpire self.old.found.catalogue }
         requires opened { IsOpenOn D.Disk self.old disk.old }
-        ensures meets { (beside : Beside) → Meets D.tells (Unit {0}) (attempt Expire result (scene_beside D.Disk beside self.old disk.old) (scene_beside D.Disk beside self.new disk.new)) }
+        ensures meets { (w : World) → Meets D.tells (Unit {0}) (attempt Expire result (scene self.old (with_disk D.Disk w disk.old)) (scene self.new (with_disk D.Disk w disk.new))) }
     {
         let version = self.catalog.newest() - (self.catalog.retained() - 1);
         let extents = drop_volume(&self.catalog);

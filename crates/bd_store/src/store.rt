@@ -16,6 +16,7 @@ ghost use Rattle.bd_catalog.specs.Opening.{opened};
 ghost use Rattle.bd_catalog.specs.Standing.{lines_from};
 ghost use Rattle.bd_recover.specs.Answers.{is_disk_fault as is_format_disk_fault, IsFormatAnswer};
 ghost use Rattle.bd_recover.specs.Opens.{is_disk_fault as is_open_disk_fault, Rests};
+ghost use Rattle.bd_files.specs.World.{World, with_disk, with_files};
 ghost use Rattle.bd_store.specs.Attempts.{Meets, attempt, scene};
 ghost use Rattle.bd_store.specs.Openings.{AnswersOpening, IsNewStore, MakingStops};
 ghost use Rattle.bd_store.specs.Shown.{IsOpenOn};
@@ -102,7 +103,7 @@ impl Store {
         name: &Name,
     ) -> Result<Answer, StoreFault>
         requires opened { IsOpenOn D.Disk self.old disk.old }
-        ensures meets { Meets D.tells F.tells (attempt (Restore version name.now) result (scene D.Disk F.Files self.old disk.old files.old) (scene D.Disk F.Files self.new disk.new files.new)) }
+        ensures meets { (w : World) → Meets D.tells F.tells (attempt (Restore version name.now) result (scene self.old (with_files F.Files (with_disk D.Disk w disk.old) files.old)) (scene self.new (with_files F.Files (with_disk D.Disk w disk.new) files.new))) }
     {
         let retained = self.catalog.retained();
         let newest = self.catalog.newest();
@@ -133,7 +134,7 @@ impl Store {
         requires oldest { oldest_in self.old.found.catalogue ≤ version }
         requires newest { version ≤ self.old.found.catalogue.newest }
         requires opened { IsOpenOn D.Disk self.old disk.old }
-        ensures meets { Meets D.tells F.tells (attempt (Restore version name.now) result (scene D.Disk F.Files self.old disk.old files.old) (scene D.Disk F.Files self.new disk.new files.new)) }
+        ensures meets { (w : World) → Meets D.tells F.tells (attempt (Restore version name.now) result (scene self.old (with_files F.Files (with_disk D.Disk w disk.old) files.old)) (scene self.new (with_files F.Files (with_disk D.Disk w disk.new) files.new))) }
     {
         let plan = match plan_for(self.alloc, disk, &self.catalog, version) {
             Ok(plan) => plan,
@@ -170,7 +171,7 @@ impl Store {
     ) -> Result<Answer, StoreFault>
         requires opened { IsOpenOn D.Disk self.old disk.old }
         requires built { command.now ≢ Scrub }
-        ensures meets { Meets D.tells F.tells (attempt command.now result (scene D.Disk F.Files self.old disk.old files.old) (scene D.Disk F.Files self.new disk.new files.new)) }
+        ensures meets { (w : World) → Meets D.tells F.tells (attempt command.now result (scene self.old (with_files F.Files (with_disk D.Disk w disk.old) files.old)) (scene self.new (with_files F.Files (with_disk D.Disk w disk.new) files.new))) }
     {
         match command {
             Command::Backup { name } => self.backup(disk, files, name),

@@ -8,11 +8,12 @@ use Rattle.bd_model.specs.declared.command.Command.{Command}
 use Rattle.bd_model.specs.declared.shape.Shape.{Shape}
 use Rattle.mfdedup.specs.Built.{is_built}
 use Rattle.mfdedup.specs.Commands.{EndsUnopened, OpensNone, RunsCommands}
-use Rattle.mfdedup.specs.Counts.{EndsByCount, EndsOnlyByCount, NoneFailed}
-use Rattle.mfdedup.specs.Failing.{end_of_words}
+use Rattle.bd_session.specs.Ends.{FromNothing}
+use Rattle.bd_session.proofs.Turning.{by_nothing}
+use Rattle.mfdedup.specs.Failing.{end_cause, end_of_words}
 use Rattle.mfdedup.specs.Headline.{Asks}
 use Rattle.mfdedup.specs.Noted.{NothingNoted}
-use Rattle.mfdedup.specs.Outside.{Outside}
+use Rattle.bd_files.specs.World.{World}
 use Rattle.mfdedup.specs.Requests.{EndsAtOnce, WordsUnread}
 use Rattle.bd_words.specs.declared.fault.WordsFault.{WordsFault}
 use Rattle.bd_words.specs.declared.fault.WordsFault.TheVariants.{BadWords, BadNumber, BadName, BadShape, OutOfMemory as WordsMemory}
@@ -22,15 +23,14 @@ use Rattle.mfdedup.specs.declared.progress.Progress.{Progress}
 use Rattle.mfdedup.specs.declared.report.End.TheVariants.{OutOfMemory, Unbuilt}
 use Rattle.bd_words.specs.declared.request.Request.{Request}
 use Rattle.bd_words.specs.declared.request.Request.TheVariants.{Format, Run, Script, Soak}
-use Rattle.mfdedup.proofs.Causes.{untouched_cause}
 use Rattle.mfdedup.proofs.Noting.{no_clocks, no_texts}
 
 -- ---- at once
 
-pub at_once : {disk files sink : Type 0} (reading : Reading) (p : Progress) (o : Outside) → NothingNoted p → (NoneFailed o o → EndsByCount p.end o o) → WorksByWords disk files sink reading p o o → ((commands : List Command) → Asks reading o.files commands → ⊥) → Works disk files sink reading p o o
+pub at_once : {disk files sink : Type 0} (reading : Reading) (p : Progress) (o : World) → NothingNoted p → end_cause p.end ≡ FromNothing → WorksByWords disk files sink reading p o o → ((commands : List Command) → Asks reading o.files commands → ⊥) → Works disk files sink reading p o o
 at_once {disk} {files} {sink} reading p o none cause words nothing = record {
   bytes = refl;
-  cause = untouched_cause p.end o cause;
+  cause = by_nothing cause refl;
   clocks = no_clocks none (λ told. omega arith);
   written = λ told. no_texts none refl;
   words = words;
@@ -38,7 +38,7 @@ at_once {disk} {files} {sink} reading p o none cause words nothing = record {
 }
 
 -- a command that is still to come
-module _ (disk files sink : Type 0) (command : Command) (p : Progress) (o : Outside) (ends : EndsAtOnce Unbuilt p o o) where
+module _ (disk files sink : Type 0) (command : Command) (p : Progress) (o : World) (ends : EndsAtOnce Unbuilt p o o) where
   unbuilt : (b : Bool) → b ≡ false → MatchBool b (RunsCommands disk files sink (command ∷ []) p o o) (EndsAtOnce Unbuilt p o o)
   unbuilt true is_false = absurd (cc is_false)
   unbuilt false is_false = ends
@@ -49,14 +49,14 @@ module _ (disk files sink : Type 0) (command : Command) (p : Progress) (o : Outs
 
   pub asked_unbuilt : is_built command ≡ false → Works disk files sink (ToRun command) p o o
   asked_unbuilt is_false =
-      at_once (ToRun command) p o ends.nothing (subst (λ x. NoneFailed o o → EndsByCount x o o) (sym ends.ends) (λ nothing. nothing)) (unbuilt (is_built command) is_false) (λ commands asks. asks_none (is_built command) is_false asks.0)
+      at_once (ToRun command) p o ends.nothing (ap end_cause ends.ends) (unbuilt (is_built command) is_false) (λ commands asks. asks_none (is_built command) is_false asks.0)
 
 -- no memory was there before the opening
-pub unopened_memory : {disk : Type 0} (p : Progress) (o : Outside) → NothingNoted p → p.end ≡ OutOfMemory → OpensNone disk p o o
+pub unopened_memory : {disk : Type 0} (p : Progress) (o : World) → NothingNoted p → p.end ≡ OutOfMemory → OpensNone disk p o o
 unopened_memory {disk} p o none e = record {
   nothing = none;
   ends = subst (EndsUnopened disk o.disk) (sym e) tt;
-  cause = subst (λ x. EndsOnlyByCount x o o) (sym e) (untouched_cause OutOfMemory o (λ nothing. nothing));
+  cause = by_nothing (ap end_cause e) refl;
   reads = λ told. record { writes = made_none _ o.disk; looks = looks_from _ {places = []} tt (record { made = made_none _ o.disk; so = sym (append-nil _) }) };
   beside = refl;
 }
@@ -68,35 +68,35 @@ pub shows_none : {kept : Type 0} (reading : Reading) (fault : WordsFault) (reque
 shows_none reading fault request p shown ends nothing kept (inl is) = inl (subst (AsksFor reading) (sym shown) (subst (λ r. AsksFor r None) (sym is) tt))
 shows_none reading fault request p shown ends nothing kept (inr is) = inr (record { ends = ends ∙ ap end_of_words is; shown = shown; nothing = nothing }, kept)
 
-pub format_asks : {disk files sink : Type 0} (reading : Reading) (shape : Shape) (p : Progress) (before now : Outside) → AsksFor reading (Some (Format shape)) → Works disk (Unit {0}) sink (ToFormat (sizes_of shape)) p before now → Works disk files sink reading p before now
+pub format_asks : {disk files sink : Type 0} (reading : Reading) (shape : Shape) (p : Progress) (before now : World) → AsksFor reading (Some (Format shape)) → Works disk (Unit {0}) sink (ToFormat (sizes_of shape)) p before now → Works disk files sink reading p before now
 format_asks {disk} {files} {sink} (ToFormat sizes) shape p before now asks w =
     subst (λ s. Works disk files sink (ToFormat s) p before now) asks (record { bytes = w.bytes; cause = w.cause; clocks = w.clocks; written = w.written; words = w.words; headline = λ told _. w.headline told tt })
 format_asks _ shape p before now asks w = absurd asks
 
-pub run_asks : {disk files sink : Type 0} (reading : Reading) (commands : Roomy Command) (p : Progress) (before now : Outside) → AsksFor reading (Some (Run commands)) →
+pub run_asks : {disk files sink : Type 0} (reading : Reading) (commands : Roomy Command) (p : Progress) (before now : World) → AsksFor reading (Some (Run commands)) →
     ((command : Command) → commands.items ≡ command ∷ [] → Works disk files sink (ToRun command) p before now) → Works disk files sink reading p before now
 run_asks (ToRun command) commands p before now only works = works command only
 run_asks _ commands p before now asks works = absurd asks
 
-pub script_asks : {disk files sink : Type 0} (reading : Reading) (name : List ℕ) (p : Progress) (before now : Outside) → AsksFor reading (Some (Script name)) → Works disk files sink (ToScript name) p before now → Works disk files sink reading p before now
+pub script_asks : {disk files sink : Type 0} (reading : Reading) (name : List ℕ) (p : Progress) (before now : World) → AsksFor reading (Some (Script name)) → Works disk files sink (ToScript name) p before now → Works disk files sink reading p before now
 script_asks {disk} {files} {sink} (ToScript given) name p before now asks w = subst (λ n. Works disk files sink (ToScript n) p before now) asks w
 script_asks _ name p before now asks w = absurd asks
 
-pub soak_asks : {disk files sink : Type 0} (reading : Reading) (seed count : ℕ) (p : Progress) (o : Outside) → AsksFor reading (Some (Soak seed count)) → NothingNoted p → p.end ≡ Unbuilt → Works disk files sink reading p o o
-soak_asks (ToSoak s n) seed count p o asks none e = at_once (ToSoak s n) p o none (subst (λ x. NoneFailed o o → EndsByCount x o o) (sym e) (λ nothing. nothing)) (record { ends = e; nothing = none; untouched = refl }) (λ commands asks. asks)
+pub soak_asks : {disk files sink : Type 0} (reading : Reading) (seed count : ℕ) (p : Progress) (o : World) → AsksFor reading (Some (Soak seed count)) → NothingNoted p → p.end ≡ Unbuilt → Works disk files sink reading p o o
+soak_asks (ToSoak s n) seed count p o asks none e = at_once (ToSoak s n) p o none (ap end_cause e) (record { ends = e; nothing = none; untouched = refl }) (λ commands asks. asks)
 soak_asks _ seed count p o asks none e = absurd asks
 
 -- ---- refused
 
-of_words : (fault : WordsFault) (before now : Outside) → NoneFailed before now → EndsByCount (end_of_words fault) before now
-of_words BadWords before now none = none
-of_words (BadNumber position) before now none = none
-of_words BadName before now none = none
-of_words (BadShape field) before now none = none
-of_words WordsMemory before now none = none
+of_words : (fault : WordsFault) → end_cause (end_of_words fault) ≡ FromNothing
+of_words BadWords = refl
+of_words (BadNumber position) = refl
+of_words BadName = refl
+of_words (BadShape field) = refl
+of_words WordsMemory = refl
 
-pub ends_early : {disk files sink : Type 0} (reading : Reading) (fault : WordsFault) (p : Progress) (o : Outside) → p.end ≡ end_of_words fault → NothingNoted p → (reading ≡ Refused fault) ⊎ (fault ≡ WordsMemory) → Works disk files sink reading p o o ⊎ EndsAtOnce OutOfMemory p o o
+pub ends_early : {disk files sink : Type 0} (reading : Reading) (fault : WordsFault) (p : Progress) (o : World) → p.end ≡ end_of_words fault → NothingNoted p → (reading ≡ Refused fault) ⊎ (fault ≡ WordsMemory) → Works disk files sink reading p o o ⊎ EndsAtOnce OutOfMemory p o o
 ends_early {disk} {files} {sink} reading fault p o ends none (inl is) =
     inl (subst (λ r. Works disk files sink r p o o) (sym is)
-    (at_once (Refused fault) p o none (subst (λ e. NoneFailed o o → EndsByCount e o o) (sym ends) (of_words fault o o)) (record { ends = ends; nothing = none; untouched = refl }) (λ commands asks. asks)))
+    (at_once (Refused fault) p o none (ap end_cause ends ∙ of_words fault) (record { ends = ends; nothing = none; untouched = refl }) (λ commands asks. asks)))
 ends_early reading fault p o ends none (inr memory) = inr (record { ends = ends ∙ ap end_of_words memory; nothing = none; untouched = refl })

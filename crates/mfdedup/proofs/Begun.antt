@@ -10,20 +10,21 @@ use Rattle.bd_recover.specs.declared.fault.OpenFault.TheVariants.{NotAStore as O
 use Rattle.bd_store.specs.Openings.{AnswersOpening}
 use Rattle.bd_store.specs.Opens.{OpensWith}
 use Rattle.mfdedup.specs.Commands.{EndsUnopened, OpensNone, ReadsFront}
-use Rattle.mfdedup.specs.Counts.{EndsOnlyByCount}
-use Rattle.mfdedup.specs.Failing.{end_of_opening}
+use Rattle.bd_session.specs.Ends.{EndsOnlyByCount}
+use Rattle.bd_session.proofs.Turning.{by_nothing}
+use Rattle.mfdedup.specs.Failing.{end_cause, end_of_opening}
 use Rattle.mfdedup.specs.Noted.{NothingNoted}
-use Rattle.mfdedup.specs.Outside.{Outside}
+use Rattle.bd_files.specs.World.{Faults, World}
 use Rattle.mfdedup.specs.declared.progress.Progress.{Progress}
 
--- the same outside, with this disk and this count of its faults
-abbrev pub at_disk : Outside → ℕ → History → ℕ → Outside
+-- the same world, with this disk and this count of its faults
+abbrev pub at_disk : World → ℕ → History → ℕ → World
 at_disk o bytes disk faults = record o { disk_bytes = bytes; disk = disk; counts = record o.counts { disk = faults } }
 
-pub only_disk : (o : Outside) (bytes faults : ℕ) (disk : History) → bytes ≡ o.disk_bytes → faults ≡ o.counts.disk → at_disk o bytes disk faults ≡ record o { disk = disk }
+pub only_disk : (o : World) (bytes faults : ℕ) (disk : History) → bytes ≡ o.disk_bytes → faults ≡ o.counts.disk → at_disk o bytes disk faults ≡ record o { disk = disk }
 only_disk o bytes faults disk e f = λ i. at_disk o (e i) disk (f i)
 
-pub but_faults : (o : Outside) (bytes faults : ℕ) (disk : History) → bytes ≡ o.disk_bytes → at_disk o bytes disk faults ≡ record o { disk = disk; counts = record o.counts { disk = faults } }
+pub but_faults : (o : World) (bytes faults : ℕ) (disk : History) → bytes ≡ o.disk_bytes → at_disk o bytes disk faults ≡ record o { disk = disk; counts = record o.counts { disk = faults } }
 but_faults o bytes faults disk e = λ i. at_disk o (e i) disk faults
 
 -- behind an opening each image opens as what was found
@@ -39,17 +40,17 @@ unopened disk OpenDisk old answers = tt
 unopened disk OpenMemory old answers = tt
 
 -- by which count
-pub opening_cause : {T : Type 0} (fault : OpenFault) (o : Outside) (bytes faults : ℕ) (disk : History) → FailsByCount {T = T} is_disk_fault o.counts.disk faults (Err fault) → EndsOnlyByCount (end_of_opening fault) o (at_disk o bytes disk faults)
-opening_cause (OpenNotAStore place) o bytes faults disk fails = record { later = record { disk = fails.later; sources = omega arith; targets = omega arith }; sink = omega arith; cause = record { counts = λ i. record o.counts { disk = fails.cause i }; sink = refl } }
-opening_cause OpenDisk o bytes faults disk fails = record { later = record { disk = fails.later; sources = omega arith; targets = omega arith }; sink = omega arith; cause = record { risen = (fails.cause, refl, refl); sink = refl } }
-opening_cause OpenMemory o bytes faults disk fails = record { later = record { disk = fails.later; sources = omega arith; targets = omega arith }; sink = omega arith; cause = record { counts = λ i. record o.counts { disk = fails.cause i }; sink = refl } }
+pub opening_cause : {T : Type 0} (fault : OpenFault) (c : Faults) (faults : ℕ) → FailsByCount {T = T} is_disk_fault c.disk faults (Err fault) → EndsOnlyByCount (end_cause (end_of_opening fault)) c (record c { disk = faults })
+opening_cause (OpenNotAStore place) c faults fails = by_nothing refl (λ i. record c { disk = fails.cause i })
+opening_cause OpenDisk c faults fails = record { later = record { disk = fails.later; sources = omega arith; targets = omega arith; sink = omega arith }; by = (fails.cause, refl, refl, refl) }
+opening_cause OpenMemory c faults fails = by_nothing refl (λ i. record c { disk = fails.cause i })
 
-pub no_store : {disk T : Type 0} (p : Progress) (fault : OpenFault) (o : Outside) (bytes faults : ℕ) (now : History) → NothingNoted p → p.end ≡ end_of_opening fault → (disk → AnswersOpening (opened (contents o.disk)) (Err fault)) → FailsByCount {T = T} is_disk_fault o.counts.disk faults (Err fault) → (disk → ReadsFront o.disk now) → bytes ≡ o.disk_bytes →
+pub no_store : {disk T : Type 0} (p : Progress) (fault : OpenFault) (o : World) (bytes faults : ℕ) (now : History) → NothingNoted p → p.end ≡ end_of_opening fault → (disk → AnswersOpening (opened (contents o.disk)) (Err fault)) → FailsByCount {T = T} is_disk_fault o.counts.disk faults (Err fault) → (disk → ReadsFront o.disk now) → bytes ≡ o.disk_bytes →
     OpensNone disk p o (at_disk o bytes now faults)
 no_store {disk} {T} p fault o bytes faults now none e answers fails front same = record {
   nothing = none;
   ends = subst (EndsUnopened disk o.disk) (sym e) (unopened disk fault o.disk answers);
-  cause = subst (λ x. EndsOnlyByCount x o (at_disk o bytes now faults)) (sym e) (opening_cause {T = T} fault o bytes faults now fails);
+  cause = subst (λ x. EndsOnlyByCount (end_cause x) o.counts (record o.counts { disk = faults })) (sym e) (opening_cause {T = T} fault o.counts faults fails);
   reads = front;
   beside = but_faults o bytes faults now same;
 }

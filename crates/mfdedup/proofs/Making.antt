@@ -16,10 +16,12 @@ use Rattle.bd_recover.specs.declared.fault.FormatFault.{FormatFault}
 use Rattle.bd_recover.specs.declared.fault.FormatFault.TheVariants.{AlreadyAStore as FormatMarked, TooSmall as FormatSmall, DiskFault as FormatDisk, OutOfMemory as FormatMemory}
 use Rattle.bd_store.specs.Openings.{MakingStops}
 use Rattle.bd_store.specs.Shown.{Shown}
-use Rattle.mfdedup.specs.Counts.{EndsOnlyByCount}
-use Rattle.mfdedup.specs.Failing.{end_of_format}
-use Rattle.mfdedup.specs.Noted.{AnswersAlone, HandsAnswers, NotesAlone, NothingNoted}
-use Rattle.mfdedup.specs.Outside.{Outside}
+use Rattle.bd_session.specs.Ends.{EndsOnlyByCount}
+use Rattle.bd_session.specs.Telling.{HandsAnswers}
+use Rattle.bd_session.proofs.Turning.{by_nothing}
+use Rattle.mfdedup.specs.Failing.{end_cause, end_of_format}
+use Rattle.mfdedup.specs.Noted.{AnswersAlone, NotesAlone, NothingNoted}
+use Rattle.bd_files.specs.World.{Faults, World}
 use Rattle.mfdedup.specs.Requests.{EndsFormat, EndsMaking, Formats, IsCarriedOut}
 use Rattle.bd_words.specs.Words.{ToFormat}
 use Rattle.mfdedup.specs.Works.{Works}
@@ -61,7 +63,7 @@ making : (x : End) → IsCarriedOut x → EndsMaking x
 making x (inl is) = subst EndsMaking (sym is) tt
 making x (inr is) = subst EndsMaking (sym is) tt
 
-pub formatted_works : {disk sink : Type 0} (shape : Shape) (p : Progress) (o mid now : Outside) → NotesAlone disk sink Formatted p mid now → now.disk_bytes ≡ o.disk_bytes → now.counts ≡ o.counts → mid.sink_faults ≡ o.sink_faults → mid.handed ≡ o.handed →
+pub formatted_works : {disk sink : Type 0} (shape : Shape) (p : Progress) (o mid now : World) → NotesAlone disk sink Formatted p mid now → now.disk_bytes ≡ o.disk_bytes → record now.counts { sink = o.counts.sink } ≡ o.counts → mid.counts.sink ≡ o.counts.sink → mid.handed ≡ o.handed →
     now.files ≡ o.files → now.unfinished ≡ o.unfinished → now.strays ≡ o.strays →
     (disk → format_refusal (sizes_of shape) o.disk_bytes (contents o.disk) ≡ None) → (disk → StandsFor shape empty Settled 0 (contents now.disk)) → (disk → IsSettled now.disk) → (disk → WritesOnly (λ place. place < extent_place (sizes_of shape) 0) o.disk now.disk) →
     (disk → MakingStops shape o.disk now.disk) → Works disk (Unit {0}) sink (ToFormat (sizes_of shape)) p o now
@@ -71,7 +73,7 @@ formatted_works {disk} {sink} shape p o mid now alone bytes counts faults handed
       bytes = bytes;
       cause = carried_cause p.end o mid now alone.ends counts faults alone.later;
       clocks = alone_clocks alone o (λ told. later (writes told));
-      written = λ told. subst (λ h. HandsAnswers disk p h now.handed) handed (alone.written told);
+      written = λ told. subst (λ h. HandsAnswers disk p.answers.items p.clocks.items (end_cause p.end) h now.handed) handed (alone.written told);
       words = record {
         shape = shape;
         is_shape = refl;
@@ -122,18 +124,18 @@ failed_answers (FormatSmall need have) answers none = none
 failed_answers FormatDisk answers none = none
 failed_answers FormatMemory answers none = none
 
-failed_cause : {T : Type 0} (fault : FormatFault) (o : Outside) (bytes faults : ℕ) (disk : History) → FailsByCount {T = T} is_disk_fault o.counts.disk faults (Err fault) → EndsOnlyByCount (end_of_format fault) o (at_disk o bytes disk faults)
-failed_cause FormatMarked o bytes faults disk fails = record { later = record { disk = fails.later; sources = omega arith; targets = omega arith }; sink = omega arith; cause = record { counts = λ i. record o.counts { disk = fails.cause i }; sink = refl } }
-failed_cause (FormatSmall need have) o bytes faults disk fails = record { later = record { disk = fails.later; sources = omega arith; targets = omega arith }; sink = omega arith; cause = record { counts = λ i. record o.counts { disk = fails.cause i }; sink = refl } }
-failed_cause FormatDisk o bytes faults disk fails = record { later = record { disk = fails.later; sources = omega arith; targets = omega arith }; sink = omega arith; cause = record { risen = (fails.cause, refl, refl); sink = refl } }
-failed_cause FormatMemory o bytes faults disk fails = record { later = record { disk = fails.later; sources = omega arith; targets = omega arith }; sink = omega arith; cause = record { counts = λ i. record o.counts { disk = fails.cause i }; sink = refl } }
+failed_cause : {T : Type 0} (fault : FormatFault) (c : Faults) (faults : ℕ) → FailsByCount {T = T} is_disk_fault c.disk faults (Err fault) → EndsOnlyByCount (end_cause (end_of_format fault)) c (record c { disk = faults })
+failed_cause FormatMarked c faults fails = by_nothing refl (λ i. record c { disk = fails.cause i })
+failed_cause (FormatSmall need have) c faults fails = by_nothing refl (λ i. record c { disk = fails.cause i })
+failed_cause FormatDisk c faults fails = record { later = record { disk = fails.later; sources = omega arith; targets = omega arith; sink = omega arith }; by = (fails.cause, refl, refl, refl) }
+failed_cause FormatMemory c faults fails = by_nothing refl (λ i. record c { disk = fails.cause i })
 
-pub unformatted_works : {disk sink : Type 0} (shape : Shape) (p : Progress) (fault : FormatFault) (o : Outside) (bytes faults : ℕ) (now : History) → NothingNoted p → p.end ≡ end_of_format fault → bytes ≡ o.disk_bytes → FailsByCount {T = Shown} is_disk_fault o.counts.disk faults (Err fault) →
+pub unformatted_works : {disk sink : Type 0} (shape : Shape) (p : Progress) (fault : FormatFault) (o : World) (bytes faults : ℕ) (now : History) → NothingNoted p → p.end ≡ end_of_format fault → bytes ≡ o.disk_bytes → FailsByCount {T = Shown} is_disk_fault o.counts.disk faults (Err fault) →
     (disk → AnswersFormat {T = Shown} (format_refusal (sizes_of shape) o.disk_bytes (contents o.disk)) (Err fault)) → (disk → (fault : FormatFault) → format_refusal (sizes_of shape) o.disk_bytes (contents o.disk) ≡ Some fault → WritesNothing o.disk now) → (disk → fault ≡ FormatMemory → now ≡ o.disk) →
     (disk → WritesOnly (λ place. place < extent_place (sizes_of shape) 0) o.disk now) → (disk → MakingStops shape o.disk now) → Works disk (Unit {0}) sink (ToFormat (sizes_of shape)) p o (at_disk o bytes now faults)
 unformatted_works {disk} {sink} shape p fault o bytes faults now none e same fails answers untouched memory writes stops = record {
   bytes = same;
-  cause = subst (λ x. EndsOnlyByCount x o (at_disk o bytes now faults)) (sym e) (failed_cause {T = Shown} fault o bytes faults now fails);
+  cause = subst (λ x. EndsOnlyByCount (end_cause x) o.counts (record o.counts { disk = faults })) (sym e) (failed_cause {T = Shown} fault o.counts faults fails);
   clocks = no_clocks none (λ told. later (writes told));
   written = λ told. no_texts none refl;
   words = record {

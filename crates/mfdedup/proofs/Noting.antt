@@ -2,39 +2,38 @@
 use Rattle.std.proofs.Common.{◌≡◌, ◌≢◌, ◌⊎◌, ◌∙◌, ◌++◌, ℕ, zero, suc, ◌<◌, ◌≤◌, List, [], ◌∷◌, length, get_or, take, inl, inr, refl, sym, subst, ap, append-nil, arith, false, Result, Ok, Err}
 use Rattle.std.specs.Prelude.{IfOk, OnErr, OnOk}
 use Rattle.bd_disk.specs.Calls.{Rose}
-use Rattle.bd_disk.specs.History.{clock}
+use Rattle.bd_disk.specs.History.{History, clock}
 use Rattle.bd_files.specs.Sinks.{Handed, HandsOn, HandsPart, part}
 use Rattle.bd_model.specs.Texts.{answer_text}
 use Rattle.bd_model.specs.declared.answer.Answer.{Answer}
 use Rattle.bd_model.specs.declared.answer.Answer.TheVariants.{Formatted}
-use Rattle.bd_store.specs.Causes.{Counts, NoneFell}
 use Rattle.bd_script.specs.Long.{is_long}
-use Rattle.bd_session.specs.Telling.{told, ToldByCount}
+use Rattle.bd_session.specs.Telling.{HandsAnswers, told, ToldByCount}
 use Rattle.bd_session.specs.declared.telling.Untold.{Untold}
 use Rattle.bd_session.specs.declared.telling.Untold.TheVariants.{Output, Memory}
-use Rattle.mfdedup.specs.Counts.{EndsOnlyByCount}
-use Rattle.mfdedup.specs.Noted.{AnswersAlone, ClocksRise, HandsAnswers, HandsText, NotesAlone, NotesByEnd, NothingNoted, TellsEnd}
-use Rattle.mfdedup.specs.Outside.{Outside}
+use Rattle.bd_session.specs.Ends.{EndsOnlyByCount, FromSink}
+use Rattle.bd_session.specs.Keeping.{ClocksRise}
+use Rattle.bd_session.proofs.Turning.{by_nothing, none_fell}
+use Rattle.mfdedup.specs.Failing.{end_cause}
+use Rattle.mfdedup.specs.Noted.{AnswersAlone, HandsText, NotesAlone, NotesByEnd, NothingNoted, TellsEnd}
+use Rattle.bd_files.specs.World.{World}
 use Rattle.mfdedup.specs.Requests.{IsCarriedOut}
 use Rattle.mfdedup.specs.declared.progress.Progress.{Progress}
 use Rattle.mfdedup.specs.declared.report.End.{End}
 use Rattle.mfdedup.specs.declared.report.End.TheVariants.{Done, OutputFault}
 
-none_fell : (c : Counts) → NoneFell c c
-none_fell c = record { disk = omega arith; sources = omega arith; targets = omega arith }
-
 -- a list that is empty has nothing at any place
 none_below : {A : Type 0} (xs : List A) (k : ℕ) → xs ≡ [] → k < length xs → ⊥
 none_below xs k e below = omega (arith, below, ap length e)
 
-pub no_clocks : {disk : Type 0} {p : Progress} {before now : Outside} → NothingNoted p → (disk → clock before.disk ≤ clock now.disk) → ClocksRise disk p before now
+pub no_clocks : {disk : Type 0} {p : Progress} {before now : History} → NothingNoted p → (disk → clock before ≤ clock now) → ClocksRise disk p.answers.items p.clocks.items before now
 no_clocks {disk} {p} {before} {now} none later = record {
   paired = ap length none.clocks ∙ sym (ap length none.answers);
   rise = λ told k below. absurd (none_below p.clocks.items k none.clocks below);
-  last = λ told. subst (λ (cs : List ℕ). get_or (clock before.disk ∷ cs) (length cs) 0 ≤ clock now.disk) (sym none.clocks) (later told);
+  last = λ told. subst (λ (cs : List ℕ). get_or (clock before ∷ cs) (length cs) 0 ≤ clock now) (sym none.clocks) (later told);
 }
 
-pub no_texts : {disk : Type 0} {p : Progress} {before now : List Handed} → NothingNoted p → now ≡ before → HandsAnswers disk p before now
+pub no_texts : {disk : Type 0} {p : Progress} {before now : List Handed} → NothingNoted p → now ≡ before → HandsAnswers disk p.answers.items p.clocks.items (end_cause p.end) before now
 no_texts {disk} {p} {before} {now} none same = record {
   moments = [];
   are = λ told. sym none.clocks;
@@ -51,8 +50,8 @@ take_nothing : (text : List ℕ) → HandsPart text [] []
 take_nothing text = record { so = inl refl }
 
 -- the sink took the text
-pub alone_noted : {disk sink : Type 0} (answer : Answer) (moment : ℕ) (p : Progress) (before now : Outside) → p.end ≡ Done → p.commands.items ≡ [] → p.answers.items ≡ answer ∷ [] → p.clocks.items ≡ moment ∷ [] →
-    now.sink_faults ≡ before.sink_faults → (disk → moment ≡ clock now.disk) → (sink → HandsOn disk moment (answer_text answer) before.handed now.handed) → NotesAlone disk sink answer p before now
+pub alone_noted : {disk sink : Type 0} (answer : Answer) (moment : ℕ) (p : Progress) (before now : World) → p.end ≡ Done → p.commands.items ≡ [] → p.answers.items ≡ answer ∷ [] → p.clocks.items ≡ moment ∷ [] →
+    now.counts.sink ≡ before.counts.sink → (disk → moment ≡ clock now.disk) → (sink → HandsOn disk moment (answer_text answer) before.handed now.handed) → NotesAlone disk sink answer p before now
 alone_noted {disk} {sink} answer moment p before now ends no_commands answers clocks same at put = record {
   commands = no_commands;
   ends = subst (λ e. NotesByEnd e before now) (sym ends) same;
@@ -66,7 +65,7 @@ alone_noted {disk} {sink} answer moment p before now ends no_commands answers cl
   only e zero below = e
   only e (suc k) below = absurd (omega (arith, below))
 
-  written : HandsOn disk moment (answer_text answer) before.handed now.handed → HandsAnswers disk p before.handed now.handed
+  written : HandsOn disk moment (answer_text answer) before.handed now.handed → HandsAnswers disk p.answers.items p.clocks.items (end_cause p.end) before.handed now.handed
   written h = record {
     moments = h.noted ∷ [];
     are = λ told. ap (λ m. m ∷ []) (h.is told) ∙ sym clocks;
@@ -78,7 +77,7 @@ alone_noted {disk} {sink} answer moment p before now ends no_commands answers cl
   }
 
 -- the sink failed
-pub alone_untold : {disk sink : Type 0} (answer : Answer) (p : Progress) (before now : Outside) → p.end ≡ OutputFault → NothingNoted p → before.sink_faults ≤ now.sink_faults → Rose before.sink_faults now.sink_faults →
+pub alone_untold : {disk sink : Type 0} (answer : Answer) (p : Progress) (before now : World) → p.end ≡ OutputFault → NothingNoted p → before.counts.sink ≤ now.counts.sink → Rose before.counts.sink now.counts.sink →
     (sink → HandsPart (answer_text answer) before.handed now.handed) → NotesAlone disk sink answer p before now
 alone_untold {disk} {sink} answer p before now ends none later rose put = record {
   commands = none.commands;
@@ -89,10 +88,10 @@ alone_untold {disk} {sink} answer p before now ends none later rose put = record
   clocks = λ told k below. absurd (none_below p.clocks.items k none.clocks below);
   written = λ told. written (put told).so;
 } where
-  is_output : {A : Type 0} → p.end ≢ OutputFault → A
-  is_output other = absurd (other ends)
+  is_output : {A : Type 0} → end_cause p.end ≢ FromSink → A
+  is_output other = absurd (other (ap end_cause ends))
 
-  written : (now.handed ≡ before.handed) ⊎ ((count : ℕ) × (now.handed ≡ before.handed ++ part (take count (answer_text answer)) ∷ [])) → HandsAnswers disk p before.handed now.handed
+  written : (now.handed ≡ before.handed) ⊎ ((count : ℕ) × (now.handed ≡ before.handed ++ part (take count (answer_text answer)) ∷ [])) → HandsAnswers disk p.answers.items p.clocks.items (end_cause p.end) before.handed now.handed
   written (inl same) = no_texts none same
   written (inr (count, more)) = record {
     moments = [];
@@ -105,18 +104,21 @@ alone_untold {disk} {sink} answer p before now ends none later rose put = record
   }
 
 -- it was answered, or only its text couldn't be put
-pub carried : (e : End) (before now : Outside) → NotesByEnd e before now → IsCarriedOut e
+pub carried : (e : End) (before now : World) → NotesByEnd e before now → IsCarriedOut e
 carried Done before now notes = inl refl
 carried OutputFault before now notes = inr refl
 carried _ before now notes = absurd notes
 
-pub carried_cause : (e : End) (before mid now : Outside) → NotesByEnd e mid now → now.counts ≡ before.counts → mid.sink_faults ≡ before.sink_faults → mid.sink_faults ≤ now.sink_faults → EndsOnlyByCount e before now
-carried_cause Done before mid now notes same sink low = record { later = subst (λ (c : Counts). NoneFell before.counts c) (sym same) (none_fell before.counts); sink = omega (arith, sink, low); cause = record { counts = same; sink = notes ∙ sink } }
-carried_cause OutputFault before mid now notes same sink low = record { later = subst (λ (c : Counts). NoneFell before.counts c) (sym same) (none_fell before.counts); sink = omega (arith, sink, low); cause = record { counts = same; risen = subst (λ n. Rose n now.sink_faults) sink notes } }
+-- a sink that was put a text after all else was done
+pub carried_cause : (e : End) (before mid now : World) → NotesByEnd e mid now → record now.counts { sink = before.counts.sink } ≡ before.counts → mid.counts.sink ≡ before.counts.sink → mid.counts.sink ≤ now.counts.sink → EndsOnlyByCount (end_cause e) before.counts now.counts
+carried_cause Done before mid now notes same sink low = by_nothing refl (λ k. record (same k) { sink = (notes ∙ sink) k })
+carried_cause OutputFault before mid now notes same sink low =
+    let was = none_fell same in
+    record { later = record { disk = was.disk; sources = was.sources; targets = was.targets; sink = omega (arith, sink, low) }; by = (subst (λ n. Rose n now.counts.sink) sink notes, λ k. record (same k) { sink = now.counts.sink }) }
 carried_cause _ before mid now notes same sink low = absurd notes
 
 -- a clock at the end of the call rises from the one at entry
-module _ {disk sink : Type 0} {answer : Answer} {p : Progress} {mid now : Outside} (alone : NotesAlone disk sink answer p mid now) (before : Outside) (later : disk → clock before.disk ≤ clock now.disk) where
+module _ {disk sink : Type 0} {answer : Answer} {p : Progress} {mid now : World} (alone : NotesAlone disk sink answer p mid now) (before : World) (later : disk → clock before.disk ≤ clock now.disk) where
   rise : disk → (k : ℕ) → k < length p.clocks.items → get_or (clock before.disk ∷ p.clocks.items) k 0 ≤ get_or p.clocks.items k 0
   rise told zero below = omega (arith, later told, alone.clocks told zero below)
   rise told (suc k) below = omega (arith, alone.clocks told k (omega (arith, below)), alone.clocks told (suc k) below)
@@ -125,7 +127,7 @@ module _ {disk sink : Type 0} {answer : Answer} {p : Progress} {mid now : Outsid
   last a b [] low all = low
   last a b (c ∷ cs) low all = omega (arith, all (length cs) (omega arith))
 
-  pub alone_clocks : ClocksRise disk p before now
+  pub alone_clocks : ClocksRise disk p.answers.items p.clocks.items before.disk now.disk
   alone_clocks = record { paired = alone.paired; rise = rise; last = λ told. last (clock before.disk) (clock now.disk) p.clocks.items (later told) (alone.clocks told) }
 
 -- only the text of many lines can lack memory
@@ -135,16 +137,16 @@ untold answer Memory before now short (same, long) = absurd (cc (short, long))
 
 -- ---- the text of the end
 
-module _ (sink : Type 0) (before now : Outside) where
-  hands_whole : (disk : Type 0) (text : List ℕ) (moment : ℕ) → text ≢ [] → now.sink_faults ≡ before.sink_faults → (sink → HandsOn disk moment text before.handed now.handed) → HandsText sink text before now
+module _ (sink : Type 0) (before now : World) where
+  hands_whole : (disk : Type 0) (text : List ℕ) (moment : ℕ) → text ≢ [] → now.counts.sink ≡ before.counts.sink → (sink → HandsOn disk moment text before.handed now.handed) → HandsText sink text before now
   hands_whole disk [] moment some same put = absurd (some refl)
   hands_whole disk (b ∷ text) moment some same put = inl (same, λ told. let h = put told in (h.noted, h.so))
 
-  hands_part : (text : List ℕ) → text ≢ [] → Rose before.sink_faults now.sink_faults → (sink → HandsPart text before.handed now.handed) → HandsText sink text before now
+  hands_part : (text : List ℕ) → text ≢ [] → Rose before.counts.sink now.counts.sink → (sink → HandsPart text before.handed now.handed) → HandsText sink text before now
   hands_part [] some rose put = absurd (some refl)
   hands_part (b ∷ text) some rose put = inr (rose, put)
 
-  pub tells_text : (disk : Type 0) (text : List ℕ) (result : Result ℕ Untold) → now ≡ record before { sink_faults = now.sink_faults; handed = now.handed } → text ≢ [] → before.sink_faults ≤ now.sink_faults → OnOk result (now.sink_faults ≡ before.sink_faults) → OnErr result (Rose before.sink_faults now.sink_faults) →
+  pub tells_text : (disk : Type 0) (text : List ℕ) (result : Result ℕ Untold) → now ≡ record before { counts = record before.counts { sink = now.counts.sink }; handed = now.handed } → text ≢ [] → before.counts.sink ≤ now.counts.sink → OnOk result (now.counts.sink ≡ before.counts.sink) → OnErr result (Rose before.counts.sink now.counts.sink) →
       IfOk result (λ moment. sink → HandsOn disk moment text before.handed now.handed) → OnErr result (sink → HandsPart text before.handed now.handed) → TellsEnd sink text before now
   tells_text disk text (Ok moment) beside some low same rose whole_put part_put = record { beside = beside; later = low; put = hands_whole disk text moment some same whole_put }
   tells_text disk text (Err fault) beside some low same rose whole_put part_put = record { beside = beside; later = low; put = hands_part text some rose part_put }

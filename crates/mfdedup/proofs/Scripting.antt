@@ -1,6 +1,5 @@
 -- What comes of a script is all that comes of the words which ask for it.
-use Rattle.std.proofs.Common.{◌≡◌, ◌∙◌, ℕ, ◌<◌, ◌≤◌, List, length, get_or, ◌∷◌, inl, inr, ⊎_elim, refl, sym, subst, ap, arith}
-use Rattle.bd_disk.specs.Calls.{Rose}
+use Rattle.std.proofs.Common.{◌≡◌, ◌∙◌, ℕ, List, length, inl, inr, ⊎_elim, refl, sym, subst, ap, arith}
 use Rattle.bd_disk.specs.History.{History, clock}
 use Rattle.bd_disk.specs.Made.{WritesNothing}
 use Rattle.bd_disk.proofs.Frames.{leaves_quiet, made_none}
@@ -9,28 +8,27 @@ use Rattle.bd_model.specs.declared.command.Command.{Command}
 use Rattle.bd_script.proofs.ReadBack.{scripts_are_read_back}
 use Rattle.bd_script.specs.Scripts.{AreLinesOf, script_lines}
 use Rattle.bd_session.specs.Headline.{NoFault}
-use Rattle.bd_session.specs.Promised.{DistinctMarksTellApart, Start}
-use Rattle.bd_store.specs.Causes.{Counts, HasRisen, NoneFell}
-use Rattle.bd_store.specs.Shown.{Shown}
-use Rattle.bd_store.specs.declared.fault.StoreFault.TheVariants.{SourceFault as StoreSource, TargetFault as StoreTarget, DiskFault as StoreDisk}
-use Rattle.mfdedup.specs.Counts.{EndsByCount, EndsOnlyByCount}
-use Rattle.mfdedup.specs.Headline.{IsEarlyFault, start_at}
-use Rattle.mfdedup.specs.Noted.{ClocksRise, HandsAnswers}
-use Rattle.mfdedup.specs.Outside.{Outside, with_store}
+use Rattle.bd_session.specs.Promised.{DistinctMarksTellApart, Start, start}
+use Rattle.bd_session.specs.Ends.{EndsByCount, EndsOnlyByCount}
+use Rattle.mfdedup.specs.Failing.{end_cause}
+use Rattle.mfdedup.specs.Headline.{IsEarlyFault}
+use Rattle.bd_session.specs.Keeping.{ClocksRise}
+use Rattle.bd_session.specs.Telling.{HandsAnswers}
+use Rattle.bd_files.specs.World.{Faults, World}
 use Rattle.mfdedup.specs.Script.{EndsUnread, HasScript}
 use Rattle.mfdedup.specs.ScriptRuns.{ReadsNoScript, RunsAsRead, RunsScript}
 use Rattle.bd_words.specs.Words.{ToScript}
 use Rattle.mfdedup.specs.Works.{Works}
 use Rattle.mfdedup.specs.declared.progress.Progress.{Progress}
 use Rattle.mfdedup.specs.declared.report.End.{End}
-use Rattle.mfdedup.specs.declared.report.End.TheVariants.{BadLine, DiskFault, LongScript, OutOfMemory, OutputFault, SourceFault, TargetFault}
+use Rattle.mfdedup.specs.declared.report.End.TheVariants.{BadLine, LongScript, OutOfMemory, SourceFault}
 use Rattle.mfdedup.proofs.Noting.{no_clocks, no_texts}
 use Rattle.mfdedup.proofs.Opening.{still_honest}
 use Rattle.mfdedup.proofs.Running.{CommandsWork, commands_work, not_risen, works_of}
 
 -- ---- none was read
 
-module _ (files : Type 0) (name : List ℕ) (p : Progress) (before now : Outside) (none : ReadsNoScript files name p before now) where
+module _ (files : Type 0) (name : List ℕ) (p : Progress) (before now : World) (none : ReadsNoScript files name p before now) where
   -- a file that is a script ends so only for its source, or for want of memory
   ends_early : files → (commands : List Command) → HasScript before.files name commands → IsEarlyFault (ToScript name) p.end
   ends_early told commands script = by p.end refl none.ends where
@@ -43,29 +41,29 @@ module _ (files : Type 0) (name : List ℕ) (p : Progress) (before now : Outside
     by OutOfMemory e _ = inr (inr e)
     by _ e other = absurd other
 
-  only_memory : EndsByCount p.end before now → IsEarlyFault (ToScript name) p.end → (old new : Shown) → NoFault (with_store old before) (with_store new now) → p.end ≡ OutOfMemory
-  only_memory cause (inl e) old new fine =
-      absurd (not_risen p before now before.counts.sources now.counts.sources (ap (λ (c : Counts). c.sources) fine.same) fine.sources (subst (λ x. EndsByCount x before now) e cause).risen.0)
-  only_memory cause (inr (inl e)) old new fine =
-      absurd (not_risen p before now before.counts.disk now.counts.disk (ap (λ (c : Counts). c.disk) fine.same) fine.disk (subst (λ x. EndsByCount x before now) e cause).risen.0)
-  only_memory cause (inr (inr e)) old new fine = e
+  only_memory : EndsByCount (end_cause p.end) before.counts now.counts → IsEarlyFault (ToScript name) p.end → NoFault before.counts now.counts → p.end ≡ OutOfMemory
+  only_memory cause (inl e) fine =
+      absurd (not_risen p before now before.counts.sources now.counts.sources (ap (λ (c : Faults). c.sources) fine.same) fine.sources (subst (λ x. EndsByCount (end_cause x) before.counts now.counts) e cause).0)
+  only_memory cause (inr (inl e)) fine =
+      absurd (not_risen p before now before.counts.disk now.counts.disk (ap (λ (c : Faults). c.disk) fine.same) fine.disk (subst (λ x. EndsByCount (end_cause x) before.counts now.counts) e cause).0)
+  only_memory cause (inr (inr e)) fine = e
 
   same_disk : now.disk ≡ before.disk
-  same_disk = ap (λ (o : Outside). o.disk) none.beside
+  same_disk = ap (λ (o : World). o.disk) none.beside
 
   quiet : WritesNothing before.disk now.disk
   quiet = subst (WritesNothing before.disk) (sym same_disk) (made_none _ before.disk)
 
   pub unread_works : (disk sink : Type 0) → Works disk files sink (ToScript name) p before now
   unread_works disk sink = record {
-    bytes = ap (λ (o : Outside). o.disk_bytes) none.beside;
+    bytes = ap (λ (o : World). o.disk_bytes) none.beside;
     cause = none.cause;
     clocks = no_clocks none.nothing (λ told. omega (arith, ap clock same_disk));
-    written = λ told. no_texts none.nothing (ap (λ (o : Outside). o.handed) none.beside);
+    written = λ told. no_texts none.nothing (ap (λ (o : World). o.handed) none.beside);
     words = inl none;
     headline = λ told files_tell. record {
       each = λ shape st phase commands script promised.
-          let s : Start = start_at shape st phase before in
+          let s : Start = start shape st phase before in
           let ends = ends_early files_tell commands script in
           inr (record {
             nothing = none.nothing;
@@ -74,38 +72,21 @@ module _ (files : Type 0) (name : List ℕ) (p : Progress) (before now : Outside
             stands = (still_honest {s = s} quiet promised.disk).stands;
             stops = leaves_quiet quiet promised.disk.sure;
             beside = none.same files_tell;
-            complete = only_memory none.cause.cause ends;
+            complete = only_memory none.cause.by ends;
           });
     };
   }
 
 -- ---- one was read
 
--- an end comes by the same count from where the counts were the same
-cause_from : (ending : End) (before read now : Outside) → read.counts ≡ before.counts → read.sink_faults ≡ before.sink_faults → EndsOnlyByCount ending read now → EndsOnlyByCount ending before now
-cause_from ending before read now same same_sink m = record { later = subst (λ (c : Counts). NoneFell c now.counts) same m.later; sink = subst (λ n. n ≤ now.sink_faults) same_sink m.sink; cause = by ending m.cause } where
-  by : (ending : End) → EndsByCount ending read now → EndsByCount ending before now
-  by SourceFault m = record { risen = subst (λ (c : Counts). HasRisen StoreSource c now.counts) same m.risen; sink = m.sink ∙ same_sink }
-  by TargetFault m = record { risen = subst (λ (c : Counts). HasRisen StoreTarget c now.counts) same m.risen; sink = m.sink ∙ same_sink }
-  by DiskFault m = record { risen = subst (λ (c : Counts). HasRisen StoreDisk c now.counts) same m.risen; sink = m.sink ∙ same_sink }
-  by OutputFault m = record { counts = m.counts ∙ same; risen = subst (λ n. Rose n now.sink_faults) same_sink m.risen }
-  by _ m = record { counts = m.counts ∙ same; sink = m.sink ∙ same_sink }
-
-module _ (disk files sink : Type 0) (name : List ℕ) (p : Progress) (before now : Outside) (did : RunsAsRead disk files sink name p before now) (w : CommandsWork disk files sink did.commands p did.read now) where
-  clocks_from : (read : Outside) → read.disk ≡ before.disk → ClocksRise disk p read now → ClocksRise disk p before now
-  clocks_from read same m = record {
-    paired = m.paired;
-    rise = λ told. subst (λ (h : History). (k : ℕ) → k < length p.clocks.items → get_or (clock h ∷ p.clocks.items) k 0 ≤ get_or p.clocks.items k 0) same (m.rise told);
-    last = λ told. subst (λ (h : History). get_or (clock h ∷ p.clocks.items) (length p.clocks.items) 0 ≤ clock now.disk) same (m.last told);
-  }
-
+module _ (disk files sink : Type 0) (name : List ℕ) (p : Progress) (before now : World) (did : RunsAsRead disk files sink name p before now) (w : CommandsWork disk files sink did.commands p did.read now) where
   work : CommandsWork disk files sink did.commands p before now
   work = record {
-    bytes = w.bytes ∙ ap (λ (o : Outside). o.disk_bytes) did.reads.beside;
-    cause = cause_from p.end before did.read now (ap (λ (o : Outside). o.counts) did.reads.beside) (ap (λ (o : Outside). o.sink_faults) did.reads.beside) w.cause;
-    clocks = clocks_from did.read (ap (λ (o : Outside). o.disk) did.reads.beside) w.clocks;
-    written = λ told. subst (λ handed. HandsAnswers disk p handed now.handed) (ap (λ (o : Outside). o.handed) did.reads.beside) (w.written told);
-    each = λ told files_tell. (subst (λ (o : Outside). CommandsWork disk files sink did.commands p o now) (did.reads.same files_tell) w).each told files_tell;
+    bytes = w.bytes ∙ ap (λ (o : World). o.disk_bytes) did.reads.beside;
+    cause = subst (λ (c : Faults). EndsOnlyByCount (end_cause p.end) c now.counts) (ap (λ (o : World). o.counts) did.reads.beside) w.cause;
+    clocks = subst (λ (h : History). ClocksRise disk p.answers.items p.clocks.items h now.disk) (ap (λ (o : World). o.disk) did.reads.beside) w.clocks;
+    written = λ told. subst (λ handed. HandsAnswers disk p.answers.items p.clocks.items (end_cause p.end) handed now.handed) (ap (λ (o : World). o.handed) did.reads.beside) (w.written told);
+    each = λ told files_tell. (subst (λ (o : World). CommandsWork disk files sink did.commands p o now) (did.reads.same files_tell) w).each told files_tell;
   }
 
   only : files → (asked : List Command) → HasScript before.files name asked → asked ≡ did.commands
@@ -117,6 +98,6 @@ module _ (disk files sink : Type 0) (name : List ℕ) (p : Progress) (before now
   read_works : Works disk files sink (ToScript name) p before now
   read_works = works_of did.commands p before now work (ToScript name) (inr did) only
 
-pub script_works : {disk files sink : Type 0} → DistinctMarksTellApart → (name : List ℕ) (p : Progress) (before now : Outside) → RunsScript disk files sink name p before now → Works disk files sink (ToScript name) p before now
+pub script_works : {disk files sink : Type 0} → DistinctMarksTellApart → (name : List ℕ) (p : Progress) (before now : World) → RunsScript disk files sink name p before now → Works disk files sink (ToScript name) p before now
 script_works {disk} {files} {sink} apart name p before now runs =
     ⊎_elim (λ none. unread_works files name p before now none disk sink) (λ did. read_works disk files sink name p before now did (commands_work apart did.commands p did.read now did.runs)) runs

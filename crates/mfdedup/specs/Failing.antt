@@ -1,4 +1,4 @@
--- The end that a fault of the crates below brings.
+-- The end that a fault of the crates below brings, and what brings an end.
 use Rattle.mfdedup.specs.declared.report.End.{End}
 use Rattle.mfdedup.specs.declared.report.End.TheVariants.{Done, DiskFault, Damaged, SourceFault, TargetFault, OutputFault, OutOfMemory, Unbuilt, NotAStore, AlreadyAStore, TooSmall, BadWords, BadNumber, BadName, BadShape}
 use Rattle.bd_recover.specs.declared.fault.OpenFault.{OpenFault}
@@ -7,6 +7,8 @@ use Rattle.bd_recover.specs.declared.fault.FormatFault.{FormatFault}
 use Rattle.bd_recover.specs.declared.fault.FormatFault.TheVariants.{AlreadyAStore as FormatMarked, TooSmall as FormatSmall, DiskFault as FormatDisk, OutOfMemory as FormatMemory}
 use Rattle.bd_words.specs.declared.fault.WordsFault.{WordsFault}
 use Rattle.bd_words.specs.declared.fault.WordsFault.TheVariants.{BadWords as NoLine, BadNumber as NoNumber, BadName as NoName, BadShape as NoShape, OutOfMemory as WordsMemory}
+use Rattle.bd_store.specs.declared.fault.StoreFault.TheVariants.{SourceFault as StoreSource, TargetFault as StoreTarget, DiskFault as StoreDisk}
+use Rattle.bd_session.specs.Ends.{Cause, FromNothing, FromSink, FromStore}
 use Rattle.bd_session.specs.declared.report.SessionEnd.{SessionEnd}
 use Rattle.bd_session.specs.declared.report.SessionEnd.TheVariants.{Done as AllDone, SourceFault as SessionSource, TargetFault as SessionTarget, DiskFault as SessionDisk, Damaged as SessionDamaged, OutputFault as SessionOutput, OutOfMemory as SessionMemory, Unbuilt as SessionUnbuilt}
 
@@ -37,3 +39,11 @@ end_of_format FormatMarked = AlreadyAStore
 end_of_format (FormatSmall need have) = TooSmall need have
 end_of_format FormatDisk = DiskFault
 end_of_format FormatMemory = OutOfMemory
+
+-- what brings an end
+abbrev pub end_cause : End → Cause
+end_cause SourceFault = FromStore StoreSource
+end_cause TargetFault = FromStore StoreTarget
+end_cause DiskFault = FromStore StoreDisk
+end_cause OutputFault = FromSink
+end_cause ending = FromNothing

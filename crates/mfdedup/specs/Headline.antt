@@ -12,15 +12,14 @@ use Rattle.bd_model.specs.declared.layout.Phase.{Phase}
 use Rattle.bd_model.specs.declared.shape.Shape.{Shape}
 use Rattle.bd_model.specs.declared.command.Command.{Command}
 use Rattle.bd_catalog.specs.Standing.{StandsFor, Stands}
-use Rattle.bd_store.specs.Shown.{Shown}
 use Rattle.bd_session.specs.Headline.{EndsWell, MeetsTheHeadline, NoFault}
-use Rattle.bd_session.specs.Promised.{Start, IsHonest}
+use Rattle.bd_session.specs.Promised.{Start, IsHonest, start}
 use Rattle.bd_session.specs.declared.report.SessionEnd.{SessionEnd}
 use Rattle.mfdedup.specs.Built.{is_built}
 use Rattle.mfdedup.specs.Commands.{course_of}
 use Rattle.mfdedup.specs.Failing.{end_of_session}
 use Rattle.mfdedup.specs.Noted.{NothingNoted}
-use Rattle.mfdedup.specs.Outside.{Outside, with_store}
+use Rattle.bd_files.specs.World.{World}
 use Rattle.mfdedup.specs.Script.{HasScript}
 use Rattle.bd_words.specs.Words.{Reading, ToRun, ToScript}
 use Rattle.mfdedup.specs.declared.progress.Progress.{Progress}
@@ -32,10 +31,6 @@ abbrev pub Asks : Reading → FileMap → List Command → Type 0
 Asks (ToRun command) files commands = IsTrue (is_built command) × (commands ≡ command ∷ [])
 Asks (ToScript name) files commands = HasScript files name commands
 Asks reading files commands = ⊥
-
--- where the commands begin: a state of the version machine, with what lies round it
-abbrev pub start_at : Shape → VersionState → Phase → Outside → Start
-start_at shape st phase before = record { shape = shape; state = st; phase = phase; files = before.files; disk = before.disk }
 
 -- The premise of the headline: the disk is honest, and no two different chunks given have one mark, of those that the state
 -- keeps and that the commands read which were answered and the one after them.
@@ -49,14 +44,14 @@ pub record OpensFirst (shape : Shape) (old new : History) (begun : ℕ) : Type 0
   pub places : All (λ place. place < extent_place (sizes_of shape) 0) (reads_between new (clock old) begun)
 
 -- the commands were begun, and met the headline
-pub record Ran (s : Start) (asked : List Command) (p : Progress) (before now : Outside) : Type 0 where
+pub record Ran (s : Start) (asked : List Command) (p : Progress) (before now : World) : Type 0 where
   pub commands : p.commands.items ≡ asked
   pub begun : ℕ
   pub opened : OpensFirst s.shape before.disk now.disk begun
   pub ending : SessionEnd
   pub ends : p.end ≡ end_of_session ending
   pub headline : MeetsTheHeadline s begun (course_of p ending) now.disk now.files
-  pub well : (old new : Shown) → EndsWell (course_of p ending) (with_store old before) (with_store new now)
+  pub well : EndsWell (course_of p ending) before.counts now.counts
 
 -- an end at the opening
 abbrev pub IsOpeningFault : End → Type 0
@@ -68,16 +63,16 @@ IsEarlyFault (ToScript name) ending = (ending ≡ SourceFault) ⊎ IsOpeningFaul
 IsEarlyFault reading ending = IsOpeningFault ending
 
 -- no command was begun, and everything is as it was
-pub record DidNotRun (reading : Reading) (s : Start) (p : Progress) (before now : Outside) : Type 0 where
+pub record DidNotRun (reading : Reading) (s : Start) (p : Progress) (before now : World) : Type 0 where
   pub nothing : NothingNoted p
   pub ends : IsEarlyFault reading p.end
   pub writes : WritesNothing before.disk now.disk
   pub stands : StandsFor s.shape s.state s.phase 0 (contents now.disk)
   pub stops : LeavesSince (Stands s.shape 0 s.state) before.disk now.disk
   pub beside : now.files ≡ before.files
-  pub complete : (old new : Shown) → NoFault (with_store old before) (with_store new now) → p.end ≡ OutOfMemory
+  pub complete : NoFault before.counts now.counts → p.end ≡ OutOfMemory
 
 -- Whatever state the disk stood for, honestly: the commands that the words ask for met the headline.
-pub record IsTheHeadline (reading : Reading) (p : Progress) (before now : Outside) : Type 0 where
-  pub each : (shape : Shape) → (st : VersionState) → (phase : Phase) → (commands : List Command) → Asks reading before.files commands → IsPromised (start_at shape st phase before) commands (length p.answers.items) →
-      Ran (start_at shape st phase before) commands p before now ⊎ DidNotRun reading (start_at shape st phase before) p before now
+pub record IsTheHeadline (reading : Reading) (p : Progress) (before now : World) : Type 0 where
+  pub each : (shape : Shape) → (st : VersionState) → (phase : Phase) → (commands : List Command) → Asks reading before.files commands → IsPromised (start shape st phase before) commands (length p.answers.items) →
+      Ran (start shape st phase before) commands p before now ⊎ DidNotRun reading (start shape st phase before) p before now

@@ -1,10 +1,8 @@
 pub mod Built
 pub mod Commands
-pub mod Counts
 pub mod Failing
 pub mod Headline
 pub mod Noted
-pub mod Outside
 pub mod Requests
 pub mod Script
 pub mod ScriptRuns

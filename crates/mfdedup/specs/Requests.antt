@@ -17,7 +17,7 @@ use Rattle.bd_recover.specs.declared.fault.FormatFault.TheVariants.{AlreadyAStor
 use Rattle.bd_store.specs.Openings.{MakingStops}
 use Rattle.bd_words.specs.declared.request.Request.{Request}
 use Rattle.mfdedup.specs.Noted.{AnswersAlone, NothingNoted}
-use Rattle.mfdedup.specs.Outside.{Outside}
+use Rattle.bd_files.specs.World.{World}
 use Rattle.mfdedup.specs.declared.progress.Progress.{Progress}
 use Rattle.mfdedup.specs.declared.report.End.{End}
 use Rattle.mfdedup.specs.declared.report.End.TheVariants.{Done, OutputFault, AlreadyAStore, TooSmall, DiskFault, OutOfMemory, TargetFault}
@@ -25,7 +25,7 @@ use Rattle.mfdedup.specs.declared.report.End.TheVariants.{Done, OutputFault, Alr
 -- ---- none
 
 -- this is the end, nothing is noted, and everything is as it was
-pub record EndsAtOnce (ending : End) (p : Progress) (before now : Outside) : Type 0 where
+pub record EndsAtOnce (ending : End) (p : Progress) (before now : World) : Type 0 where
   pub ends : p.end ≡ ending
   pub nothing : NothingNoted p
   pub untouched : now ≡ before
@@ -77,7 +77,7 @@ pub record Formats (shape : Shape) (bytes : ℕ) (ending : End) (clocks : List �
   pub acknowledged : (k : ℕ) → k < length clocks → (image : List ℕ) → Since new (get_or clocks k 0) image → StandsFor shape empty Settled 0 image
 
 -- a format to a shape of these sizes: nothing but the disk is changed, and its count of faults
-pub record FormatsStore (disk : Type 0) (sizes : Sizes) (p : Progress) (before now : Outside) : Type 0 where
+pub record FormatsStore (disk : Type 0) (sizes : Sizes) (p : Progress) (before now : World) : Type 0 where
   pub shape : Shape
   pub is_shape : sizes_of shape ≡ sizes
   pub commands : p.commands.items ≡ []
@@ -106,7 +106,7 @@ pub record Blanks (name : List ℕ) (count : ℕ) (ending : End) (old new : File
   pub memory : ending ≡ OutOfMemory → new ≡ old
 
 -- a blank file: nothing but the files is changed, and their count of faults
-pub record BlanksFile (files : Type 0) (count : ℕ) (name : List ℕ) (p : Progress) (before now : Outside) : Type 0 where
+pub record BlanksFile (files : Type 0) (count : ℕ) (name : List ℕ) (p : Progress) (before now : World) : Type 0 where
   pub commands : p.commands.items ≡ []
   pub ends : EndsBlank p.end
   pub answers : AnswersAlone (Blanked count) p.end p.answers.items

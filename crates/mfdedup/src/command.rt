@@ -3,7 +3,7 @@ ghost use Rattle.std.specs.Prelude.{◌≡◌};
 ghost use Rattle.mfdedup.specs.Built.{is_built};
 ghost use Rattle.mfdedup.specs.Commands.{RunsCommands};
 ghost use Rattle.mfdedup.specs.Failing.{end_of_opening, end_of_session};
-ghost use Rattle.mfdedup.specs.Outside.{outside};
+ghost use Rattle.bd_files.specs.World.{world};
 
 use crate::progress::Progress;
 use crate::report::End;
@@ -30,7 +30,7 @@ pub fn run_commands<D: Disk, F: Files, O: Sink>(
     out: &mut O,
 ) -> Progress
     requires takes { O.tells → D.tells → O.takes D D.history }
-    ensures runs { RunsCommands D.tells F.tells O.tells commands.items result (outside D.Disk F.Files O.Sink disk.old files.old out.old) (outside D.Disk F.Files O.Sink disk.new files.new out.new) }
+    ensures runs { RunsCommands D.tells F.tells O.tells commands.items result (world D.Disk F.Files O.Sink disk.old files.old out.old) (world D.Disk F.Files O.Sink disk.new files.new out.new) }
 {
     match Store::open_store(alloc, disk) {
         Ok(mut store) => {

@@ -3,7 +3,7 @@ ghost use Rattle.std.specs.Prelude.{◌≡◌, ◌⊎◌, [], ◌∷◌, map, st
 ghost use Rattle.bd_model.specs.declared.command.Command.{Command as Asked};
 ghost use Rattle.mfdedup.specs.Failing.{end_of_words};
 ghost use Rattle.mfdedup.specs.Noted.{TellsEnd};
-ghost use Rattle.mfdedup.specs.Outside.{Outside, outside, with_disk};
+ghost use Rattle.bd_files.specs.World.{World, world, with_disk, with_sink};
 ghost use Rattle.mfdedup.specs.Requests.{WordsUnread};
 ghost use Rattle.mfdedup.specs.ScriptRuns.{RunsScript};
 ghost use Rattle.mfdedup.specs.Statuses.{end_text, status_of};
@@ -32,7 +32,7 @@ fn run_asked<D: Disk, F: Files, O: Sink>(
     out: &mut O,
 ) -> Progress
     requires takes { O.tells → D.tells → O.takes D D.history }
-    ensures works { (command : Asked) → commands.now.items ≡ command ∷ [] → Works D.tells F.tells O.tells (ToRun command) result (outside D.Disk F.Files O.Sink disk.old files.old out.old) (outside D.Disk F.Files O.Sink disk.new files.new out.new) }
+    ensures works { (command : Asked) → commands.now.items ≡ command ∷ [] → Works D.tells F.tells O.tells (ToRun command) result (world D.Disk F.Files O.Sink disk.old files.old out.old) (world D.Disk F.Files O.Sink disk.new files.new out.new) }
 {
     match commands.get(0) {
         Some(command) => {
@@ -58,7 +58,7 @@ fn run_script<D: Disk, F: Files, O: Sink>(
     out: &mut O,
 ) -> Progress
     requires takes { O.tells → D.tells → O.takes D D.history }
-    ensures runs { RunsScript D.tells F.tells O.tells name.now result (outside D.Disk F.Files O.Sink disk.old files.old out.old) (outside D.Disk F.Files O.Sink disk.new files.new out.new) }
+    ensures runs { RunsScript D.tells F.tells O.tells name.now result (world D.Disk F.Files O.Sink disk.old files.old out.old) (world D.Disk F.Files O.Sink disk.new files.new out.new) }
 {
     match script_under(alloc, files, name) {
         Ok(commands) => run_commands(alloc, commands, disk, files, out),
@@ -75,7 +75,7 @@ fn act<D: Disk, F: Files, O: Sink>(
     out: &mut O,
 ) -> Progress
     requires takes { O.tells → D.tells → O.takes D D.history }
-    ensures works { (reading : Reading) → AsksFor reading (Some request.now) → Works D.tells F.tells O.tells reading result (outside D.Disk F.Files O.Sink disk.old files.old out.old) (outside D.Disk F.Files O.Sink disk.new files.new out.new) }
+    ensures works { (reading : Reading) → AsksFor reading (Some request.now) → Works D.tells F.tells O.tells reading result (world D.Disk F.Files O.Sink disk.old files.old out.old) (world D.Disk F.Files O.Sink disk.new files.new out.new) }
 {
     match request {
         Request::Format { shape } => format(alloc, *shape, disk, out),
@@ -97,7 +97,7 @@ fn report<D: Disk, O: Sink>(
     ensures request { result.request ≡ request }
     ensures progress { progress_of result ≡ progress }
     ensures status { result.status ≡ status_of progress.end progress.answers.items }
-    ensures tells { (kept : Outside) → TellsEnd O.tells (end_text progress.end) (with_disk D.Disk O.Sink kept disk.now out.old) (with_disk D.Disk O.Sink kept disk.now out.new) }
+    ensures tells { (kept : World) → TellsEnd O.tells (end_text progress.end) (with_sink O.Sink (with_disk D.Disk kept disk.now) out.old) (with_sink O.Sink (with_disk D.Disk kept disk.now) out.new) }
 {
     put_end(&progress.end, disk, out);
     Report {
@@ -123,7 +123,7 @@ pub fn run<D: Disk, F: Files, O: Sink>(
     // The request that was read is shown. Where memory ran out before, none is, and nothing was begun.
     ensures request { AsksFor (reading (map string_bytes words.now)) result.request ⊎ (WordsUnread result.request (progress_of result) × ((disk.new ≡ disk.old) × (files.new ≡ files.old))) }
     // All that comes of the words: what is answered, read, written and kept, over whatever disk, files and sink.
-    ensures did { Did D.tells F.tells O.tells (reading (map string_bytes words.now)) (progress_of result) (outside D.Disk F.Files O.Sink disk.old files.old out.old) (outside D.Disk F.Files O.Sink disk.new files.new out.new) }
+    ensures did { Did D.tells F.tells O.tells (reading (map string_bytes words.now)) (progress_of result) (world D.Disk F.Files O.Sink disk.old files.old out.old) (world D.Disk F.Files O.Sink disk.new files.new out.new) }
 {
     match read(alloc, words) {
         Ok(request) => {

@@ -2,7 +2,7 @@
 ghost use Rattle.std.specs.Prelude.{◌≡◌, ◌≤◌, [], false};
 ghost use Rattle.bd_script.specs.Long.{is_long};
 ghost use Rattle.mfdedup.specs.Noted.{NothingNoted, NotesAlone, TellsEnd};
-ghost use Rattle.mfdedup.specs.Outside.{Outside, with_disk};
+ghost use Rattle.bd_files.specs.World.{World, with_disk, with_sink};
 ghost use Rattle.mfdedup.specs.Statuses.{end_text};
 
 use crate::progress::Progress;
@@ -26,7 +26,7 @@ pub fn note_answer<D: Disk, O: Sink>(
     requires short { is_long answer ≡ false }
     requires nothing { NothingNoted progress }
     requires room { (1 ≤ progress.answers.spare) × (1 ≤ progress.clocks.spare) }
-    ensures notes { (kept : Outside) → NotesAlone D.tells O.tells answer result (with_disk D.Disk O.Sink kept disk.now out.old) (with_disk D.Disk O.Sink kept disk.now out.new) }
+    ensures notes { (kept : World) → NotesAlone D.tells O.tells answer result (with_sink O.Sink (with_disk D.Disk kept disk.now) out.old) (with_sink O.Sink (with_disk D.Disk kept disk.now) out.new) }
 {
     let Progress {
         commands,
@@ -57,7 +57,7 @@ pub fn note_answer<D: Disk, O: Sink>(
 /// Puts the text of the end, where it has one. Where that fails nothing comes of it.
 pub fn put_end<D: Disk, O: Sink>(end: &End, disk: &D, out: &mut O)
     requires takes { O.tells → D.tells → O.takes D D.history }
-    ensures tells { (kept : Outside) → TellsEnd O.tells (end_text end.now) (with_disk D.Disk O.Sink kept disk.now out.old) (with_disk D.Disk O.Sink kept disk.now out.new) }
+    ensures tells { (kept : World) → TellsEnd O.tells (end_text end.now) (with_sink O.Sink (with_disk D.Disk kept disk.now) out.old) (with_sink O.Sink (with_disk D.Disk kept disk.now) out.new) }
 {
     let line = end_line(end);
     if !line.is_empty() {

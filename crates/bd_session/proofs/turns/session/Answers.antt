@@ -1,4 +1,5 @@
 use Rattle.std.proofs.Common.{◌∙◌, Err, Some, ap, arith, length, refl}
+use Rattle.bd_files.specs.World.{world}
 use Rattle.bd_session.specs.declared.report.SessionEnd.TheVariants.{OutputFault, OutOfMemory}
 use Rattle.bd_session.proofs.Stepping.{all_turned, command_at, ended, none_begun, not_begun, none_turned, turned}
 use Rattle.bd_session.proofs.turns.session.Goals as goal
@@ -28,23 +29,23 @@ returns-in-Scrub g c = record {
 pub returns-in-Err-carry_out : goal.returns-in-Err-carry_out
 returns-in-Err-carry_out g c = record {
   meets = ended _ _ _ _ _ c.requires.opened c.loop-command.invariant _ (command_at _ _ _ _ c.as_slice-command-items.ensures c.loop-command-test.true c.command-item.is) _ _
-      c.in-Err-carry_out.ensures.meets _ (c.end_of.ensures, record { faults = refl; handed = refl }) _ c.ending-in-Err-carry_out.ensures;
+      (c.in-Err-carry_out.ensures.meets (world g.D.Disk g.F.Files g.O.Sink c.loop-command.disk c.loop-command.files c.loop-command.out)) _ (c.end_of.ensures, record { faults = refl; handed = refl }) _ c.ending-in-Err-carry_out.ensures;
 }
 
 pub returns-in-Err-Output : goal.returns-in-Err-Output
 returns-in-Err-Output g c = record {
   meets = ended _ _ _ _ _ c.requires.opened c.loop-command.invariant _ (command_at _ _ _ _ c.as_slice-command-items.ensures c.loop-command-test.true c.command-item.is) _ _
-      c.in-Ok-carry_out.ensures.meets OutputFault (record { later = c.tell_answer.ensures.later; faults = rw c.in-Err-Output.field-0-is at c.in-Err-Output.ensures.cause; handed = c.in-Err-Output.ensures.part }) _ c.ending-in-Err-Output.ensures;
+      (c.in-Ok-carry_out.ensures.meets (world g.D.Disk g.F.Files g.O.Sink c.loop-command.disk c.loop-command.files c.loop-command.out)) OutputFault (record { later = c.tell_answer.ensures.later; faults = rw c.in-Err-Output.field-0-is at c.in-Err-Output.ensures.cause; handed = c.in-Err-Output.ensures.part }) _ c.ending-in-Err-Output.ensures;
 }
 
 pub returns-in-Err-Memory : goal.returns-in-Err-Memory
 returns-in-Err-Memory g c = record {
   meets = ended _ _ _ _ _ c.requires.opened c.loop-command.invariant _ (command_at _ _ _ _ c.as_slice-command-items.ensures c.loop-command-test.true c.command-item.is) _ _
-      c.in-Ok-carry_out.ensures.meets OutOfMemory ((rw c.in-Err-Memory.field-0-is at c.in-Err-Memory.ensures.cause).1, record { faults = (rw c.in-Err-Memory.field-0-is at c.in-Err-Memory.ensures.cause).0; handed = ap g.O.Sink.handed (c.tell_answer.ensures.memory (c.in-Err-Memory.is ∙ ap Err c.in-Err-Memory.field-0-is)) }) _ c.ending-in-Err-Memory.ensures;
+      (c.in-Ok-carry_out.ensures.meets (world g.D.Disk g.F.Files g.O.Sink c.loop-command.disk c.loop-command.files c.loop-command.out)) OutOfMemory ((rw c.in-Err-Memory.field-0-is at c.in-Err-Memory.ensures.cause).1, record { faults = (rw c.in-Err-Memory.field-0-is at c.in-Err-Memory.ensures.cause).0; handed = ap g.O.Sink.handed (c.tell_answer.ensures.memory (c.in-Err-Memory.is ∙ ap Err c.in-Err-Memory.field-0-is)) }) _ c.ending-in-Err-Memory.ensures;
 }
 
 pub loop-command-preserved : goal.loop-command-preserved
 loop-command-preserved g c =
     turned _ _ c.loop-command.report _ _ c.loop-command.invariant _ (command_at _ _ _ _ c.as_slice-command-items.ensures c.loop-command-test.true c.command-item.is) _ _ _
-    (record { meets = c.in-Ok-carry_out.ensures.meets; clock = c.in-Ok-tell_answer.ensures.moment; faults = c.in-Ok-tell_answer.ensures.cause; handed = c.in-Ok-tell_answer.ensures.put })
+    (record { meets = (c.in-Ok-carry_out.ensures.meets (world g.D.Disk g.F.Files g.O.Sink c.loop-command.disk c.loop-command.files c.loop-command.out)); clock = c.in-Ok-tell_answer.ensures.moment; faults = c.in-Ok-tell_answer.ensures.cause; handed = c.in-Ok-tell_answer.ensures.put })
     _ c.push.ensures.items c.push-in-Ok-tell_answer.ensures.items c.push.ensures.spare c.push-in-Ok-tell_answer.ensures.spare refl

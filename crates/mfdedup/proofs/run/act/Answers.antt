@@ -1,6 +1,6 @@
 use Rattle.std.proofs.Common.{Some, subst}
 use Rattle.bd_session.proofs.Apart.{distinct_marks_tell_apart}
-use Rattle.mfdedup.specs.Outside.{outside}
+use Rattle.bd_files.specs.World.{world}
 use Rattle.bd_words.specs.Words.{AsksFor}
 use Rattle.mfdedup.proofs.Asking.{format_asks, run_asks, script_asks, soak_asks}
 use Rattle.mfdedup.proofs.Scripting.{script_works}
@@ -9,8 +9,8 @@ use Rattle.mfdedup.proofs.run.act.Goals as goal
 pub returns-in-Format : goal.returns-in-Format
 returns-in-Format g c = record {
   works = λ reading asks.
-      let kept = outside g.D.Disk g.F.Files g.O.Sink c.args.disk.now c.args.files.now c.args.out.now in
-      format_asks reading c.in-Format.shape c.format.result kept (outside g.D.Disk g.F.Files g.O.Sink c.format.new.disk c.args.files.now c.format.new.out) (subst (λ r. AsksFor reading (Some r)) c.in-Format.is asks) (c.format.ensures.works kept);
+      let kept = world g.D.Disk g.F.Files g.O.Sink c.args.disk.now c.args.files.now c.args.out.now in
+      format_asks reading c.in-Format.shape c.format.result kept (world g.D.Disk g.F.Files g.O.Sink c.format.new.disk c.args.files.now c.format.new.out) (subst (λ r. AsksFor reading (Some r)) c.in-Format.is asks) (c.format.ensures.works kept);
 }
 
 pub returns-in-Run : goal.returns-in-Run

@@ -1,6 +1,6 @@
 use Rattle.std.proofs.Common.{◌∙◌, ap, inl, map, refl, string_bytes, subst, sym}
+use Rattle.bd_files.specs.World.{world}
 use Rattle.mfdedup.specs.Noted.{NothingNoted}
-use Rattle.mfdedup.specs.Outside.{outside}
 use Rattle.bd_words.specs.Words.{reading}
 use Rattle.mfdedup.specs.Works.{Did}
 use Rattle.mfdedup.specs.declared.progress.Progress.{Progress}
@@ -9,16 +9,16 @@ use Rattle.mfdedup.proofs.run.run.Goals as goal
 
 pub returns-in-Ok-clause-did : goal.returns-in-Ok-clause-did
 returns-in-Ok-clause-did g c =
-    let before = outside g.D.Disk g.F.Files g.O.Sink c.args.disk.now c.args.files.now c.args.out.now in
-    let done = outside g.D.Disk g.F.Files g.O.Sink c.act-progress.new.disk c.act-progress.new.files c.act-progress.new.out in
-    let now = outside g.D.Disk g.F.Files g.O.Sink c.act-progress.new.disk c.act-progress.new.files c.report.new.out in
+    let before = world g.D.Disk g.F.Files g.O.Sink c.args.disk.now c.args.files.now c.args.out.now in
+    let done = world g.D.Disk g.F.Files g.O.Sink c.act-progress.new.disk c.act-progress.new.files c.act-progress.new.out in
+    let now = world g.D.Disk g.F.Files g.O.Sink c.act-progress.new.disk c.act-progress.new.files c.report.new.out in
     subst (λ (p : Progress). Did g.D.Disk.tells g.F.Files.tells g.O.Sink.tells (reading (map string_bytes c.args.words.now)) p before now) (sym c.report.ensures.progress)
     (record { done = done; works = inl (c.act-progress.ensures.works (reading (map string_bytes c.args.words.now)) c.in-Ok.ensures.asked); tells = c.report.ensures.tells done })
 
 pub returns-in-Err-clause-did : goal.returns-in-Err-clause-did
 returns-in-Err-clause-did g c =
-    let before = outside g.D.Disk g.F.Files g.O.Sink c.args.disk.now c.args.files.now c.args.out.now in
-    let now = outside g.D.Disk g.F.Files g.O.Sink c.args.disk.now c.args.files.now c.report-in-Err.new.out in
+    let before = world g.D.Disk g.F.Files g.O.Sink c.args.disk.now c.args.files.now c.args.out.now in
+    let now = world g.D.Disk g.F.Files g.O.Sink c.args.disk.now c.args.files.now c.report-in-Err.new.out in
     subst (λ (p : Progress). Did g.D.Disk.tells g.F.Files.tells g.O.Sink.tells (reading (map string_bytes c.args.words.now)) p before now) (sym c.report-in-Err.ensures.progress)
     (record {
       done = before;

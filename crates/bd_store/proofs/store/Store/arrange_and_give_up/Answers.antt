@@ -1,9 +1,10 @@
 use Rattle.std.proofs.Common.{◌≡◌, ◌≤◌, List, inl, sym, ap, subst, arith, length, Ok, Err, Result}
+use Rattle.bd_files.specs.World.{World, with_disk}
 use Rattle.bd_model.specs.Sizes.{disk_bytes}
 use Rattle.bd_model.specs.declared.answer.Answer.{Answer}
 use Rattle.bd_model.specs.declared.command.Command.TheVariants.{Expire}
 use Rattle.bd_roll.specs.Catalogue.{VersionEntry, retained_in}
-use Rattle.bd_store.specs.Attempts.{Beside, Meets, attempt, scene_beside}
+use Rattle.bd_store.specs.Attempts.{Meets, attempt, scene}
 use Rattle.bd_store.specs.Shown.{Shown}
 use Rattle.bd_store.specs.declared.fault.StoreFault.{StoreFault}
 use Rattle.bd_store.proofs.Ending.{first_two}
@@ -28,26 +29,26 @@ give_up_oldest-requires g c =
 
 pub returns : goal.returns
 returns g c =
-    let P : Beside → Shown → g.row.D.Denot → Result Answer StoreFault → Type 0 =
-    λ beside store disk result. Meets g.D.Disk.tells (Unit {0}) (attempt Expire result (scene_beside g.D.Disk beside c.args.self.now c.args.disk.now) (scene_beside g.D.Disk beside store disk)) in
+    let P : World → Shown → g.row.D.Denot → Result Answer StoreFault → Type 0 =
+    λ world store disk result. Meets g.D.Disk.tells (Unit {0}) (attempt Expire result (scene c.args.self.now (with_disk g.D.Disk world c.args.disk.now)) (scene store (with_disk g.D.Disk world disk))) in
     record {
-      meets = λ beside.
+      meets = λ world.
           elim c.match-ready.branch [
             | in-Ok w ↦
-                subst (λ s. P beside s c.match-ready.disk c.match-ready.result) (sym w.self-is)
-                (subst (λ d. P beside w.give_up_oldest.new.self d c.match-ready.result) (sym w.disk-is)
-                (subst (P beside w.give_up_oldest.new.self w.give_up_oldest.new.disk) (sym w.result-is)
+                subst (λ s. P world s c.match-ready.disk c.match-ready.result) (sym w.self-is)
+                (subst (λ d. P world w.give_up_oldest.new.self d c.match-ready.result) (sym w.disk-is)
+                (subst (P world w.give_up_oldest.new.self w.give_up_oldest.new.disk) (sym w.result-is)
                 (followed {files = Unit {0}} {command = Expire} c.requires.first c.requires.opened.agrees
-                (made_ready g.D.Disk beside c.args.self.now c.ready.new.self c.args.disk.now c.ready.new.disk (Ok w.in-Ok.field-0) c.ready.ensures.disk w.in-Ok.ensures.cause w.in-Ok.ensures.worn c.ready.ensures.held w.in-Ok.ensures.store w.in-Ok.ensures.told)
+                (made_ready g.D.Disk world c.args.self.now c.ready.new.self c.args.disk.now c.ready.new.disk (Ok w.in-Ok.field-0) c.ready.ensures.disk w.in-Ok.ensures.cause w.in-Ok.ensures.worn c.ready.ensures.held w.in-Ok.ensures.store w.in-Ok.ensures.told)
                 (lean_follows w.in-Ok.ensures.store.settled.phase
                 (subst (λ (vs : List VersionEntry). 1 ≤ length vs) (sym w.in-Ok.ensures.store.settled.versions) (omega (arith, first_two c.args.self.now.found c.requires.first)))
-                (w.give_up_oldest.ensures.meets beside)))))
+                (w.give_up_oldest.ensures.meets world)))))
             | in-Err w ↦
-                subst (λ s. P beside s c.match-ready.disk c.match-ready.result) (sym w.self-is)
-                (subst (λ d. P beside c.ready.new.self d c.match-ready.result) (sym w.disk-is)
-                (subst (P beside c.ready.new.self c.ready.new.disk) (sym w.result-is)
-                (subst (λ fault. P beside c.ready.new.self c.ready.new.disk (Err fault)) (sym w.fault_of_reading.ensures)
+                subst (λ s. P world s c.match-ready.disk c.match-ready.result) (sym w.self-is)
+                (subst (λ d. P world c.ready.new.self d c.match-ready.result) (sym w.disk-is)
+                (subst (P world c.ready.new.self c.ready.new.disk) (sym w.result-is)
+                (subst (λ fault. P world c.ready.new.self c.ready.new.disk (Err fault)) (sym w.fault_of_reading.ensures)
                 (refused {files = Unit {0}} {command = Expire} c.requires.first
-                (made_ready g.D.Disk beside c.args.self.now c.ready.new.self c.args.disk.now c.ready.new.disk (Err w.in-Err.fault) c.ready.ensures.disk w.in-Err.ensures.cause w.in-Err.ensures.worn c.ready.ensures.held w.in-Err.ensures.store w.in-Err.ensures.told)))))
+                (made_ready g.D.Disk world c.args.self.now c.ready.new.self c.args.disk.now c.ready.new.disk (Err w.in-Err.fault) c.ready.ensures.disk w.in-Err.ensures.cause w.in-Err.ensures.worn c.ready.ensures.held w.in-Err.ensures.store w.in-Err.ensures.told)))))
           ];
     }

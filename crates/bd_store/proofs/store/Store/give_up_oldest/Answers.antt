@@ -1,4 +1,5 @@
 use Rattle.std.proofs.Common.{◌≡◌, ◌∙◌, ◌-◌, ℕ, false, sym, ap, subst, arith, Result}
+use Rattle.bd_files.specs.World.{World, with_disk}
 use Rattle.bd_model.specs.declared.answer.Answer.{Answer}
 use Rattle.bd_model.specs.declared.command.Command.TheVariants.{Expire}
 use Rattle.bd_space.specs.Allotment.{held_count}
@@ -6,7 +7,7 @@ use Rattle.bd_catalog.specs.Agreement.{Agrees}
 use Rattle.bd_roll.specs.Catalogue.{retained_in}
 use Rattle.bd_catalog.specs.Opening.{Found}
 use Rattle.bd_roll.specs.Splitting.{FitsExpire}
-use Rattle.bd_store.specs.Attempts.{Beside, Meets, attempt, scene_beside}
+use Rattle.bd_store.specs.Attempts.{Meets, attempt, scene}
 use Rattle.bd_store.specs.Shown.{Shown}
 use Rattle.bd_store.specs.declared.fault.StoreFault.{StoreFault}
 use Rattle.bd_store.proofs.LeanExpiry.{answer_of, expiry_meets, kept_expired}
@@ -36,15 +37,15 @@ returns g c =
       | in-Ok w ↦ w.result-is ∙ ap (answer_of version c.drop_volume-extents.result) (sym w.in-Ok.is)
       | in-Err w ↦ w.result-is ∙ ap (answer_of version c.drop_volume-extents.result) (sym w.in-Err.is)
     ] in
-    let From : Beside → Shown → ℕ → Result Answer StoreFault → Type 0 =
-    λ beside before kept result. Meets g.D.Disk.tells (Unit {0}) (attempt Expire result (scene_beside g.D.Disk beside before c.args.disk.now)
-    (scene_beside g.D.Disk beside (record { found = c.commit-named.new.self.found; held = kept; worn = c.is_err-self-inside.result }) c.commit-named.new.disk)) in
+    let From : World → Shown → ℕ → Result Answer StoreFault → Type 0 =
+    λ w before kept result. Meets g.D.Disk.tells (Unit {0}) (attempt Expire result (scene before (with_disk g.D.Disk w c.args.disk.now))
+    (scene (record { found = c.commit-named.new.self.found; held = kept; worn = c.is_err-self-inside.result }) (with_disk g.D.Disk w c.commit-named.new.disk))) in
     record {
-      meets = λ beside.
-          subst (λ (s : Shown). From beside s (held_count c.commit-named.new.space) c.match-named.result) shown
-          (subst (λ n. From beside (record { found = found; held = held; worn = false }) n c.match-named.result) (sym c.commit-named.ensures.held)
-          (subst (From beside (record { found = found; held = held; worn = false }) held) (sym answer)
-          (expiry_meets g.D.Disk beside found held c.args.disk.now c.commit-named.new.disk
+      meets = λ w.
+          subst (λ (s : Shown). From w s (held_count c.commit-named.new.space) c.match-named.result) shown
+          (subst (λ n. From w (record { found = found; held = held; worn = false }) n c.match-named.result) (sym c.commit-named.ensures.held)
+          (subst (From w (record { found = found; held = held; worn = false }) held) (sym answer)
+          (expiry_meets g.D.Disk w found held c.args.disk.now c.commit-named.new.disk
           (λ told. subst (λ (f : Found). Agrees f (g.D.Disk.history c.args.disk.now)) (sym same) (c.requires.opened.agrees told))
           (subst (λ (f : Found). FitsExpire f.catalogue) (sym same) c.requires.fits) c.commit-named.ensures.disk (Unit {0})
           version c.drop_volume-extents.result

@@ -10,7 +10,7 @@ pub returns-then-retained-eq0 : goal.returns-then-retained-eq0
 returns-then-retained-eq0 g c =
     let none : retained_in c.args.self.now.found.catalogue ≡ 0 = ap (λ (s : Shown). retained_in s.found.catalogue) (sym c.self.view_is) ∙ sym c.retained-retained.ensures ∙ c.if-retained-eq0.true in
     record {
-      meets = meets_untouched _ _ _ c.requires.opened.sound c.requires.opened.agrees
+      meets = λ w. meets_untouched _ _ _ c.requires.opened.sound c.requires.opened.agrees
           (record { cause = refl; has_disk = tt; answer = (none, refl); versions = same_versions c.args.self.now; settles = tt; figures = tt; reads = refl; damage = tt; recipe = λ damage is. tt; step = refl; arranging = λ no. absurd (cc no); finished = tt; transfers = tt })
           (λ told files_tell. refused_step _ _ _ _ _ (nothing_refuses _ _ _ _ _ c.args.self.now.found (c.requires.opened.agrees told) none) refl (λ st phase. refl))
           (λ told files_tell. refused_stops _ _ _ _ _ (nothing_refuses _ _ _ _ _ c.args.self.now.found (c.requires.opened.agrees told) none));
@@ -23,7 +23,7 @@ returns-then-version-oldest g c =
     let some : 0 < retained_in c.args.self.now.found.catalogue = omega (arith, count, c.if-retained-eq0.false) in
     let low : c.newest-newest.result - (c.retained-retained.result - 1) ≡ oldest_in c.args.self.now.found.catalogue = omega (arith, high, count, some) in
     record {
-      meets = meets_untouched _ _ _ c.requires.opened.sound c.requires.opened.agrees
+      meets = λ w. meets_untouched _ _ _ c.requires.opened.sound c.requires.opened.agrees
           (record {
             cause = refl;
             has_disk = tt;

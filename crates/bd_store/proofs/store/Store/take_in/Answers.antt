@@ -1,6 +1,7 @@
 use Rattle.std.proofs.Common.{◌≡◌, ◌∙◌, ◌↔◌, ◌+◌, ℕ, Bool, true, false, length, refl, sym, ap, subst, arith, Result, Err}
 use Rattle.bd_disk.specs.History.{contents}
 use Rattle.bd_disk.proofs.RunLemmas.{written}
+use Rattle.bd_files.specs.World.{with_disk, with_files}
 use Rattle.bd_model.specs.declared.answer.Answer.{Answer}
 use Rattle.bd_model.specs.declared.command.Command.TheVariants.{Backup}
 use Rattle.bd_space.specs.Allotment.{held_count, TakenExactly}
@@ -28,9 +29,9 @@ returns-then-is_err g c =
     let shown = shown_is found (held_count c.self.inside.space) c.args.self.now same (ap (λ (s : Shown). s.held) c.self.view_is) c.requires.opened.sound in
     let sound : c.self.inside.worn ≡ false = ap (λ (s : Shown). s.worn) c.self.view_is ∙ c.requires.opened.sound in
     record {
-      follows = subst (λ (s : Shown). Follows g.D.Disk.tells g.F.Files.tells (attempt (Backup c.args.name.now) (Err OutOfMemory)
-          (scene g.D.Disk g.F.Files c.args.self.now c.args.disk.now c.args.files.now) (scene g.D.Disk g.F.Files s c.args.disk.now c.args.files.now))) (sym shown ∙ (λ k. record { found = found; held = held_count c.self.inside.space; worn = sym sound k }))
-          (follows_without_memory c.args.name.now (scene g.D.Disk g.F.Files c.args.self.now c.args.disk.now c.args.files.now) c.requires.opened.sound c.requires.opened.agrees (backup_goes_on c.args.self.now.found c.requires.number c.requires.limit));
+      follows = λ w. subst (λ (s : Shown). Follows g.D.Disk.tells g.F.Files.tells (attempt (Backup c.args.name.now) (Err OutOfMemory)
+          (scene c.args.self.now (with_files g.F.Files (with_disk g.D.Disk w c.args.disk.now) c.args.files.now)) (scene s (with_files g.F.Files (with_disk g.D.Disk w c.args.disk.now) c.args.files.now)))) (sym shown ∙ (λ k. record { found = found; held = held_count c.self.inside.space; worn = sym sound k }))
+          (follows_without_memory c.args.name.now (scene c.args.self.now (with_files g.F.Files (with_disk g.D.Disk w c.args.disk.now) c.args.files.now)) c.requires.opened.sound c.requires.opened.agrees (backup_goes_on c.args.self.now.found c.requires.number c.requires.limit));
     }
 
 pub name_version-named-requires-clause-reserved : goal.name_version-named-requires-clause-reserved
@@ -67,10 +68,10 @@ returns-in-Ok g c =
       owners = subst (λ (s : Shown). TakenExactly c.self.inside.space (all_extents s.found.catalogue)) c.self.view_is (c.self.invariant.owners sound);
     }) in
     record {
-      follows = subst (λ (before : Shown). Follows g.D.Disk.tells g.F.Files.tells (attempt (Backup c.args.name.now) c.name_version-named.result
-          (scene g.D.Disk g.F.Files before c.args.disk.now c.args.files.now)
-          (scene g.D.Disk g.F.Files (record { found = c.name_version-named.new.catalog.found; held = held_count c.name_version-named.new.space; worn = c.is_disk_fault-self-inside.result }) c.name_version-named.new.disk c.intake.new.files))) shown
-          (named_or_failed g.D.Disk g.F.Files found c.self.inside.space c.args.name.now c.args.disk.now c.args.files.now begun new_chunks c.args.neighbour.now.entries
+      follows = λ w. subst (λ (before : Shown). Follows g.D.Disk.tells g.F.Files.tells (attempt (Backup c.args.name.now) c.name_version-named.result
+          (scene before (with_files g.F.Files (with_disk g.D.Disk w c.args.disk.now) c.args.files.now))
+          (scene (record { found = c.name_version-named.new.catalog.found; held = held_count c.name_version-named.new.space; worn = c.is_disk_fault-self-inside.result }) (with_files g.F.Files (with_disk g.D.Disk w c.name_version-named.new.disk) c.intake.new.files)))) shown
+          (named_or_failed g.D.Disk g.F.Files w found c.self.inside.space c.args.name.now c.args.disk.now c.args.files.now begun new_chunks c.args.neighbour.now.entries
           (λ told. subst (λ (f : Found). IsNewestRecipe f (contents (g.D.Disk.history c.args.disk.now)) c.args.neighbour.now.entries) (sym same) (c.requires.newest told))
           c.intake.new.disk c.intake.new.files c.in-Ok.staged
           (record { disk = c.intake.ensures.disk; cause = c.in-Ok.ensures.cause; files = c.in-Ok.ensures.files; counted = c.in-Ok.ensures.counted })
@@ -80,37 +81,37 @@ returns-in-Ok g c =
     }
 
 pub returns-in-Err : goal.returns-in-Err
-returns-in-Err g c =
-    let found : Found = c.reserve.new.self.found in
-    let held = held_count c.self.inside.space in
-    let same : found ≡ c.args.self.now.found = c.reserve.ensures.found ∙ ap (λ (s : Shown). s.found) c.self.view_is in
-    let shown = shown_is found held c.args.self.now same (ap (λ (s : Shown). s.held) c.self.view_is) c.requires.opened.sound in
-    let sound : c.self.inside.worn ≡ false = ap (λ (s : Shown). s.worn) c.self.view_is ∙ c.requires.opened.sound in
-    let begun : Begun found c.self.inside.space g.D.Disk.tells (g.D.Disk.history c.args.disk.now) = begun_from same (record {
-      agrees = c.requires.opened.agrees;
-      settled = c.requires.settled;
-      below = c.requires.number;
-      fewer = c.requires.limit;
-      count = c.self.invariant.count sound ∙ ap (λ (s : Shown). s.found.sizes.extents) c.self.view_is;
-      owners = subst (λ (s : Shown). TakenExactly c.self.inside.space (all_extents s.found.catalogue)) c.self.view_is (c.self.invariant.owners sound);
-    }) in
-    let worn : Bool = c.is_disk_fault-self-inside-in-Err.result in
-    let free : ℕ = c.figures-free.result.free in
-    let FollowsFrom : Shown → Shown → Result Answer StoreFault → Type 0 =
-    λ before after result. Follows g.D.Disk.tells g.F.Files.tells (attempt (Backup c.args.name.now) result (scene g.D.Disk g.F.Files before c.args.disk.now c.args.files.now) (scene g.D.Disk g.F.Files after c.intake.new.disk c.intake.new.files)) in
-    let start : Shown = record { found = found; held = held; worn = false } in
-    let end : Shown = record { found = found; held = held; worn = worn } in
-    let room : HasFree start free = record { so = subst (λ n. free + length (all_extents found.catalogue) + n ≡ found.sizes.extents) c.intake.ensures.space.held c.figures-free.ensures.figures.free.so } in
-    let is_refusal : c.refusal_of-refused.result ≡ refusal_of (with_room free held c.in-Err.fault) =
-    c.refusal_of-refused.ensures ∙ ap refusal_of (c.with_room.ensures ∙ (λ k. with_room free ((c.figures-free.ensures.figures.held ∙ c.intake.ensures.space.held) k) c.in-Err.fault)) in
-    let is : FollowsFrom start end (refusal_of (with_room free held c.in-Err.fault)) =
-    refused_follows g.D.Disk g.F.Files found c.self.inside.space c.args.name.now c.args.disk.now c.args.files.now begun new_chunks c.args.neighbour.now.entries
-    (λ told. subst (λ (f : Found). IsNewestRecipe f (contents (g.D.Disk.history c.args.disk.now)) c.args.neighbour.now.entries) (sym same) (c.requires.newest told))
-    c.intake.new.disk c.intake.new.files c.in-Err.fault free worn
-    (record { disk = c.intake.ensures.disk; cause = c.in-Err.ensures.cause; files = c.in-Err.ensures.files; counted = c.in-Err.ensures.counted })
-    room (subst (λ result. (worn ≡ true) ↔ (result ≡ Err DiskFault)) is_refusal c.is_disk_fault-self-inside-in-Err.ensures) in
-    record {
-      follows = subst (λ (before : Shown). FollowsFrom before (record { found = found; held = held_count c.intake.new.space; worn = worn }) c.refusal_of-refused.result) shown
-          (subst (λ n. FollowsFrom start (record { found = found; held = n; worn = worn }) c.refusal_of-refused.result) (sym c.intake.ensures.space.held)
-          (subst (FollowsFrom start end) (sym is_refusal) is));
-    }
+returns-in-Err g c = record {
+  follows = λ w.
+      let found : Found = c.reserve.new.self.found in
+      let held = held_count c.self.inside.space in
+      let same : found ≡ c.args.self.now.found = c.reserve.ensures.found ∙ ap (λ (s : Shown). s.found) c.self.view_is in
+      let shown = shown_is found held c.args.self.now same (ap (λ (s : Shown). s.held) c.self.view_is) c.requires.opened.sound in
+      let sound : c.self.inside.worn ≡ false = ap (λ (s : Shown). s.worn) c.self.view_is ∙ c.requires.opened.sound in
+      let begun : Begun found c.self.inside.space g.D.Disk.tells (g.D.Disk.history c.args.disk.now) = begun_from same (record {
+        agrees = c.requires.opened.agrees;
+        settled = c.requires.settled;
+        below = c.requires.number;
+        fewer = c.requires.limit;
+        count = c.self.invariant.count sound ∙ ap (λ (s : Shown). s.found.sizes.extents) c.self.view_is;
+        owners = subst (λ (s : Shown). TakenExactly c.self.inside.space (all_extents s.found.catalogue)) c.self.view_is (c.self.invariant.owners sound);
+      }) in
+      let worn : Bool = c.is_disk_fault-self-inside-in-Err.result in
+      let free : ℕ = c.figures-free.result.free in
+      let FollowsFrom : Shown → Shown → Result Answer StoreFault → Type 0 =
+      λ before after result. Follows g.D.Disk.tells g.F.Files.tells (attempt (Backup c.args.name.now) result (scene before (with_files g.F.Files (with_disk g.D.Disk w c.args.disk.now) c.args.files.now)) (scene after (with_files g.F.Files (with_disk g.D.Disk w c.intake.new.disk) c.intake.new.files))) in
+      let start : Shown = record { found = found; held = held; worn = false } in
+      let end : Shown = record { found = found; held = held; worn = worn } in
+      let room : HasFree start free = record { so = subst (λ n. free + length (all_extents found.catalogue) + n ≡ found.sizes.extents) c.intake.ensures.space.held c.figures-free.ensures.figures.free.so } in
+      let is_refusal : c.refusal_of-refused.result ≡ refusal_of (with_room free held c.in-Err.fault) =
+      c.refusal_of-refused.ensures ∙ ap refusal_of (c.with_room.ensures ∙ (λ k. with_room free ((c.figures-free.ensures.figures.held ∙ c.intake.ensures.space.held) k) c.in-Err.fault)) in
+      let is : FollowsFrom start end (refusal_of (with_room free held c.in-Err.fault)) =
+      refused_follows g.D.Disk g.F.Files w found c.self.inside.space c.args.name.now c.args.disk.now c.args.files.now begun new_chunks c.args.neighbour.now.entries
+      (λ told. subst (λ (f : Found). IsNewestRecipe f (contents (g.D.Disk.history c.args.disk.now)) c.args.neighbour.now.entries) (sym same) (c.requires.newest told))
+      c.intake.new.disk c.intake.new.files c.in-Err.fault free worn
+      (record { disk = c.intake.ensures.disk; cause = c.in-Err.ensures.cause; files = c.in-Err.ensures.files; counted = c.in-Err.ensures.counted })
+      room (subst (λ result. (worn ≡ true) ↔ (result ≡ Err DiskFault)) is_refusal c.is_disk_fault-self-inside-in-Err.ensures) in
+      subst (λ (before : Shown). FollowsFrom before (record { found = found; held = held_count c.intake.new.space; worn = worn }) c.refusal_of-refused.result) shown
+      (subst (λ n. FollowsFrom start (record { found = found; held = n; worn = worn }) c.refusal_of-refused.result) (sym c.intake.ensures.space.held)
+      (subst (FollowsFrom start end) (sym is_refusal) is));
+}
