@@ -3,6 +3,7 @@ use Rattle.std.proofs.Common.{◌≡◌, ◌∙◌, ℕ, ap, refl, sym, subst, a
 use Rattle.bd_disk.specs.Calls.{FailsByCount}
 use Rattle.bd_disk.specs.History.{History, contents}
 use Rattle.bd_disk.specs.Made.{LeavesNow}
+use Rattle.bd_disk.specs.declared.disk.Disk.{Ghosts as DiskGhosts}
 use Rattle.bd_catalog.specs.Opening.{Found, opened}
 use Rattle.bd_recover.specs.Opens.{Rests, is_disk_fault}
 use Rattle.bd_recover.specs.declared.fault.OpenFault.{OpenFault}
@@ -14,18 +15,12 @@ use Rattle.bd_session.specs.Ends.{EndsOnlyByCount}
 use Rattle.bd_session.proofs.Turning.{by_nothing}
 use Rattle.mfdedup.specs.Failing.{end_cause, end_of_opening}
 use Rattle.mfdedup.specs.Noted.{NothingNoted}
-use Rattle.bd_files.specs.World.{Faults, World}
+use Rattle.bd_files.specs.World.{Faults, World, with_disk}
 use Rattle.mfdedup.specs.declared.progress.Progress.{Progress}
 
--- the same world, with this disk and this count of its faults
-abbrev pub at_disk : World → ℕ → History → ℕ → World
-at_disk o bytes disk faults = record o { disk_bytes = bytes; disk = disk; counts = record o.counts { disk = faults } }
-
-pub only_disk : (o : World) (bytes faults : ℕ) (disk : History) → bytes ≡ o.disk_bytes → faults ≡ o.counts.disk → at_disk o bytes disk faults ≡ record o { disk = disk }
-only_disk o bytes faults disk e f = λ i. at_disk o (e i) disk (f i)
-
-pub but_faults : (o : World) (bytes faults : ℕ) (disk : History) → bytes ≡ o.disk_bytes → at_disk o bytes disk faults ≡ record o { disk = disk; counts = record o.counts { disk = faults } }
-but_faults o bytes faults disk e = λ i. at_disk o (e i) disk faults
+-- no fault was counted: only the history is another
+pub only_disk : {D : Type 0} (d : DiskGhosts D) (w : World) (disk : D) → d.bytes disk ≡ w.disk_bytes → d.faults disk ≡ w.counts.disk → with_disk d w disk ≡ record w { disk = d.history disk }
+only_disk d w disk same none = λ i. record w { disk_bytes = same i; disk = d.history disk; counts = record w.counts { disk = none i } }
 
 -- behind an opening each image opens as what was found
 pub opens_at_rest : {found : Found} {h : History} → Rests found h → LeavesNow (OpensWith found) h
@@ -45,12 +40,12 @@ opening_cause (OpenNotAStore place) c faults fails = by_nothing refl (λ i. reco
 opening_cause OpenDisk c faults fails = record { later = record { disk = fails.later; sources = omega arith; targets = omega arith; sink = omega arith }; by = (fails.cause, refl, refl, refl) }
 opening_cause OpenMemory c faults fails = by_nothing refl (λ i. record c { disk = fails.cause i })
 
-pub no_store : {disk T : Type 0} (p : Progress) (fault : OpenFault) (o : World) (bytes faults : ℕ) (now : History) → NothingNoted p → p.end ≡ end_of_opening fault → (disk → AnswersOpening (opened (contents o.disk)) (Err fault)) → FailsByCount {T = T} is_disk_fault o.counts.disk faults (Err fault) → (disk → ReadsFront o.disk now) → bytes ≡ o.disk_bytes →
-    OpensNone disk p o (at_disk o bytes now faults)
-no_store {disk} {T} p fault o bytes faults now none e answers fails front same = record {
+pub no_store : {D T : Type 0} (d : DiskGhosts D) (p : Progress) (fault : OpenFault) (w : World) (now : D) → NothingNoted p → p.end ≡ end_of_opening fault → (d.tells → AnswersOpening (opened (contents w.disk)) (Err fault)) → FailsByCount {T = T} is_disk_fault w.counts.disk (d.faults now) (Err fault) →
+    (d.tells → ReadsFront w.disk (d.history now)) → d.bytes now ≡ w.disk_bytes → OpensNone d.tells p w (with_disk d w now)
+no_store {D} {T} d p fault w now none e answers fails front same = record {
   nothing = none;
-  ends = subst (EndsUnopened disk o.disk) (sym e) (unopened disk fault o.disk answers);
-  cause = subst (λ x. EndsOnlyByCount (end_cause x) o.counts (record o.counts { disk = faults })) (sym e) (opening_cause {T = T} fault o.counts faults fails);
+  ends = subst (EndsUnopened d.tells w.disk) (sym e) (unopened d.tells fault w.disk answers);
+  cause = subst (λ x. EndsOnlyByCount (end_cause x) w.counts (with_disk d w now).counts) (sym e) (opening_cause {T = T} fault w.counts (d.faults now) fails);
   reads = front;
-  beside = but_faults o bytes faults now same;
+  beside = λ i. record w { disk_bytes = same i; disk = d.history now; counts = record w.counts { disk = d.faults now } };
 }

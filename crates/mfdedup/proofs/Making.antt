@@ -3,6 +3,7 @@ use Rattle.std.proofs.Common.{◌≡◌, ◌∙◌, ℕ, ◌<◌, List, [], leng
 use Rattle.bd_disk.specs.Calls.{FailsByCount}
 use Rattle.bd_disk.specs.History.{History, clock, contents, Since}
 use Rattle.bd_disk.specs.Made.{IsSettled, WritesNothing, WritesOnly}
+use Rattle.bd_disk.specs.declared.disk.Disk.{Ghosts as DiskGhosts}
 use Rattle.bd_disk.proofs.Frames.{later, since_now}
 use Rattle.bd_model.specs.Sizes.{sizes_of, extent_place}
 use Rattle.bd_model.specs.State.{empty}
@@ -21,14 +22,13 @@ use Rattle.bd_session.specs.Telling.{HandsAnswers}
 use Rattle.bd_session.proofs.Turning.{by_nothing}
 use Rattle.mfdedup.specs.Failing.{end_cause, end_of_format}
 use Rattle.mfdedup.specs.Noted.{AnswersAlone, NotesAlone, NothingNoted}
-use Rattle.bd_files.specs.World.{Faults, World}
+use Rattle.bd_files.specs.World.{Faults, World, with_disk}
 use Rattle.mfdedup.specs.Requests.{EndsFormat, EndsMaking, Formats, IsCarriedOut}
 use Rattle.bd_words.specs.Words.{ToFormat}
 use Rattle.mfdedup.specs.Works.{Works}
 use Rattle.mfdedup.specs.declared.progress.Progress.{Progress}
 use Rattle.mfdedup.specs.declared.report.End.{End}
 use Rattle.mfdedup.specs.declared.report.End.TheVariants.{Done, OutputFault, AlreadyAStore, TooSmall, DiskFault, OutOfMemory}
-use Rattle.mfdedup.proofs.Begun.{at_disk}
 use Rattle.mfdedup.proofs.Noting.{alone_clocks, carried, carried_cause, no_clocks, no_texts}
 
 -- ---- made
@@ -130,12 +130,12 @@ failed_cause (FormatSmall need have) c faults fails = by_nothing refl (λ i. rec
 failed_cause FormatDisk c faults fails = record { later = record { disk = fails.later; sources = omega arith; targets = omega arith; sink = omega arith }; by = (fails.cause, refl, refl, refl) }
 failed_cause FormatMemory c faults fails = by_nothing refl (λ i. record c { disk = fails.cause i })
 
-pub unformatted_works : {disk sink : Type 0} (shape : Shape) (p : Progress) (fault : FormatFault) (o : World) (bytes faults : ℕ) (now : History) → NothingNoted p → p.end ≡ end_of_format fault → bytes ≡ o.disk_bytes → FailsByCount {T = Shown} is_disk_fault o.counts.disk faults (Err fault) →
-    (disk → AnswersFormat {T = Shown} (format_refusal (sizes_of shape) o.disk_bytes (contents o.disk)) (Err fault)) → (disk → (fault : FormatFault) → format_refusal (sizes_of shape) o.disk_bytes (contents o.disk) ≡ Some fault → WritesNothing o.disk now) → (disk → fault ≡ FormatMemory → now ≡ o.disk) →
-    (disk → WritesOnly (λ place. place < extent_place (sizes_of shape) 0) o.disk now) → (disk → MakingStops shape o.disk now) → Works disk (Unit {0}) sink (ToFormat (sizes_of shape)) p o (at_disk o bytes now faults)
-unformatted_works {disk} {sink} shape p fault o bytes faults now none e same fails answers untouched memory writes stops = record {
+pub unformatted_works : {D sink : Type 0} (d : DiskGhosts D) (shape : Shape) (p : Progress) (fault : FormatFault) (w : World) (now : D) → NothingNoted p → p.end ≡ end_of_format fault → d.bytes now ≡ w.disk_bytes → FailsByCount {T = Shown} is_disk_fault w.counts.disk (d.faults now) (Err fault) →
+    (d.tells → AnswersFormat {T = Shown} (format_refusal (sizes_of shape) w.disk_bytes (contents w.disk)) (Err fault)) → (d.tells → (fault : FormatFault) → format_refusal (sizes_of shape) w.disk_bytes (contents w.disk) ≡ Some fault → WritesNothing w.disk (d.history now)) → (d.tells → fault ≡ FormatMemory → d.history now ≡ w.disk) →
+    (d.tells → WritesOnly (λ place. place < extent_place (sizes_of shape) 0) w.disk (d.history now)) → (d.tells → MakingStops shape w.disk (d.history now)) → Works d.tells (Unit {0}) sink (ToFormat (sizes_of shape)) p w (with_disk d w now)
+unformatted_works {D} {sink} d shape p fault w now none e same fails answers untouched memory writes stops = record {
   bytes = same;
-  cause = subst (λ x. EndsOnlyByCount (end_cause x) o.counts (record o.counts { disk = faults })) (sym e) (failed_cause {T = Shown} fault o.counts faults fails);
+  cause = subst (λ x. EndsOnlyByCount (end_cause x) w.counts (with_disk d w now).counts) (sym e) (failed_cause {T = Shown} fault w.counts (d.faults now) fails);
   clocks = no_clocks none (λ told. later (writes told));
   written = λ told. no_texts none refl;
   words = record {
@@ -144,7 +144,7 @@ unformatted_works {disk} {sink} shape p fault o bytes faults now none e same fai
     commands = none.commands;
     ends = subst EndsMaking (sym e) (failed_ends fault);
     answers = subst (λ x. AnswersAlone Formatted x p.answers.items) (sym e) (failed_answers fault p.answers.items none.answers);
-    on_disk = λ told. subst (λ x. Formats shape o.disk_bytes x p.clocks.items o.disk now) (sym e) (formats_failed shape o.disk_bytes o.disk now (untouched told) (writes told) (stops told) fault (answers told) (memory told) p.clocks.items none.clocks);
+    on_disk = λ told. subst (λ x. Formats shape w.disk_bytes x p.clocks.items w.disk (d.history now)) (sym e) (formats_failed shape w.disk_bytes w.disk (d.history now) (untouched told) (writes told) (stops told) fault (answers told) (memory told) p.clocks.items none.clocks);
     files = refl;
     unfinished = refl;
     strays = refl;
