@@ -29,7 +29,10 @@ pub record IsTextName (name : List ℕ) : Type 0 where
 abbrev pub IsWritable : Command → Type 0
 IsWritable (Backup name) = IsTextName name
 IsWritable (Restore version name) = (version < 2 ^ 32) × IsTextName name
-IsWritable command = Unit {0}
+IsWritable Expire = Unit {0}
+IsWritable Reorganise = Unit {0}
+IsWritable Scrub = Unit {0}
+IsWritable Listing = Unit {0}
 
 -- the line spells this command
 pub record IsLineOf (command : Command) (l : List ℕ) : Type 0 where
