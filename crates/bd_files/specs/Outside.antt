@@ -1,5 +1,5 @@
 -- Files of the system and standard output, as contracts see them.
-use Rattle.std.specs.Prelude.{◌≡◌, ◌≢◌, ℕ, Option, Some, Result, OnOk, OnErr}
+use Rattle.std.specs.Prelude.{◌≡◌, ◌≢◌, ℕ, ◌+◌, ◌-◌, ◌^◌, min, List, [], ◌∷◌, ◌++◌, Contains, Option, None, Some, Result, IfOk, OnOk, OnErr}
 use Rattle.bd_disk.specs.Calls.{one_more}
 use Rattle.bd_files.specs.declared.identity.FileIdentity.{FileIdentity}
 
@@ -26,3 +26,15 @@ pub record FailsAsTarget {T E : Type 0} (old new : Outside) (result : Result T E
 -- the target isn't the spared file
 pub record SparesItsFile (spared target : Option FileIdentity) : Type 0 where
   pub apart : (file : FileIdentity) → target ≡ Some file → spared ≢ Some file
+
+-- a read of a source: one that is read forward gives bytes at its next place alone, which stands behind them then
+pub record ReadsOn {E : Type 0} (old new : Option ℕ) (at : ℕ) (result : Result ℕ E) : Type 0 where
+  pub any : old ≡ None → new ≡ None
+  pub next : (place : ℕ) → old ≡ Some place → IfOk result (λ count. (place ≡ at) × (new ≡ Some (min (at + count) (2 ^ 64 - 1))))
+  pub failed : OnErr result (new ≡ old)
+
+-- a source is at its beginning: it wasn't before, and never is again
+pub record Spends {T E : Type 0} (old new : List FileIdentity) (source : FileIdentity) (result : Result T E) : Type 0 where
+  pub first : OnOk result (¬ Contains old source)
+  pub ok : OnOk result (new ≡ old ++ (source ∷ []))
+  pub failed : OnErr result (new ≡ old)

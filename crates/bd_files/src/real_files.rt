@@ -7,29 +7,24 @@ ghost use Rattle.bd_files.specs.Outside.{FailsAsSource, FailsAsTarget};
 use crate::Files;
 use crate::filling::Filling;
 use crate::identity::FileIdentity;
+use crate::reading::Reading;
+use crate::spent::Spent;
 use bd_disk::Failed;
 use bd_model::Name;
-use std::alloc::AllocError;
-use std::fs::{File, Files as Folder};
-use std::io;
+use std::fs::{File, Files as Folder, Metadata};
 use std::io::ErrorKind;
 use std::marker::Model;
-use std::os::unix::fs::FileExt;
-
-// A source that is kept open.
-#[derive(Drop)]
-struct Kept {
-    name: String,
-    file: File,
-}
+use std::os::unix::fs::FileTypeExt;
+use std::{fs, io};
 
 /// Files of the current folder. The last source is kept open, and so is the last target, which is written through a buffer:
-/// until its `finish` answers Ok not all that was put is written. Contracts see them as how often a call has failed, and
-/// which file is spared.
+/// until its `finish` answers Ok not all that was put is written. A source that can't be read at a place, as a pipe, is read
+/// forward, and once. Contracts see them as how often a call has failed, and which file is spared.
 #[derive(Drop)]
 pub struct RealFiles<R: Folder<File = File> + AllocGlobal + Drop> {
     rt: R,
-    source: Option<Kept>,
+    source: Option<Reading>,
+    spent: Spent,
     target: Option<Filling>,
     spared: Option<FileIdentity>,
     source_faults: u64,
@@ -50,14 +45,21 @@ fn not_found() -> io::Error {
     io::Error::from(ErrorKind::NotFound)
 }
 
+// Whether opening it may wait for another program.
+fn is_pipe(found: &Metadata) -> bool {
+    found.file_type().is_fifo()
+}
+
 impl<R: Folder<File = File> + AllocGlobal + Drop> RealFiles<R> {
     /// No file is open, no call has failed, and no file is spared.
     pub fn new(rt: R) -> RealFiles<R>
         ensures { result ≡ record { sources = 0; targets = 0; spared = None } }
     {
+        let spent = Spent::new(rt.alloc());
         RealFiles {
             rt,
             source: None,
+            spent,
             target: None,
             spared: None,
             source_faults: 0,
@@ -76,14 +78,9 @@ impl<R: Folder<File = File> + AllocGlobal + Drop> RealFiles<R> {
         self.spared = Some(file);
     }
 
-    fn keep(&self, name: &str, file: File) -> Result<Kept, AllocError> {
-        let name = String::from_str(self.rt.alloc(), name)?;
-        Ok(Kept { name, file })
-    }
-
     fn is_source(&self, name: &str) -> bool {
         match &self.source {
-            Some(kept) => kept.name.as_str() == name,
+            Some(source) => source.has_name(name),
             None => false,
         }
     }
@@ -105,6 +102,24 @@ impl<R: Folder<File = File> + AllocGlobal + Drop> RealFiles<R> {
         }
     }
 
+    // Opens a source at its beginning. A pipe that is spent is left shut: it would wait for another to fill it.
+    fn open_source(&mut self, name: &str) -> io::Result<()>
+        ensures { self.new ≡ self.old }
+    {
+        self.source = None;
+        let found = fs::metadata(&self.rt, name)?;
+        if is_pipe(&found) && self.spent.has(FileIdentity::of(&found)) {
+            return Err(io::Error::from(ErrorKind::NotSeekable));
+        }
+        let file = File::open(&self.rt, name)?;
+        let source = Reading::new(self.rt.alloc(), name, file)?;
+        if let Some(forward) = source.forward()? {
+            self.spent.add(forward)?;
+        }
+        self.source = Some(source);
+        Ok(())
+    }
+
     // At the first byte the file is opened anew, since another may have taken the name.
     fn read(&mut self, name: &str, at: u64, into: &mut [u8]) -> io::Result<usize>
         ensures within { IfOk result (λ n. n ≤ length into.old) }
@@ -114,22 +129,23 @@ impl<R: Folder<File = File> + AllocGlobal + Drop> RealFiles<R> {
             self.flush()?;
         }
         if at == 0 || !self.is_source(name) {
-            self.source = None;
-            let file = File::open(&self.rt, name)?;
-            self.source = Some(self.keep(name, file)?);
+            self.open_source(name)?;
         }
-        match &self.source {
-            Some(kept) => kept.file.read_at(into, at),
+        match &mut self.source {
+            Some(source) => source.read(at, into),
             None => Err(not_found()),
         }
     }
 
-    // Opens a file to be filled, in place of the last one, unless it is spared.
+    // Opens a file to be filled, in place of the last one, unless it is spared. A pipe is none, and is left shut.
     fn open_target(&mut self, name: &str, create: bool) -> io::Result<()>
         ensures { self.new ≡ self.old }
     {
         self.flush()?;
         self.target = None;
+        if fs::metadata(&self.rt, name).is_ok_and(|found| is_pipe(&found)) {
+            return Err(io::Error::from(ErrorKind::NotSeekable));
+        }
         let file = File::options()
             .write(true)
             .create(create)
