@@ -2,9 +2,11 @@
 use bd_disk::{Failed, MemDisk};
 use bd_files::{Files, MemFiles, MemSink, RealFiles, Sink};
 use bd_model::Name;
-use std::fs;
+use std::io::{PipeReader, Write};
+use std::os::fd::AsRawFd;
 use std::os::unix::fs::symlink;
 use std::test::Fail;
+use std::{fs, io};
 
 // Makes a file of four bytes under the name, and fetches from it.
 fn round_trip<F: Files>(files: &mut F, name: &Name, into: &mut [u8]) -> Result<usize, Failed> {
@@ -103,5 +105,48 @@ fn a_write_that_fails_is_told_by_finish(rt: HostRuntime) -> Result<(), Fail> {
     let finished = files.finish(&name);
     fs::remove_file(&rt, "bd_session.full")?;
     assert_eq!(rt; finished, Err(Failed));
+    Ok(())
+}
+
+// The file name of a pipe's end that is read.
+fn name_of(rt: HostRuntime, end: &PipeReader) -> Result<Name, Fail> {
+    let text = format!(in rt.alloc(); "/dev/fd/{}", end.as_raw_fd())?;
+    Ok(Name::new(rt.alloc(), &text)?)
+}
+
+#[test]
+fn a_pipe_is_read_forward(rt: HostRuntime) -> Result<(), Fail> {
+    let (end, mut other) = io::pipe(&rt)?;
+    let name = name_of(rt, &end)?;
+    let mut files = RealFiles::new(rt);
+    let mut into = [9u8; 4];
+    other.write_all(b"abcdef")?;
+    drop(other);
+    assert_eq!(rt; files.fetch(&name, 0, &mut into), Ok(4));
+    assert_eq!(rt; into, *b"abcd");
+    assert_eq!(rt; files.fetch(&name, 3, &mut into), Err(Failed));
+    assert_eq!(rt; files.fetch(&name, 4, &mut into), Ok(2));
+    assert_eq!(rt; into, *b"efcd");
+    assert_eq!(rt; files.fetch(&name, 6, &mut into), Ok(0));
+    Ok(())
+}
+
+#[test]
+fn an_empty_pipe_is_read_once(rt: HostRuntime) -> Result<(), Fail> {
+    let (end, other) = io::pipe(&rt)?;
+    let name = name_of(rt, &end)?;
+    let mut files = RealFiles::new(rt);
+    let mut into = [9u8; 4];
+    drop(other);
+    assert_eq!(rt; files.fetch(&name, 0, &mut into), Ok(0));
+    assert_eq!(rt; files.fetch(&name, 0, &mut into), Err(Failed));
+    Ok(())
+}
+
+#[test]
+fn a_pipe_is_no_target(rt: HostRuntime) -> Result<(), Fail> {
+    let (end, _other) = io::pipe(&rt)?;
+    let name = name_of(rt, &end)?;
+    assert_eq!(rt; RealFiles::new(rt).begin(&name, 4), Err(Failed));
     Ok(())
 }
