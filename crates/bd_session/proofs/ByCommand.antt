@@ -1,5 +1,5 @@
 -- What is said of a command by which one it is. A command that is built adds its lines here; all else goes by its answer.
-use Rattle.std.proofs.Common.{◌≡◌, ◌≤◌, ◌⊎◌, ◌∙◌, ◌&&◌, ◌==◌, ℕ, true, [], inl, inr, refl, sym, ap, subst, ⊎_elim, Result, Ok, Err, Option, Some, None, false, List}
+use Rattle.std.proofs.Common.{◌≡◌, ◌≤◌, ◌⊎◌, ◌∙◌, ◌&&◌, ◌==◌, ℕ, true, [], inl, inr, refl, sym, ap, subst, Result, Ok, Err, Option, Some, None, false, List}
 use Rattle.std.specs.FinMap as map
 use Rattle.std.specs.Str.{bytes_eq}
 use Rattle.std.proofs.lemmas.Bool.{eqb-true}
@@ -8,7 +8,7 @@ use Rattle.std.proofs.lemmas.Slice.Eq.{bytes_eq-Decides}
 use Rattle.bd_disk.specs.History.{clock, contents, History}
 use Rattle.bd_disk.specs.Made.{WritesOnly, WritesNothing}
 use Rattle.bd_disk.specs.Trace.{ReadsOnly}
-use Rattle.bd_disk.proofs.Frames.{at_now, at_start, made_both, writes_wider}
+use Rattle.bd_disk.proofs.Frames.{at_now, at_start}
 use Rattle.bd_disk.proofs.Traces.{reads_of_run}
 use Rattle.bd_model.specs.declared.answer.Answer.{Answer}
 use Rattle.bd_model.specs.declared.command.Command.{Command}
@@ -31,32 +31,14 @@ use Rattle.bd_store.specs.Attempts.{IsAnswerOf, ReadsByCommand, Scene, attempt}
 use Rattle.bd_store.specs.Deeds.{Deed, TakesIn, GivesBack, GivesUp, Settles, Checks, Tells, deed_of}
 use Rattle.bd_store.specs.Steps.{task, IsNear, KeepsBut, KeepsFiles}
 use Rattle.bd_store.specs.Touches.{IsLeanExpiry, WalksTo, arranges_first, waits}
-use Rattle.bd_store.specs.Writes.{IsArrangedFirst, WritesArranging, WritesByCommand, WritesFor, arranges, arranges_for}
+use Rattle.bd_store.specs.Writes.{WritesByCommand, WritesFor, arranges_for}
 use Rattle.bd_store.specs.declared.fault.StoreFault.{StoreFault}
 use Rattle.bd_store.specs.declared.fault.StoreFault.TheVariants.{SourceFault as StoreSource, TargetFault as StoreTarget, DiskFault as StoreDisk, Damaged as StoreDamaged, OutOfMemory as StoreMemory}
 use Rattle.bd_session.specs.Drops.{ArrangesFirst, Drops}
 use Rattle.bd_session.specs.Reads.{ExpiryDrops, ExpiryReads, ReadsFor, RestoreReads}
 use Rattle.bd_session.specs.Ends.{IsMetBy, end_of}
 use Rattle.bd_session.specs.Keeping.{IsQuiet, IsQuietDeed}
-use Rattle.bd_store.proofs.Opens.{only_unowned}
 use Rattle.bd_session.proofs.Dropping.{drops_oldest}
-
--- no command writes in the superblock
-ready_beyond : (deed : Deed) (found : Found) {old new : History} → WritesFor deed found old new → WritesOnly (λ place. 64 ≤ place) old new
-ready_beyond deed found writes = writes_wider _ (λ place unowned. unowned.begins) (only_unowned deed found writes)
-
-first_beyond : (held : ℕ) (found after : Found) (command : Command) (result : Result Answer StoreFault) {old new : History} → IsArrangedFirst held found after command old new result → WritesOnly (λ place. 64 ≤ place) old new
-first_beyond held found after command result is = made_both (writes_wider _ (λ place spared. spared.beside.begins) is.first) (ready_beyond (deed_of is.arranged command) is.arranged is.second)
-
-arranging_beyond : (held : ℕ) (found after : Found) (command : Command) (result : Result Answer StoreFault) {old new : History} → WritesArranging held found after command old new result → WritesOnly (λ place. 64 ≤ place) old new
-arranging_beyond held found after command result is = ⊎_elim (λ first. first_beyond held found after command result first) (λ unarranged. writes_wider _ (λ place spared. spared.beside.begins) unarranged.1.writes) is
-
-pub writes_beyond : {held : ℕ} (found : Found) {after : Found} (command : Command) {result : Result Answer StoreFault} {old new : History} → WritesByCommand held found after command old new result → WritesOnly (λ place. 64 ≤ place) old new
-writes_beyond {held} found {after} command {result} {old} {new} writes =
-    elim (arranges found command) as (λ b. arranges found command ≡ b → WritesOnly (λ place. 64 ≤ place) old new) [
-      | true ↦ λ is. arranging_beyond held found after command result (writes.arranging is)
-      | false ↦ λ no. ready_beyond (deed_of found command) found (writes.ready no)
-    ] refl
 
 -- such a command writes nothing
 quiet_deed : (deed : Deed) (found : Found) {old new : History} → IsQuietDeed deed → (arranges_for found deed ≡ false → WritesFor deed found old new) → WritesNothing old new

@@ -33,10 +33,10 @@ use Rattle.bd_session.specs.Session.{MeetsHonestly}
 use Rattle.bd_session.specs.Turns.{before_text, AllAnswered, Goes, LastTurn, NoneBegun, NotBegun, Turns, no_turn, next_turn}
 use Rattle.bd_session.specs.declared.report.SessionEnd.{SessionEnd}
 use Rattle.bd_session.specs.declared.report.SessionEnd.TheVariants.{Done, SourceFault, TargetFault, DiskFault, Damaged, OutputFault, OutOfMemory, Unbuilt}
-use Rattle.bd_session.proofs.ByCommand.{long_quiet, phase_after-room, reads_for, target_or_kept, writes_beyond}
+use Rattle.bd_session.proofs.ByCommand.{long_quiet, phase_after-room, reads_for, target_or_kept}
 use Rattle.bd_session.proofs.Ending.{ends_done, ends_failed, ends_kept, ends_unsaid}
 use Rattle.bd_session.proofs.Going.{HasGone, goes_on, none_gone}
-use Rattle.bd_session.proofs.Turning.{IsOpen, along, by_count, damage_end, open_after, still_open, unsaid}
+use Rattle.bd_session.proofs.Turning.{IsOpen, by_count, damage_end, held_stays, open_after, still_open, unsaid}
 
 -- ---- one command from where the others led
 
@@ -68,7 +68,7 @@ sure_on t phase answer files old new done stops = subst (λ (o : Outcome). Leave
 module _ {disk files sink : Type 0} {commands : List Command} {first : Scene} (told : disk) (files_told : files) (shape : Shape) (st : VersionState) (phase : Phase) (opened : IsOpen disk first) (held : first.store.held ≡ 0)
     (honest : IsHonest (start shape st phase first.world)) (n : ℕ) (apart : MarksTellApart (start shape st phase first.world) commands n) where
   held_on : {answers : List Answer} {clocks : List ℕ} {now : Scene} → Turns disk files sink commands first answers clocks now → now.store.held ≡ 0
-  held_on turns = along (λ a b. b.store.held ≡ a.store.held) (λ a. refl) (λ a b c e f. f ∙ e) (λ command result a b meets. meets.store.held) turns ∙ held
+  held_on turns = held_stays turns ∙ held
 
   has_gone : {answers : List Answer} {clocks : List ℕ} {now : Scene} → Turns disk files sink commands first answers clocks now → length answers ≤ n → HasGone (start shape st phase first.world) commands answers clocks now.world.disk now.world.files
   has_gone no_turn low = none_gone (start shape st phase first.world) commands honest
@@ -82,11 +82,11 @@ module _ {disk files sink : Type 0} {commands : List Command} {first : Scene} (t
       let on_disk = turn.meets.on_disk told in
       let done : Answered t g.phase answer (contents after.world.disk) after.world.files = made s commands answers clocks before after g (held_on turns) command near (Ok answer) both in
       let stops : StopsOnEitherSide t before.world.disk after.world.disk (Ok answer) = stopped s commands answers clocks before after g (held_on turns) command near (Ok answer) both in
-      let writes : WritesOnly (λ place. 64 ≤ place) before.world.disk after.world.disk = writes_beyond before.store.found command on_disk.writes in
+      let writes : WritesOnly (λ place. 64 ≤ place) before.world.disk after.world.disk = turn.meets.common.beyond told in
       subst (λ m. HasGone s commands (answers ++ answer ∷ []) (clocks ++ m ∷ []) after.world.disk after.world.files) (sym (turn.clock told))
       (goes_on s commands answers clocks before.world.disk after.world.disk before.world.files after.world.files g command there done.outcome done.leads answer done.says writes
       (stands_on t g.phase answer (contents after.world.disk) after.world.files done) (sure_on t g.phase answer after.world.files before.world.disk after.world.disk done stops) stops.within done.beside
-      (reads_for shape g.point.state g.phase g.point.files before (before_text before after) (held_on turns) ((still_open turns opened).agrees told) ((open_after turn (still_open turns opened)).agrees told) writes g.stands command answer near turn.meets.answer on_disk.reads))
+      (reads_for shape g.point.state g.phase g.point.files before (before_text before after) (held_on turns) ((still_open turns opened).agrees told) ((open_after turn.meets.common (still_open turns opened)).agrees told) writes g.stands command answer near turn.meets.answer on_disk.reads))
 
 -- ---- the ends
 
@@ -138,7 +138,7 @@ module _ {disk files sink : Type 0} {c : Course} {first now : Scene} (told : dis
     held_last = held_on told files_told shape st phase opened held promised.disk (answered c + 1) promised.chunks goes.turns
 
     writes : WritesOnly (λ place. 64 ≤ place) goes.last.world.disk now.world.disk
-    writes = writes_beyond goes.last.store.found turn.command (turn.meets.on_disk told).writes
+    writes = turn.meets.common.beyond told
 
     more : answered c < length c.commands
     more = slice_get_within c.commands (answered c) turn.command turn.next

@@ -17,7 +17,7 @@ use Rattle.bd_session.specs.Ends.{EndsBy, IsMetBy}
 use Rattle.bd_session.specs.Turns.{before_text, AllAnswered, Goes, LastTurn, NoneBegun, NotBegun, Turns, no_turn, next_turn}
 use Rattle.bd_session.specs.Keeping.{ClocksRise, IsTargetBelow, KeepsOthers, StraysOnlyFor, WritesByCommands}
 use Rattle.bd_session.proofs.Turning.{unsaid, paired, to_the_end}
-use Rattle.bd_session.proofs.ByCommand.{met_fault, quiet_writes, target_or_kept, writes_beyond}
+use Rattle.bd_session.proofs.ByCommand.{met_fault, quiet_writes, target_or_kept}
 
 -- ---- a step of each command, with its number
 
@@ -111,7 +111,7 @@ module _ {disk files sink : Type 0} {c : Course} {first now : Scene} (goes : Goe
 
   -- ---- the disk
   beyond : disk → WritesOnly (λ place. 64 ≤ place) first.world.disk now.world.disk
-  beyond told = to_the_end goes (λ a b. WritesOnly (λ place. 64 ≤ place) a.world.disk b.world.disk) (λ a. made_none _ _) (λ a b d e f. made_both e f) (λ command result a b meets. writes_beyond a.store.found command (meets.on_disk told).writes)
+  beyond told = to_the_end goes (λ a b. WritesOnly (λ place. 64 ≤ place) a.world.disk b.world.disk) (λ a. made_none _ _) (λ a b d e f. made_both e f) (λ result a b meets. meets.beyond told)
 
   pub by_commands : disk → WritesByCommands c first.world.disk now.world.disk
   by_commands told = record {
@@ -150,7 +150,7 @@ module _ {disk files sink : Type 0} {commands : List Command} {first : Scene} (t
       let begun : get_or ((clock first.world.disk ∷ clocks) ++ moment ∷ []) k 0 ≡ clock before.world.disk = get_or_append_left (clock first.world.disk ∷ clocks) (moment ∷ []) 0 k (omega (arith, here)) ∙ ap (λ n. get_or (clock first.world.disk ∷ clocks) n 0) here ∙ last_clock turns in
       let nothing : length clocks - length clocks ≡ 0 = omega arith in
       let ended : get_or (clocks ++ moment ∷ []) k 0 ≡ moment = ap (λ n. get_or (clocks ++ moment ∷ []) n 0) here ∙ get_or-append_right clocks (moment ∷ []) (length clocks) (length clocks) 0 refl (omega arith) ∙ ap (λ n. get_or (moment ∷ []) n 0) nothing in
-      omega (arith, begun, ended, turn.clock told, later (writes_beyond before.store.found command (turn.meets.on_disk told).writes)))
+      omega (arith, begun, ended, turn.clock told, later (turn.meets.common.beyond told)))
       (cases_lt k (length clocks))
 
 pub clocks_rise : {disk files sink : Type 0} {c : Course} {first now : Scene} → Goes disk files sink c first now → ClocksRise disk c.answers c.clocks first.world.disk now.world.disk
@@ -163,7 +163,7 @@ clocks_rise {disk} {files} {sink} {c} {first} {now} goes = record {
   ends told (inl all) = omega (arith, ap (λ (x : Scene). clock x.world.disk) all.same)
   ends told (inr (inl begun)) = omega (arith, ap (λ (x : Scene). clock x.world.disk) begun.same)
   ends told (inr (inr (inl not_begun))) = omega (arith, ap (λ (x : Scene). clock x.world.disk) not_begun.same)
-  ends told (inr (inr (inr turn))) = later (writes_beyond goes.last.store.found turn.command (turn.meets.on_disk told).writes)
+  ends told (inr (inr (inr turn))) = later (turn.meets.common.beyond told)
 
 -- ---- which command brought the end
 

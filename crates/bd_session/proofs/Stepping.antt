@@ -47,7 +47,7 @@ module _ {disk files sink : Type 0} (commands : List Command) (first : Scene) wh
     answers_room = omega (arith, far.answers_room, answers_spare);
     clocks_room = omega (arith, far.clocks_room, clocks_spare);
     ending = ending ∙ far.ending;
-    opened = open_after turn far.opened;
+    opened = open_after turn.meets.common far.opened;
   }
 
   -- it brought the end

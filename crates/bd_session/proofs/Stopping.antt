@@ -14,8 +14,8 @@ use Rattle.bd_session.proofs.Turning.{IsOpen, open_after, still_open}
 module _ {disk files sink : Type 0} (told : disk) where
   opens_after : {command : Command} {answer : Answer} {moment : ℕ} {before after : Scene} → Turn disk files sink command answer moment before after → IsOpen disk before → OpensAsStore before → OpensAsStore after
   opens_after turn opened sure =
-      let after = open_after turn opened in
-      opens_on (turn.meets.store.sizes after.sound) (after.agrees told) (leaves_now ((turn.meets.on_disk told).opens sure))
+      let after = open_after turn.meets.common opened in
+      opens_on (turn.meets.common.sizes after.sound) (after.agrees told) (leaves_now ((turn.meets.on_disk told).opens sure))
 
   still_opens : {commands : List Command} {first : Scene} {answers : List Answer} {clocks : List ℕ} {now : Scene} → Turns disk files sink commands first answers clocks now → IsOpen disk first → OpensAsStore first → OpensAsStore now
   still_opens no_turn opened sure = sure

@@ -11,7 +11,7 @@ use Rattle.bd_model.specs.declared.command.Command.{Command}
 use Rattle.bd_model.specs.declared.damage.Damage.{Damage}
 use Rattle.bd_catalog.specs.Agreement.{Agrees}
 use Rattle.bd_script.specs.Long.{is_long}
-use Rattle.bd_store.specs.Attempts.{Meets, Scene, attempt}
+use Rattle.bd_store.specs.Attempts.{MeetsCommon, Scene}
 use Rattle.bd_store.specs.Shown.{IsOpen as IsOpenStore}
 use Rattle.bd_store.specs.Causes.{FailsOnlyByCount, HasRisen, NoneFell}
 use Rattle.bd_store.specs.declared.fault.StoreFault.{StoreFault}
@@ -19,7 +19,7 @@ use Rattle.bd_store.specs.declared.fault.StoreFault.TheVariants.{SourceFault as 
 use Rattle.bd_session.specs.Course.{Course}
 use Rattle.bd_session.specs.Ends.{Cause, FailsSink, FromNothing, LeavesSink, EndsBy, EndsByCount, EndsOnlyByCount, end_of, session_cause}
 use Rattle.bd_session.specs.Keeping.{KeepsStore}
-use Rattle.bd_session.specs.Turns.{before_text, AllAnswered, Goes, LastTurn, NoneBegun, NotBegun, Turn, Turns, no_turn, next_turn}
+use Rattle.bd_session.specs.Turns.{before_text, AllAnswered, Goes, LastTurn, NoneBegun, NotBegun, Turns, no_turn, next_turn}
 use Rattle.bd_session.specs.declared.report.SessionEnd.{SessionEnd}
 use Rattle.bd_session.specs.declared.report.SessionEnd.TheVariants.{Done, SourceFault, TargetFault, DiskFault, Damaged, OutputFault, OutOfMemory, Unbuilt}
 use Rattle.bd_session.specs.declared.report.SessionReport.{SessionReport}
@@ -47,67 +47,68 @@ one_fault e = cc e
 answer_no_fault : {answer : Answer} {fault : StoreFault} → (Ok answer ≡ Err fault) → ⊥
 answer_no_fault e = cc e
 
-module _ {disk files sink : Type 0} where
-  -- after a turn the store can be asked for more
-  pub open_after : {command : Command} {answer : Answer} {moment : ℕ} {before after : Scene} → Turn disk files sink command answer moment before after → IsOpen disk before → IsOpen disk after
-  open_after {command} {answer} {moment} {before} {after} turn opened = record {
-    sound = sound;
-    room = room;
-    agrees = λ told. (turn.meets.on_disk told).agrees sound;
-  } where
-    sound : after.store.worn ≡ false
-    sound = false_from_ne_true _ (λ worn. answer_no_fault (turn.meets.store.worn.0 worn))
+-- after a call that was answered the store can be asked for more
+pub open_after : {disk : Type 0} {answer : Answer} {before after : Scene} → MeetsCommon disk (Ok answer) before after → IsOpen disk before → IsOpen disk after
+open_after {disk} {answer} {before} {after} meets opened = record {
+  sound = sound;
+  room = room;
+  agrees = λ told. meets.agrees told sound;
+} where
+  sound : after.store.worn ≡ false
+  sound = false_from_ne_true _ (λ worn. answer_no_fault (meets.worn.0 worn))
 
-    room : disk_bytes after.store.found.sizes ≤ after.world.disk_bytes
-    room = omega (arith, opened.room, ap disk_bytes (turn.meets.store.sizes sound), turn.meets.bytes)
+  room : disk_bytes after.store.found.sizes ≤ after.world.disk_bytes
+  room = omega (arith, opened.room, ap disk_bytes (meets.sizes sound), meets.bytes)
 
-  module _ {commands : List Command} {first : Scene} where
-    pub still_open : {answers : List Answer} {clocks : List ℕ} {now : Scene} → Turns disk files sink commands first answers clocks now → IsOpen disk first → IsOpen disk now
-    still_open no_turn opened = opened
-    still_open (next_turn command answer moment turns there turn) opened = open_after turn (still_open turns opened)
+module _ {disk files sink : Type 0} {commands : List Command} {first : Scene} where
+  pub still_open : {answers : List Answer} {clocks : List ℕ} {now : Scene} → Turns disk files sink commands first answers clocks now → IsOpen disk first → IsOpen disk now
+  still_open no_turn opened = opened
+  still_open (next_turn command answer moment turns there turn) opened = open_after turn.meets.common (still_open turns opened)
 
-    -- there is a clock for each answer
-    pub paired : {answers : List Answer} {clocks : List ℕ} {now : Scene} → Turns disk files sink commands first answers clocks now → length clocks ≡ length answers
-    paired no_turn = refl
-    paired (next_turn {answers} {clocks} command answer moment turns there turn) = omega (arith, length_push clocks moment, length_push answers answer, paired turns)
+  -- there is a clock for each answer
+  pub paired : {answers : List Answer} {clocks : List ℕ} {now : Scene} → Turns disk files sink commands first answers clocks now → length clocks ≡ length answers
+  paired no_turn = refl
+  paired (next_turn {answers} {clocks} command answer moment turns there turn) = omega (arith, length_push clocks moment, length_push answers answer, paired turns)
 
-    -- no more than there are commands
-    pub few : {answers : List Answer} {clocks : List ℕ} {now : Scene} → Turns disk files sink commands first answers clocks now → length answers ≤ length commands
-    few no_turn = omega arith
-    few (next_turn {answers} command answer moment turns there turn) = omega (arith, length_push answers answer, slice_get_within commands (length answers) command there)
+  -- no more than there are commands
+  pub few : {answers : List Answer} {clocks : List ℕ} {now : Scene} → Turns disk files sink commands first answers clocks now → length answers ≤ length commands
+  few no_turn = omega arith
+  few (next_turn {answers} command answer moment turns there turn) = omega (arith, length_push answers answer, slice_get_within commands (length answers) command there)
 
-    pub none_answered : {answers : List Answer} {clocks : List ℕ} {now : Scene} → Turns disk files sink commands first answers clocks now → answers ≡ [] → now ≡ first
-    none_answered no_turn none = refl
-    none_answered (next_turn {answers} command answer moment turns there turn) none = absurd (omega (arith, length_push answers answer, ap length none))
+  pub none_answered : {answers : List Answer} {clocks : List ℕ} {now : Scene} → Turns disk files sink commands first answers clocks now → answers ≡ [] → now ≡ first
+  none_answered no_turn none = refl
+  none_answered (next_turn {answers} command answer moment turns there turn) none = absurd (omega (arith, length_push answers answer, ap length none))
 
-    -- what every command keeps, the turns keep
-    pub along : (R : Scene → Scene → Type 0) → ((a : Scene) → R a a) → ((a b c : Scene) → R a b → R b c → R a c) →
-        ((command : Command) → (result : Result Answer StoreFault) → (a b : Scene) → Meets disk files (attempt command result a (before_text a b)) → R a b) →
-        {answers : List Answer} {clocks : List ℕ} {now : Scene} → Turns disk files sink commands first answers clocks now → R first now
-    along R none both one no_turn = none _
-    along R none both one (next_turn command answer moment turns there turn) = both _ _ _ (along R none both one turns) (one _ _ _ _ turn.meets)
+  -- what every call keeps, the turns keep
+  pub along : (R : Scene → Scene → Type 0) → ((a : Scene) → R a a) → ((a b c : Scene) → R a b → R b c → R a c) →
+      ((result : Result Answer StoreFault) → (a b : Scene) → MeetsCommon disk result a (before_text a b) → R a b) →
+      {answers : List Answer} {clocks : List ℕ} {now : Scene} → Turns disk files sink commands first answers clocks now → R first now
+  along R none both one no_turn = none _
+  along R none both one (next_turn command answer moment turns there turn) = both _ _ _ (along R none both one turns) (one _ _ _ turn.meets.common)
 
-    -- no count rose
-    counts_stay : {answers : List Answer} {clocks : List ℕ} {now : Scene} → Turns disk files sink commands first answers clocks now → now.world.counts ≡ first.world.counts
-    counts_stay no_turn = refl
-    counts_stay (next_turn command answer moment turns there turn) = (λ k. record (turn.meets.cause.cause k) { sink = turn.faults k }) ∙ counts_stay turns
+  -- nor does a command change how many extents are held
+  pub held_stays : {answers : List Answer} {clocks : List ℕ} {now : Scene} → Turns disk files sink commands first answers clocks now → now.store.held ≡ first.store.held
+  held_stays no_turn = refl
+  held_stays (next_turn command answer moment turns there turn) = turn.meets.store.held ∙ held_stays turns
+
+  -- no count rose
+  counts_stay : {answers : List Answer} {clocks : List ℕ} {now : Scene} → Turns disk files sink commands first answers clocks now → now.world.counts ≡ first.world.counts
+  counts_stay no_turn = refl
+  counts_stay (next_turn command answer moment turns there turn) = (λ k. record (turn.meets.common.cause.cause k) { sink = turn.faults k }) ∙ counts_stay turns
 
 -- up to the end
 module _ {disk files sink : Type 0} {c : Course} {first now : Scene} (goes : Goes disk files sink c first now) where
   pub to_the_end : (R : Scene → Scene → Type 0) → ((a : Scene) → R a a) → ((a b c : Scene) → R a b → R b c → R a c) →
-      ((command : Command) → (result : Result Answer StoreFault) → (a b : Scene) → Meets disk files (attempt command result a (before_text a b)) → R a b) → R first now
+      ((result : Result Answer StoreFault) → (a b : Scene) → MeetsCommon disk result a (before_text a b) → R a b) → R first now
   to_the_end R none both one = both _ _ _ (along R none both one goes.turns) (last goes.ends) where
     last : AllAnswered c goes.last now ⊎ NoneBegun c goes.last now ⊎ NotBegun c goes.last now ⊎ LastTurn disk files sink c goes.last now → R goes.last now
     last (inl all) = subst (R goes.last) (sym all.same) (none _)
     last (inr (inl begun)) = subst (R goes.last) (sym begun.same) (none _)
     last (inr (inr (inl not_begun))) = subst (R goes.last) (sym not_begun.same) (none _)
-    last (inr (inr (inr turn))) = one _ _ _ _ turn.meets
+    last (inr (inr (inr turn))) = one _ _ _ turn.meets.common
 
   pub bytes_stay : now.world.disk_bytes ≡ first.world.disk_bytes
-  bytes_stay = to_the_end (λ a b. b.world.disk_bytes ≡ a.world.disk_bytes) (λ a. refl) (λ a b c e f. f ∙ e) (λ command result a b meets. meets.bytes)
-
-  held_stays : now.store.held ≡ first.store.held
-  held_stays = to_the_end (λ a b. b.store.held ≡ a.store.held) (λ a. refl) (λ a b c e f. f ∙ e) (λ command result a b meets. meets.store.held)
+  bytes_stay = to_the_end (λ a b. b.world.disk_bytes ≡ a.world.disk_bytes) (λ a. refl) (λ a b c e f. f ∙ e) (λ result a b meets. meets.bytes)
 
 -- ---- the last command
 
@@ -159,9 +160,9 @@ pub by_nothing : {cause : Cause} {before now : Faults} → cause ≡ FromNothing
 by_nothing {cause} {before} {now} is same = subst (λ x. EndsOnlyByCount x before now) (sym is) (record { later = none_fell same; by = same })
 
 -- what the last command did to the counts
-last_cause : (sink : Type 0) (result : Result Answer StoreFault) (ending : SessionEnd) (last now : Scene) (command : Command) → {disk files : Type 0} →
-    Meets disk files (attempt command result last (before_text last now)) → EndsBy sink result ending last.world now.world → EndsOnlyByCount (session_cause ending) last.world.counts now.world.counts
-last_cause sink (Err fault) ending last now command meets ends =
+last_cause : (sink : Type 0) (result : Result Answer StoreFault) (ending : SessionEnd) (last now : Scene) → {disk : Type 0} →
+    MeetsCommon disk result last (before_text last now) → EndsBy sink result ending last.world now.world → EndsOnlyByCount (session_cause ending) last.world.counts now.world.counts
+last_cause sink (Err fault) ending last now meets ends =
     let is : FailsOnlyByCount last.world.counts now.world.counts (Err fault) = subst (λ n. FailsOnlyByCount last.world.counts (record now.world.counts { sink = n }) (Err fault)) (sym ends.1.faults) meets.cause in
     subst (λ e. EndsOnlyByCount (session_cause e) last.world.counts now.world.counts) (sym ends.0) (record { later = is.later; by = by_fault fault is.cause }) where
       by_fault : (f : StoreFault) → HasRisen f last.world.counts now.world.counts → EndsByCount (session_cause (end_of f)) last.world.counts now.world.counts
@@ -170,7 +171,7 @@ last_cause sink (Err fault) ending last now command meets ends =
       by_fault StoreDisk rose = rose
       by_fault (StoreDamaged damage) same = same
       by_fault StoreMemory same = same
-last_cause sink (Ok answer) ending last now command meets ends =
+last_cause sink (Ok answer) ending last now meets ends =
     let was = meets.cause.later in
     ⊎_elim
     (λ out. subst (λ e. EndsOnlyByCount (session_cause e) last.world.counts now.world.counts) (sym out.0) (record {
@@ -189,14 +190,14 @@ by_count {disk} {files} {sink} {c} {first} {now} goes = subst (λ (x : Faults). 
   by_end (inl all) = unmoved all.same (ap session_cause all.done)
   by_end (inr (inl begun)) = unmoved begun.same (ap session_cause begun.memory)
   by_end (inr (inr (inl not_begun))) = unmoved not_begun.same (ap session_cause not_begun.ending)
-  by_end (inr (inr (inr turn))) = last_cause sink turn.result c.ending goes.last now turn.command turn.meets turn.ends
+  by_end (inr (inr (inr turn))) = last_cause sink turn.result c.ending goes.last now turn.meets.common turn.ends
 
 -- ---- the store
 
 -- the sizes stay along the turns
 sizes_stay : {disk files sink : Type 0} {commands : List Command} {first now : Scene} {answers : List Answer} {clocks : List ℕ} → Turns disk files sink commands first answers clocks now → IsOpen disk first → now.store.found.sizes ≡ first.store.found.sizes
 sizes_stay no_turn opened = refl
-sizes_stay (next_turn command answer moment turns there turn) opened = turn.meets.store.sizes (open_after turn (still_open turns opened)).sound ∙ sizes_stay turns opened
+sizes_stay (next_turn command answer moment turns there turn) opened = turn.meets.common.sizes (open_after turn.meets.common (still_open turns opened)).sound ∙ sizes_stay turns opened
 
 pub keeps_store : {disk files sink : Type 0} {c : Course} {first now : Scene} → IsOpen disk first → Goes disk files sink c first now → KeepsStore disk c.ending first now
 keeps_store {disk} {files} {sink} {c} {first} {now} opened goes = by_end goes.ends where
@@ -208,7 +209,7 @@ keeps_store {disk} {files} {sink} {c} {first} {now} opened goes = by_end goes.en
   unmoved e other = record {
     worn = (λ worn. absurd (clash (sym worn ∙ sound)), λ d. absurd (other d));
     sizes = λ _. ap (λ (x : Scene). x.store.found.sizes) e ∙ sizes_stay goes.turns opened;
-    held = held_stays goes;
+    held = ap (λ (x : Scene). x.store.held) e ∙ held_stays goes.turns;
     agrees = λ told _. subst (λ (x : Scene). Agrees x.store.found x.world.disk) (sym e) (open_last.agrees told);
   } where
     sound : now.store.worn ≡ false
@@ -227,8 +228,8 @@ keeps_store {disk} {files} {sink} {c} {first} {now} opened goes = by_end goes.en
   by_end (inr (inr (inr turn))) =
       let disk_end = disk_ends sink turn.result c.ending goes.last.world now.world turn.ends in
       record {
-        worn = (λ worn. disk_end.0 (turn.meets.store.worn.0 worn), λ d. turn.meets.store.worn.1 (disk_end.1 d));
-        sizes = λ sound. turn.meets.store.sizes sound ∙ sizes_stay goes.turns opened;
-        held = held_stays goes;
-        agrees = λ told sound. (turn.meets.on_disk told).agrees sound;
+        worn = (λ worn. disk_end.0 (turn.meets.common.worn.0 worn), λ d. turn.meets.common.worn.1 (disk_end.1 d));
+        sizes = λ sound. turn.meets.common.sizes sound ∙ sizes_stay goes.turns opened;
+        held = turn.meets.store.held ∙ held_stays goes.turns;
+        agrees = turn.meets.common.agrees;
       }

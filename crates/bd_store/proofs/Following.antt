@@ -10,6 +10,7 @@ use Rattle.bd_disk.specs.History.{History, contents}
 use Rattle.bd_disk.specs.Looks.{LooksOnlyAt}
 use Rattle.bd_disk.specs.Runs.{Works}
 use Rattle.bd_disk.specs.declared.disk.Disk.{Ghosts as DiskGhosts}
+use Rattle.bd_disk.proofs.Frames.{made_both, writes_wider}
 use Rattle.bd_disk.proofs.RunLemmas.{work_looked, work_written}
 use Rattle.bd_model.specs.declared.answer.Answer.{Answer}
 use Rattle.bd_model.specs.declared.command.Command.{Command}
@@ -152,12 +153,16 @@ module _ (disk files : Type 0) (command : Command) (before : Scene) (mid : Found
 
     ready_meets : Meets disk files whole
     ready_meets = record {
-      bytes = follows.bytes;
-      cause = follows.cause;
+      common = record {
+        bytes = follows.common.bytes;
+        cause = follows.common.cause;
+        worn = follows.common.worn;
+        sizes = λ sound. follows.common.sizes sound ∙ ready.settled.sizes;
+        agrees = follows.common.agrees;
+        beyond = λ told. made_both (writes_wider _ (λ place is. is.beside.begins) (readied told).writes) (follows.common.beyond told);
+      };
       answer = answers_before command before.store.found mid result makes ready.settled follows.ends follows.answer;
       store = record {
-        worn = follows.store.worn;
-        sizes = λ sound. follows.store.sizes sound ∙ ready.settled.sizes;
         held = follows.store.held;
         versions = versions_before command before.store now.store after.store makes ready.settled refl result follows.ends follows.answer follows.store.versions;
         settles = follows.store.settles;
@@ -165,7 +170,6 @@ module _ (disk files : Type 0) (command : Command) (before : Scene) (mid : Found
       };
       untouched = λ refused. absurd (refuses_not refused);
       on_disk = λ told. record {
-        agrees = (follows.on_disk told).agrees;
         opens = opens_behind (agrees told) ready.settled.sizes (λ no. ready.same (rested no)) (λ no. (readied told).readies.quiet (rested no)) (readied told).readies.agrees (readied told).readies.opens (follows.on_disk told).writes (follows.on_disk told).opens;
         writes = writes_before before.store.held before.store.found mid after.store.found before.world.disk h1 after.world.disk command makes (follows.on_disk told).writes result follows.ends (follows.on_disk told).step ready.same (readied told).readies.quiet
             (readied told).readies.answer.arranged (readied told).readies.agrees (readied told).writes;

@@ -6,7 +6,7 @@ use Rattle.std.specs.Result.{is_err}
 use Rattle.bd_disk.specs.Calls.{HasCause, Rose}
 use Rattle.bd_disk.specs.History.{History, contents}
 use Rattle.bd_disk.specs.Images.{AgreeBut}
-use Rattle.bd_disk.specs.Made.{LeavesNow, LeavesSince}
+use Rattle.bd_disk.specs.Made.{LeavesNow, LeavesSince, WritesOnly}
 use Rattle.bd_disk.specs.Runs.{Writes}
 use Rattle.bd_disk.specs.Trace.{ReadsOnly}
 use Rattle.bd_disk.specs.declared.disk.Disk.{Ghosts as DiskGhosts}
@@ -49,7 +49,7 @@ use Rattle.bd_store.specs.Kept.{IsKept}
 use Rattle.bd_store.specs.Steps.{Answered, IsOneStep, LeadsTo, StandsOnEitherSide, Task, task}
 use Rattle.bd_store.specs.Stops.{IsSafeAtStops}
 use Rattle.bd_store.specs.Touches.{AnswersExpiry, ExpiryReads, arranges_first, is_waiting, waits}
-use Rattle.bd_store.specs.Writes.{StepsTo, WritesByCommand}
+use Rattle.bd_store.specs.Writes.{IsUnowned, StepsTo, WritesByCommand}
 use Rattle.bd_store.specs.declared.fault.StoreFault.{StoreFault}
 use Rattle.bd_store.specs.declared.fault.StoreFault.TheVariants.{Damaged, DiskFault, OutOfMemory, SourceFault, TargetFault}
 use Rattle.bd_store.proofs.Ending.{by_end, not_both}
@@ -175,10 +175,14 @@ module _ {D : Type 0} (d : DiskGhosts D) (w : World) (found : Found) (held : ℕ
   abbrev after_it : Found → Bool → Scene
   after_it now worn = scene (record { found = now; held = held; worn = worn }) (with_disk d w disk1)
 
-  -- it doesn't arrange, and writes the half that isn't the newest
+  -- the half that isn't the newest is written
+  half_written : d.tells → WritesOnly (IsUnowned found) h0 h1
+  half_written told = writes_wider _ (half_unowned found (number-small found h0 (agrees told))) (written writes told)
+
+  -- it doesn't arrange
   writes_half : d.tells → (now : Found) (result : Result Answer StoreFault) → StepsTo found.catalogue now.catalogue result → WritesByCommand held found now Expire h0 h1 result
   writes_half told now result step = record {
-    ready = λ _. writes_wider _ (half_unowned found (number-small found h0 (agrees told))) (written writes told);
+    ready = λ _. half_written told;
     step = λ _. step;
     arranging = λ first. not_both first (lean found fits);
   }
@@ -190,12 +194,16 @@ module _ {D : Type 0} (d : DiskGhosts D) (w : World) (found : Found) (held : ℕ
   pub expired_meets : (version extents : ℕ) → version ≡ oldest_in found.catalogue → extents ≡ length (expired found.catalogue) → d.faults disk1 ≡ d.faults disk0 → (d.tells → IsMade found (after_step found Dropping) h0 h1) →
       (d.tells → LeavesEither found (after_step found Dropping) h0 h1) → Meets d.tells files (attempt Expire (Ok (Expired version extents)) before (after_it (after_step found Dropping) false))
   expired_meets version extents is_version is_extents same made either = record {
-    bytes = writes.bytes;
-    cause = record { later = record { disk = omega (arith, same); sources = omega arith; targets = omega arith; sink = omega arith }; cause = ap (λ n. record w.counts { disk = n }) same };
-    answer = (fits.some, is_version);
-    store = record {
+    common = record {
+      bytes = writes.bytes;
+      cause = record { later = record { disk = omega (arith, same); sources = omega arith; targets = omega arith; sink = omega arith }; cause = ap (λ n. record w.counts { disk = n }) same };
       worn = (λ no. absurd (cc no), λ no. absurd (cc no));
       sizes = λ _. refl;
+      agrees = λ told _. (made told).agrees;
+      beyond = λ told. writes_wider _ (λ place is. is.begins) (half_written told);
+    };
+    answer = (fits.some, is_version);
+    store = record {
       held = refl;
       versions = record { catalogue = found.catalogue; base = refl; newest = refl; versions = refl; same = λ _. refl; gone = refl; freed = is_extents };
       settles = tt;
@@ -203,7 +211,6 @@ module _ {D : Type 0} (d : DiskGhosts D) (w : World) (found : Found) (held : ℕ
     };
     untouched = λ no. absurd no;
     on_disk = λ told. record {
-      agrees = λ _. (made told).agrees;
       opens = opens_unarranged (dropped _ (λ _. refl) (either told));
       writes = writes_half told (after_step found Dropping) (Ok (Expired version extents)) (refl, is_extents);
       reads = λ _. (record { catalogue = refl; made = made told }, nothing_read writes told);
@@ -221,20 +228,18 @@ module _ {D : Type 0} (d : DiskGhosts D) (w : World) (found : Found) (held : ℕ
 
   pub failed_meets : (now : Found) → d.faults disk0 ≤ d.faults disk1 → Rose (d.faults disk0) (d.faults disk1) → (d.tells → LeavesEither found (after_step found Dropping) h0 h1) → Meets d.tells files (attempt Expire (Err DiskFault) before (after_it now true))
   failed_meets now later rose either = record {
-    bytes = writes.bytes;
-    cause = record { later = record { disk = later; sources = omega arith; targets = omega arith; sink = omega arith }; cause = (rose, refl, refl, refl) };
-    answer = fits.some;
-    store = record {
+    common = record {
+      bytes = writes.bytes;
+      cause = record { later = record { disk = later; sources = omega arith; targets = omega arith; sink = omega arith }; cause = (rose, refl, refl, refl) };
       worn = (λ _. refl, λ _. refl);
       sizes = λ no. absurd (cc no);
-      held = refl;
-      versions = tt;
-      settles = tt;
-      figures = tt;
+      agrees = λ told no. absurd (cc no);
+      beyond = λ told. writes_wider _ (λ place is. is.begins) (half_written told);
     };
+    answer = fits.some;
+    store = record { held = refl; versions = tt; settles = tt; figures = tt };
     untouched = λ no. absurd no;
     on_disk = λ told. record {
-      agrees = λ no. absurd (cc no);
       opens = opens_unarranged (dropped _ (λ no. absurd (cc no)) (either told));
       writes = writes_half told now (Err DiskFault) tt;
       reads = λ _. nothing_read writes told;
@@ -308,15 +313,13 @@ lean_follows {disk} {files} {result} {before} {after} settled some meets =
     let no : arranges_first found ≡ false = lean found (record { some = some; arranged = inl settled }) in
     let ends : EndsReady result = ends_lean found result no some meets.answer in
     record {
-      bytes = meets.bytes;
-      cause = meets.cause;
+      common = meets.common;
       ends = ends;
       answer = meets.answer;
       store = meets.store;
       on_disk = λ told.
           let is = meets.on_disk told in
           record {
-            agrees = is.agrees;
             opens = lean_opens no is.opens;
             writes = is.writes.ready no;
             step = is.writes.step no;

@@ -7,7 +7,7 @@ use Rattle.bd_model.specs.declared.answer.Answer.{Answer}
 use Rattle.bd_model.specs.declared.command.Command.{Command}
 use Rattle.bd_catalog.specs.Agreement.{Agrees}
 use Rattle.bd_catalog.specs.Opening.{Found}
-use Rattle.bd_store.specs.Attempts.{Scene, Attempt, attempt, DamageByCommand, FinishesByCommand, TransfersByCommand, IsAnswerOf, KeepsVersions, Meets, ReadsByCommand, RecipeByCommand, SettlesBy, TellsFigures, WhereRestored}
+use Rattle.bd_store.specs.Attempts.{Scene, Attempt, attempt, DamageByCommand, FinishesByCommand, TransfersByCommand, IsAnswerOf, KeepsVersions, Meets, MeetsCommon, ReadsByCommand, RecipeByCommand, SettlesBy, TellsFigures, WhereRestored}
 use Rattle.bd_store.specs.Causes.{ByCount}
 use Rattle.bd_store.specs.Deeds.{deed_of, target_of}
 use Rattle.bd_store.specs.Shown.{Shown, SameVersions}
@@ -49,6 +49,17 @@ HasDisk (Err fault) = Unit {0}
 pub shown_is : (found : Found) (held : ℕ) (s : Shown) → found ≡ s.found → held ≡ s.held → s.worn ≡ false → record { found = found; held = held; worn = false } ≡ s
 shown_is found held s same_found same_held sound = λ k. record { found = same_found k; held = same_held k; worn = sym sound k }
 
+-- a call that touched nothing
+pub common_untouched : {disk : Type 0} (result : Result Answer StoreFault) (s : Scene) → s.store.worn ≡ false → (disk → Agrees s.store.found s.world.disk) → ByCount result s.world.counts s.world.counts → HasDisk result → MeetsCommon disk result s s
+common_untouched result s sound agrees cause has_disk = record {
+  bytes = refl;
+  cause = record { later = record { disk = omega arith; sources = omega arith; targets = omega arith; sink = omega arith }; cause = cause };
+  worn = (λ worn. let no : true ≡ false = sym worn ∙ sound in cc, λ failed. absurd (subst HasDisk failed has_disk));
+  sizes = λ _. refl;
+  agrees = λ told _. agrees told;
+  beyond = λ told. made_none _ s.world.disk;
+}
+
 module _ (command : Command) (result : Result Answer StoreFault) (s : Scene) where
   abbrev still : Attempt
   still = attempt command result s s
@@ -73,20 +84,11 @@ module _ (command : Command) (result : Result Answer StoreFault) (s : Scene) whe
       (disk → files → IsOneStep command s.store.held s.store.held s.world.disk s.world.disk s.world.files s.world.files result) →
       (disk → files → IsSafeAtStops command s.store.held s.store.held s.world.disk s.world.disk s.world.files result) → Meets disk files still
   meets_untouched {disk} {files} sound agrees is step stops = record {
-    bytes = refl;
-    cause = record { later = record { disk = omega arith; sources = omega arith; targets = omega arith; sink = omega arith }; cause = is.cause };
+    common = common_untouched result s sound agrees is.cause is.has_disk;
     answer = is.answer;
-    store = record {
-      worn = (λ worn. let no : true ≡ false = sym worn ∙ sound in cc, λ failed. absurd (subst HasDisk failed is.has_disk));
-      sizes = λ _. refl;
-      held = refl;
-      versions = is.versions;
-      settles = is.settles;
-      figures = is.figures;
-    };
+    store = record { held = refl; versions = is.versions; settles = is.settles; figures = is.figures };
     untouched = λ _. refl;
     on_disk = λ told. record {
-      agrees = λ _. agrees told;
       opens = opens_unarranged (opens_quiet (made_none _ s.world.disk));
       writes = record { ready = λ _. quiet_writing (deed_of s.store.found command) s.store.found (made_none _ s.world.disk); step = λ _. is.step; arranging = is.arranging };
       reads = is.reads;
@@ -109,8 +111,7 @@ meets_as {disk} {files} {command} {same} {result} {before} {after} is = subst (�
 -- what is met whether or not the files tell
 pub meets_told : {disk : Type 0} (files : Type 0) {a : Attempt} → Meets disk (Unit {0}) a → Meets disk files a
 meets_told files meets = record {
-  bytes = meets.bytes;
-  cause = meets.cause;
+  common = meets.common;
   answer = meets.answer;
   store = meets.store;
   untouched = meets.untouched;

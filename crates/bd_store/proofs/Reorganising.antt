@@ -22,8 +22,8 @@ use Rattle.bd_store.specs.Shown.{AreFiguresOf, HasFigures, Shown}
 use Rattle.bd_store.specs.Steps.{IsOneStep}
 use Rattle.bd_store.specs.Stops.{IsSafeAtStops}
 use Rattle.bd_store.specs.declared.figures.Figures.{Figures}
-use Rattle.bd_store.proofs.Ending.{not_both, rests_not}
-use Rattle.bd_store.proofs.Meeting.{meets_untouched, same_versions}
+use Rattle.bd_store.proofs.Ending.{rests_not}
+use Rattle.bd_store.proofs.Meeting.{common_untouched, meets_untouched, same_versions}
 use Rattle.bd_store.proofs.Refusing.{Refuses, refused_stops}
 use Rattle.bd_store.proofs.Opens.{opens_quiet}
 
@@ -59,19 +59,11 @@ module _ {disk files : Type 0} (s : Scene) (figures : Figures) (sound : s.store.
   -- it follows the arranging
   pub arranged_follows : Follows disk files (attempt Reorganise (Ok (Arranged figures.owned figures.free)) s s)
   arranged_follows = record {
-    bytes = refl;
-    cause = record { later = record { disk = omega arith; sources = omega arith; targets = omega arith; sink = omega arith }; cause = refl };
+    common = common_untouched (Ok (Arranged figures.owned figures.free)) s sound agrees refl tt;
     ends = tt;
     answer = tt;
-    store = record {
-      worn = (λ worn. not_both worn sound, λ failed. absurd (cc failed));
-      sizes = λ _. refl;
-      held = refl;
-      versions = same_versions s.store;
-      settles = settled;
-      figures = (has.owned, has.free);
-    };
-    on_disk = λ told. record { agrees = λ _. agrees told; opens = opens_quiet (made_none _ s.world.disk); writes = made_none _ s.world.disk; step = refl; reads = reads_none s.world.disk };
+    store = record { held = refl; versions = same_versions s.store; settles = settled; figures = (has.owned, has.free) };
+    on_disk = λ told. record { opens = opens_quiet (made_none _ s.world.disk); writes = made_none _ s.world.disk; step = refl; reads = reads_none s.world.disk };
     on_files = λ told. record { beside = refl; strays = record { later = omega arith; missing = inl refl }; finished = tt };
     on_both = λ told files_tell. record {
       transfers = tt;

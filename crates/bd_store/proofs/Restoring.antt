@@ -7,7 +7,7 @@ use Rattle.bd_disk.specs.Made.{WritesNothing}
 use Rattle.bd_disk.specs.Runs.{Reads}
 use Rattle.bd_disk.specs.Trace.{ReadsOnly}
 use Rattle.bd_disk.specs.declared.disk.Disk.{Ghosts as DiskGhosts}
-use Rattle.bd_disk.proofs.Frames.{unchanged}
+use Rattle.bd_disk.proofs.Frames.{nothing_within, unchanged}
 use Rattle.bd_disk.proofs.RunLemmas.{both_reads, looked, nothing_written, wider_reads}
 use Rattle.bd_files.specs.Files.{ChangesOnly, IsFinished}
 use Rattle.bd_files.specs.declared.files.Files.{Ghosts as FilesGhosts}
@@ -33,7 +33,7 @@ use Rattle.bd_restore.specs.Walk.{InRows}
 use Rattle.bd_volume.specs.Headers.{HasGoodHeaders}
 use Rattle.bd_restore.specs.declared.fault.RestoreFault.{RestoreFault}
 use Rattle.bd_restore.specs.declared.fault.RestoreFault.TheVariants.{TargetFault as RestoreTarget, DiskFault as RestoreDisk, Damaged as RestoreDamaged, OutOfMemory as RestoreMemory}
-use Rattle.bd_store.specs.Attempts.{Scene, Attempt, attempt, scene, EndsInDamage, KeepsStore, KeepsVersions, Meets, RestoreReads, SettlesBy, TellsFigures}
+use Rattle.bd_store.specs.Attempts.{Scene, Attempt, attempt, scene, EndsInDamage, KeepsStore, KeepsVersions, Meets, MeetsCommon, RestoreReads, SettlesBy, TellsFigures}
 use Rattle.bd_store.specs.Causes.{FailsOnlyByCount}
 use Rattle.bd_store.specs.Naming.{fault_of_reading, fault_of_restore}
 use Rattle.bd_store.specs.Shown.{SameVersions, Shown}
@@ -91,16 +91,20 @@ module _ {D F : Type 0} (d : DiskGhosts D) (f : FilesGhosts F) (w : World) (foun
   beside_stopped (RestoreDamaged damage) worn disk files = record { versions = same worn; settles = tt; figures = tt; step = refl }
   beside_stopped RestoreMemory worn disk files = record { versions = same worn; settles = tt; figures = tt; step = refl }
 
-  -- the store in memory goes on as it was
-  store_kept : (result : Result Answer StoreFault) (worn : Bool) (disk : D) (files : F) → Beside result worn disk files → ((worn ≡ true) ↔ (result ≡ Err DiskFault)) → KeepsStore (ended result worn disk files)
-  store_kept result worn disk files says is = record {
+  -- the store in memory goes on as it was, and the disk was only read
+  common_kept : {Places : ℕ → Type 0} (result : Result Answer StoreFault) (worn : Bool) {disk : D} (files : F) → Reads d Places disk0 disk → FailsOnlyByCount before.world.counts (ended result worn disk files).after.world.counts result →
+      ((worn ≡ true) ↔ (result ≡ Err DiskFault)) → MeetsCommon d.tells result before (ended result worn disk files).after
+  common_kept result worn files read cause is = record {
+    bytes = read.bytes;
+    cause = cause;
     worn = is;
     sizes = λ _. refl;
-    held = refl;
-    versions = says.versions;
-    settles = says.settles;
-    figures = says.figures;
+    agrees = λ told _. agrees_quiet found (nothing_written read told) (agrees told);
+    beyond = λ told. nothing_within _ (nothing_written read told);
   }
+
+  store_kept : {result : Result Answer StoreFault} {worn : Bool} {disk : D} {files : F} → Beside result worn disk files → KeepsStore (ended result worn disk files)
+  store_kept says = record { held = refl; versions = says.versions; settles = says.settles; figures = says.figures }
 
   in_recipe : (place : ℕ) → InRecipe found.sizes found.catalogue v place → InRestore found v place
   in_recipe place inside = record { so = inl inside }
@@ -137,13 +141,11 @@ module _ {D F : Type 0} (d : DiskGhosts D) (f : FilesGhosts F) (w : World) (foun
     pub meets_unread : (fault : ReadFault) (worn : Bool) → CouldNotRead disk1 fault → ((worn ≡ true) ↔ (◌≡◌ {A = Result Answer StoreFault} (Err (fault_of_reading fault)) (Err DiskFault))) →
         Meets d.tells f.tells (ended (Err (fault_of_reading fault)) worn disk1 files0)
     meets_unread fault worn is fails = record {
-      bytes = is.disk.bytes;
-      cause = unread_cause fault is before.world.counts;
+      common = common_kept (Err (fault_of_reading fault)) worn files0 is.disk (unread_cause fault is before.world.counts) fails;
       answer = unread_answer fault;
-      store = store_kept (Err (fault_of_reading fault)) worn disk1 files0 (beside_unread fault worn disk1 files0) fails;
+      store = store_kept (beside_unread fault worn disk1 files0);
       untouched = λ refused. absurd refused;
       on_disk = λ told. record {
-        agrees = λ _. agrees_quiet found (nothing_written is.disk told) (agrees told);
         opens = opens_unarranged (opens_quiet (nothing_written is.disk told));
         writes = only_read (Err (fault_of_reading fault)) (nothing_written is.disk told) (beside_unread fault worn disk1 files0).step;
         reads = unread_reads fault (ended (Err (fault_of_reading fault)) worn disk1 files0);
@@ -195,16 +197,14 @@ module _ {D F : Type 0} (d : DiskGhosts D) (f : FilesGhosts F) (w : World) (foun
 
     pub meets_restored : (given : ℕ) → Ran (Ok given) → GaveBack given → Meets d.tells f.tells (ended (Ok (Restored v given)) false disk2 files2)
     meets_restored given ran gave = record {
-      bytes = (reads _ ran).bytes;
-      cause = record {
+      common = common_kept (Ok (Restored v given)) false files2 (reads _ ran) (record {
         later = record { disk = omega (arith, ran.cause.disk.later, read.faults); sources = omega (arith, ran.files.sources); targets = ran.cause.target.later; sink = omega arith };
         cause = λ k. counts ((ran.cause.disk.cause ∙ read.faults) k) (ran.files.sources k) (ran.cause.target.cause k) w.counts.sink;
-      };
+      }) (λ e. let no : false ≡ true = e in absurd (cc), λ e. let no : ◌≡◌ {A = Result Answer StoreFault} (Ok (Restored v given)) (Err DiskFault) = e in absurd (cc));
       answer = (omega (arith, from, to), retained, refl, gave.length ∙ read.recipe.sum);
-      store = store_kept (Ok (Restored v given)) false disk2 files2 (record { versions = same false; settles = tt; figures = tt; step = refl }) (λ e. let no : false ≡ true = e in absurd (cc), λ e. let no : ◌≡◌ {A = Result Answer StoreFault} (Ok (Restored v given)) (Err DiskFault) = e in absurd (cc));
+      store = record { held = refl; versions = same false; settles = tt; figures = tt };
       untouched = λ refused. absurd refused;
       on_disk = λ told. record {
-        agrees = λ _. agrees_quiet found (nothing_written (reads (Ok given) ran) told) (agrees told);
         opens = opens_unarranged (opens_quiet (nothing_written (reads (Ok given) ran) told));
         writes = only_read (Ok (Restored v given)) (nothing_written (reads (Ok given) ran) told) refl;
         reads = record {
@@ -263,13 +263,11 @@ module _ {D F : Type 0} (d : DiskGhosts D) (f : FilesGhosts F) (w : World) (foun
     pub meets_stopped : (fault : RestoreFault) (worn : Bool) → Ran (Err fault) → IfMet {T = ℕ} (Err fault) (λ damage. d.tells → IsMetBy found plan damage (d.history disk1) (d.history disk2)) → ((worn ≡ true) ↔ (◌≡◌ {A = Result Answer StoreFault} (Err (fault_of_restore fault)) (Err DiskFault))) →
         Meets d.tells f.tells (ended (Err (fault_of_restore fault)) worn disk2 files2)
     meets_stopped fault worn ran met fails = record {
-      bytes = (reads _ ran).bytes;
-      cause = stopped_cause fault ran;
+      common = common_kept (Err (fault_of_restore fault)) worn files2 (reads _ ran) (stopped_cause fault ran) fails;
       answer = stopped_answer fault;
-      store = store_kept (Err (fault_of_restore fault)) worn disk2 files2 (beside_stopped fault worn disk2 files2) fails;
+      store = store_kept (beside_stopped fault worn disk2 files2);
       untouched = λ refused. absurd refused;
       on_disk = λ told. record {
-        agrees = λ _. agrees_quiet found (nothing_written (reads (Err fault) ran) told) (agrees told);
         opens = opens_unarranged (opens_quiet (nothing_written (reads (Err fault) ran) told));
         writes = only_read (Err (fault_of_restore fault)) (nothing_written (reads (Err fault) ran) told) (beside_stopped fault worn disk2 files2).step;
         reads = stopped_reads fault (ended (Err (fault_of_restore fault)) worn disk2 files2);

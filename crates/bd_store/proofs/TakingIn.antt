@@ -59,7 +59,7 @@ use Rattle.bd_store.specs.Writes.{IsUnowned, StepsTo}
 use Rattle.bd_store.specs.declared.fault.StoreFault.{StoreFault}
 use Rattle.bd_store.specs.declared.fault.StoreFault.TheVariants.{DiskFault, OutOfMemory}
 use Rattle.bd_store.proofs.Ending.{not_both}
-use Rattle.bd_store.proofs.Meeting.{memory_step, same_versions}
+use Rattle.bd_store.proofs.Meeting.{common_untouched, memory_step, same_versions}
 use Rattle.bd_store.proofs.OneCall.{failed_one_step, failed_safe, made_one_step, made_safe, refused_one_step, refused_safe}
 use Rattle.bd_store.proofs.Opens.{opens_named, opens_quiet, opens_written}
 use Rattle.bd_store.proofs.Quiet.{safe_untouched}
@@ -240,20 +240,23 @@ module _ {D F : Type 0} (d : DiskGhosts D) (f : FilesGhosts F) (w : World) (foun
   follows_refused : (fault : IntakeFault) (worn : Bool) → TookIn (Err fault) → TellsFigures (record { found = found; held = held; worn = worn }) (refusal_of fault) → ((worn ≡ true) ↔ (refusal_of fault ≡ Err DiskFault)) →
       Follows d.tells f.tells (attempt (Backup name) (refusal_of fault) before (scene (record { found = found; held = held; worn = worn }) (with_files f (with_disk d w disk2) files2)))
   follows_refused fault worn took figures fails = record {
-    bytes = took.disk.bytes;
-    cause = refused_cause fault took;
+    common = record {
+      bytes = took.disk.bytes;
+      cause = refused_cause fault took;
+      worn = fails;
+      sizes = λ _. refl;
+      agrees = λ told _. agrees_staged found (InFree found.sizes space) (λ place inside. omega (arith, inside.within.0)) (begun.agrees told) (written took.disk told);
+      beyond = λ told. writes_wider _ (λ place is. is.begins) (unowned told (Err fault) took);
+    };
     ends = refused_ends fault;
     answer = refused_answer found fault goes;
     store = record {
-      worn = fails;
-      sizes = λ _. refl;
       held = refl;
       versions = refused_versions start (record { found = found; held = held; worn = worn }) fault (record { sizes = refl; base = refl; newest = refl; versions = refl; held = refl });
       settles = refused_settles (record { found = found; held = held; worn = worn }) fault begun.settled;
       figures = figures;
     };
     on_disk = λ told. record {
-      agrees = λ _. agrees_staged found (InFree found.sizes space) (λ place inside. omega (arith, inside.within.0)) (begun.agrees told) (written took.disk told);
       opens = opens_written found (Backup name) (record { found = found; held = held; worn = worn }) (InFree found.sizes space) (λ place inside. omega (arith, inside.within.0)) (written took.disk told);
       writes = unowned told (Err fault) took;
       step = refused_step_to found.catalogue fault;
@@ -333,16 +336,20 @@ module _ {D F : Type 0} (d : DiskGhosts D) (f : FilesGhosts F) (w : World) (foun
         let grows = gained found.catalogue (version_entry staged.version) (fresh_entries staged.fresh) in
         let end : Shown = record { found = found3; held = held_count space3; worn = worn } in
         record {
-          bytes = is.disk.bytes ∙ took.disk.bytes;
-          cause = record {
-            later = record { disk = omega (arith, took.cause.disk_later, is.cause.later); sources = took.cause.source_later; targets = omega (arith, took.files.targets); sink = omega arith };
-            cause = λ k. counts ((is.cause.kept ∙ took.cause.cause.0) k) (took.cause.cause.1 k) (took.files.targets k) w.counts.sink;
+          common = record {
+            bytes = is.disk.bytes ∙ took.disk.bytes;
+            cause = record {
+              later = record { disk = omega (arith, took.cause.disk_later, is.cause.later); sources = took.cause.source_later; targets = omega (arith, took.files.targets); sink = omega arith };
+              cause = λ k. counts ((is.cause.kept ∙ took.cause.cause.0) k) (took.cause.cause.1 k) (took.files.targets k) w.counts.sink;
+            };
+            worn = fails;
+            sizes = λ _. ap (λ (s : Found). s.sizes) is.made;
+            agrees = λ told _. subst (λ (s : Found). Agrees s (d.history disk3)) (sym is.made) (is.done told).agrees;
+            beyond = λ told. writes_wider _ (λ place unowned. unowned.begins) (within disk3 found3 space3 (Ok answer) told is);
           };
           ends = subst (λ a. EndsReady (Ok a)) says tt;
           answer = subst (λ a. AnswersByNumbers found (Ok a)) says (goes, refl);
           store = record {
-            worn = fails;
-            sizes = λ _. ap (λ (s : Found). s.sizes) is.made;
             held = is.held;
             versions = subst (λ a. KeepsVersions start end (Ok a)) says (record {
               base = ap (λ (s : Found). s.catalogue.base) is.made ∙ grows.0;
@@ -354,7 +361,6 @@ module _ {D F : Type 0} (d : DiskGhosts D) (f : FilesGhosts F) (w : World) (foun
             figures = subst (λ a. TellsFigures end (Ok a)) says tt;
           };
           on_disk = λ told. record {
-            agrees = λ _. subst (λ (s : Found). Agrees s (d.history disk3)) (sym is.made) (is.done told).agrees;
             opens = at_stops disk3 found3 space3 (Ok answer) end (λ _. sym is.made) told is;
             writes = within disk3 found3 space3 (Ok answer) told is;
             step = subst (λ a. StepsTo found.catalogue found3.catalogue (Ok a)) says (staged.version.recipe.numbers, fresh_entries staged.fresh, ap (λ (s : Found). s.catalogue) is.made);
@@ -376,16 +382,21 @@ module _ {D F : Type 0} (d : DiskGhosts D) (f : FilesGhosts F) (w : World) (foun
     failed_follows disk3 found3 space3 worn is fails =
         let gone : worn ≡ true = fails.1 refl in
         record {
-          bytes = is.disk.bytes ∙ took.disk.bytes;
-          cause = record {
-            later = record { disk = omega (arith, took.cause.disk_later, is.cause.later); sources = took.cause.source_later; targets = omega (arith, took.files.targets); sink = omega arith };
-            cause = (subst (λ n. Rose n (d.faults disk3)) took.cause.cause.0 is.cause.failed, took.cause.cause.1, took.files.targets, refl);
+          common = record {
+            bytes = is.disk.bytes ∙ took.disk.bytes;
+            cause = record {
+              later = record { disk = omega (arith, took.cause.disk_later, is.cause.later); sources = took.cause.source_later; targets = omega (arith, took.files.targets); sink = omega arith };
+              cause = (subst (λ n. Rose n (d.faults disk3)) took.cause.cause.0 is.cause.failed, took.cause.cause.1, took.files.targets, refl);
+            };
+            worn = fails;
+            sizes = λ sound. not_both gone sound;
+            agrees = λ told sound. not_both gone sound;
+            beyond = λ told. writes_wider _ (λ place unowned. unowned.begins) (within disk3 found3 space3 (Err DiskFault) told is);
           };
           ends = tt;
           answer = goes;
-          store = record { worn = fails; sizes = λ sound. not_both gone sound; held = is.held; versions = tt; settles = tt; figures = tt };
+          store = record { held = is.held; versions = tt; settles = tt; figures = tt };
           on_disk = λ told. record {
-            agrees = λ sound. not_both gone sound;
             opens = at_stops disk3 found3 space3 (Err DiskFault) (record { found = found3; held = held_count space3; worn = worn }) (λ sound. not_both gone sound) told is;
             writes = within disk3 found3 space3 (Err DiskFault) told is;
             step = tt;
@@ -413,12 +424,11 @@ module _ {D F : Type 0} (d : DiskGhosts D) (f : FilesGhosts F) (w : World) (foun
 -- memory wasn't there to name a version
 pub follows_without_memory : {disk files : Type 0} (name : List ℕ) (s : Scene) → s.store.worn ≡ false → (disk → Agrees s.store.found s.world.disk) → is_full s.store.found ≡ false → Follows disk files (attempt (Backup name) (Err OutOfMemory) s s)
 follows_without_memory name s sound agrees goes = record {
-  bytes = refl;
-  cause = record { later = record { disk = omega arith; sources = omega arith; targets = omega arith; sink = omega arith }; cause = refl };
+  common = common_untouched (Err OutOfMemory) s sound agrees refl tt;
   ends = tt;
   answer = goes;
-  store = record { worn = (λ worn. not_both worn sound, λ failed. absurd (cc failed)); sizes = λ _. refl; held = refl; versions = same_versions s.store; settles = tt; figures = tt };
-  on_disk = λ told. record { agrees = λ _. agrees told; opens = opens_quiet (made_none _ s.world.disk); writes = made_none _ s.world.disk; step = refl; reads = reads_none s.world.disk };
+  store = record { held = refl; versions = same_versions s.store; settles = tt; figures = tt };
+  on_disk = λ told. record { opens = opens_quiet (made_none _ s.world.disk); writes = made_none _ s.world.disk; step = refl; reads = reads_none s.world.disk };
   on_files = λ told. record { beside = refl; strays = record { later = omega arith; missing = inl refl }; finished = tt };
   on_both = λ told files_tell. record { transfers = takes_nothing (λ s. tt) tt; step = memory_step (Backup name) s.store.held s.world.disk s.world.files; stops = safe_untouched (Backup name) s.store.held s.world.disk s.world.files OutOfMemory };
 }

@@ -4,7 +4,7 @@ use Rattle.bd_disk.specs.Calls.{FailsByCount as FailsByOne}
 use Rattle.bd_disk.specs.History.{History, contents}
 use Rattle.bd_disk.specs.Looks.{LooksOnlyAt}
 use Rattle.bd_disk.specs.Made.{LeavesSince, WritesNothing, WritesOnly}
-use Rattle.bd_disk.proofs.Frames.{leaves_wider}
+use Rattle.bd_disk.proofs.Frames.{leaves_wider, writes_wider}
 use Rattle.bd_files.specs.World.{Faults}
 use Rattle.bd_model.specs.FileMap.{FileMap}
 use Rattle.bd_model.specs.declared.answer.Answer.{Answer}
@@ -238,12 +238,16 @@ module _ (disk files : Type 0) (command : Command) (before : Scene) (mid : Found
 
     refusal_meets : Meets disk files refusal
     refusal_meets = record {
-      bytes = refl;
-      cause = unready_cause fault before.world.counts faults is.cause;
-      answer = unready_answer command before.store failed.store fault makes is.store;
-      store = record {
+      common = record {
+        bytes = refl;
+        cause = unready_cause fault before.world.counts faults is.cause;
         worn = unready_worn fault worn is.worn;
         sizes = unready_same (λ (s : Shown). s.worn ≡ false → s.found.sizes ≡ before.store.found.sizes) before.store failed.store fault is.store (λ sound. refl) (λ met sound. not_both (is.worn.1 (ap (λ f. Err f) met)) sound);
+        agrees = λ told. unready_agrees fault worn (Agrees mid h1) is.worn (is.told told).readies.agrees;
+        beyond = λ told. writes_wider _ (λ place spared. spared.beside.begins) (is.told told).writes;
+      };
+      answer = unready_answer command before.store failed.store fault makes is.store;
+      store = record {
         held = refl;
         versions = unready_versions before.store failed.store fault is.store;
         settles = unready_settles failed.store fault;
@@ -251,7 +255,6 @@ module _ (disk files : Type 0) (command : Command) (before : Scene) (mid : Found
       };
       untouched = λ refused. absurd refused;
       on_disk = λ told. record {
-        agrees = unready_agrees fault worn (Agrees mid h1) is.worn (is.told told).readies.agrees;
         opens = opens_before (contents h1) (λ no. (is.told told).readies.quiet (ready_settled before.store.found (deed_of before.store.found command) makes no)) (is.told told).readies.opens;
         writes = unready_writes before.store.held command before.store failed.store before.world.disk h1 fault makes is.store (is.told told).readies.quiet (is.told told).writes;
         reads = refusal_reads;

@@ -3,7 +3,7 @@ use Rattle.std.specs.Prelude.{◌≡◌, ◌↔◌, ◌≤◌, ℕ, ◌+◌, tru
 use Rattle.std.specs.FinMap as map
 use Rattle.bd_disk.specs.History.{contents}
 use Rattle.bd_disk.specs.Looks.{LooksOnlyAt}
-use Rattle.bd_disk.specs.Made.{TouchesNothing}
+use Rattle.bd_disk.specs.Made.{TouchesNothing, WritesOnly}
 use Rattle.bd_files.specs.Files.{Holds, IsFinished, Lacks}
 use Rattle.bd_files.specs.World.{World}
 use Rattle.bd_model.specs.FileMap.{FileMap}
@@ -61,6 +61,18 @@ abbrev pub attempt : Command → Result Answer StoreFault → Scene → Scene �
 attempt command result before after = record { command = command; result = result; before = before; after = after }
 
 -- ---- what is promised of it, over whatever disk and files
+
+-- What further calls on the store rest on, whatever this one was asked for. `disk` is that the disk tells what it holds.
+pub record MeetsCommon (disk : Type 0) (result : Result Answer StoreFault) (before after : Scene) : Type 0 where
+  pub bytes : after.world.disk_bytes ≡ before.world.disk_bytes
+  -- a fault comes by the count of its object, and leaves the other counts
+  pub cause : FailsOnlyByCount before.world.counts after.world.counts result
+  -- the store in memory goes on, unless the disk failed: it is worn then, and its disk is opened anew
+  pub worn : (after.store.worn ≡ true) ↔ (result ≡ Err DiskFault)
+  pub sizes : after.store.worn ≡ false → after.store.found.sizes ≡ before.store.found.sizes
+  pub agrees : disk → after.store.worn ≡ false → Agrees after.store.found after.world.disk
+  -- nothing is written in the superblock
+  pub beyond : disk → WritesOnly (λ place. 64 ≤ place) before.world.disk after.world.disk
 
 -- the retained versions, ascending
 abbrev pub AnswersList : Found → Result Answer StoreFault → Type 0
@@ -151,10 +163,8 @@ TellsFigures new (Err DiskFault) = Unit {0}
 TellsFigures new (Err (Damaged damage)) = Unit {0}
 TellsFigures new (Err OutOfMemory) = Unit {0}
 
--- the store in memory goes on, unless the disk failed: it is worn then, and its disk is opened anew
+-- what a command leaves in memory, by its answer
 pub record KeepsStore (a : Attempt) : Type 0 where
-  pub worn : (a.after.store.worn ≡ true) ↔ (a.result ≡ Err DiskFault)
-  pub sizes : a.after.store.worn ≡ false → a.after.store.found.sizes ≡ a.before.store.found.sizes
   pub held : a.after.store.held ≡ a.before.store.held
   pub versions : KeepsVersions a.before.store a.after.store a.result
   pub settles : SettlesBy a.after.store a.result
@@ -256,7 +266,6 @@ RecipeByCommand a command = EndsFor a (deed_of a.before.store.found command)
 
 -- over every image
 pub record MeetsOnDisk (a : Attempt) : Type 0 where
-  pub agrees : a.after.store.worn ≡ false → Agrees a.after.store.found a.after.world.disk
   -- a stop at any moment leaves a whole catalogue: the one before, the arranged one, or the command's
   pub opens : KeepsOpening a.before.store.held a.before.store.found a.command a.after.store a.before.world.disk a.after.world.disk
   pub writes : WritesByCommand a.before.store.held a.before.store.found a.after.store.found a.command a.before.world.disk a.after.world.disk a.result
@@ -338,9 +347,7 @@ pub record MeetsOnBoth (a : Attempt) : Type 0 where
 
 -- All that is promised of a command on a store. `disk` and `files` are that these two tell what they hold.
 pub record Meets (disk files : Type 0) (a : Attempt) : Type 0 where
-  pub bytes : a.after.world.disk_bytes ≡ a.before.world.disk_bytes
-  -- a fault comes by the count of its object, and leaves the other counts
-  pub cause : FailsOnlyByCount a.before.world.counts a.after.world.counts a.result
+  pub common : MeetsCommon disk a.result a.before a.after
   pub answer : IsAnswerOf a.before.store.found a.command a.result
   pub store : KeepsStore a
   -- a refusal by the catalogue alone leaves everything as it was

@@ -7,15 +7,13 @@ use Rattle.bd_disk.specs.Trace.{ReadsOnly}
 use Rattle.bd_files.specs.World.{World}
 use Rattle.bd_model.specs.declared.answer.Answer.{Answer}
 use Rattle.bd_model.specs.declared.command.Command.{Command}
-use Rattle.bd_catalog.specs.Agreement.{Agrees}
 use Rattle.bd_catalog.specs.Opening.{Found}
 use Rattle.bd_recipe.specs.Marked.{Marked}
 use Rattle.bd_recipe.specs.Reading.{is_disk_fault}
 use Rattle.bd_recipe.specs.declared.fault.ReadFault.{ReadFault}
 use Rattle.bd_recipe.specs.declared.fault.ReadFault.TheVariants.{DiskFault as ReadDisk}
 use Rattle.bd_arrange.specs.Arranged.{IsSpared}
-use Rattle.bd_store.specs.Attempts.{Attempt, IsAnswerOf, KeepsStore, MeetsOnFiles, Scene, TransfersByCommand}
-use Rattle.bd_store.specs.Causes.{FailsOnlyByCount}
+use Rattle.bd_store.specs.Attempts.{Attempt, IsAnswerOf, KeepsStore, MeetsCommon, MeetsOnFiles, Scene, TransfersByCommand}
 use Rattle.bd_store.specs.Deeds.{Deed, TakesIn, GivesBack, GivesUp, Settles, Checks, Tells, deed_of}
 use Rattle.bd_store.specs.Opens.{KeepsReady}
 use Rattle.bd_store.specs.Readying.{Readies, ReadiesOn}
@@ -78,7 +76,6 @@ EndsReady (Err (Damaged damage)) = ⊥
 EndsReady (Err OutOfMemory) = Unit {0}
 
 pub record FollowsOnDisk (a : Attempt) : Type 0 where
-  pub agrees : a.after.store.worn ≡ false → Agrees a.after.store.found a.after.world.disk
   pub opens : KeepsReady a.before.store.found a.command a.after.store a.before.world.disk a.after.world.disk
   pub writes : WritesReady a.before.store.found a.command a.before.world.disk a.after.world.disk
   pub step : StepsTo a.before.store.found.catalogue a.after.store.found.catalogue a.result
@@ -91,8 +88,7 @@ pub record FollowsOnBoth (a : Attempt) : Type 0 where
 
 -- What a command does with a store that is ready: it reads nothing, and writes what nobody has.
 pub record Follows (disk files : Type 0) (a : Attempt) : Type 0 where
-  pub bytes : a.after.world.disk_bytes ≡ a.before.world.disk_bytes
-  pub cause : FailsOnlyByCount a.before.world.counts a.after.world.counts a.result
+  pub common : MeetsCommon disk a.result a.before a.after
   pub ends : EndsReady a.result
   pub answer : IsAnswerOf a.before.store.found a.command a.result
   pub store : KeepsStore a
