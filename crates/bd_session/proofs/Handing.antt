@@ -11,7 +11,7 @@ use Rattle.bd_store.specs.declared.fault.StoreFault.{StoreFault}
 use Rattle.bd_session.specs.Course.{Course}
 use Rattle.bd_session.specs.Ends.{Cause, EndsBy, session_cause}
 use Rattle.bd_session.specs.Telling.{HandsAnswers, told}
-use Rattle.bd_session.specs.Turns.{AllAnswered, Goes, LastTurn, NoneBegun, NotBegun, Turns, no_turn, next_turn}
+use Rattle.bd_session.specs.Turns.{Goes, Turns, no_turn, next_turn, HasEnded, at_rest, in_turn}
 use Rattle.bd_session.proofs.Turning.{unsaid}
 
 -- one text more
@@ -66,9 +66,6 @@ hands_answers {disk} {files} {sink} {c} {first} {now} goes tells = by_end goes.e
   far : HandedSoFar disk c.answers c.clocks first.world.handed goes.last.world.handed
   far = so_far tells goes.turns
 
-  unmoved : now ≡ goes.last → HandsAnswers disk c.answers c.clocks (session_cause c.ending) first.world.handed now.world.handed
-  unmoved e = whole_only far (ap (λ (x : Scene). x.world.handed) e)
-
   by_result : (result : Result Answer StoreFault) → EndsBy sink result c.ending goes.last.world now.world → HandsAnswers disk c.answers c.clocks (session_cause c.ending) first.world.handed now.world.handed
   by_result (Err fault) ends = whole_only far ends.1.handed
   by_result (Ok answer) ends =
@@ -87,8 +84,6 @@ hands_answers {disk} {files} {sink} {c} {first} {now} goes tells = by_end goes.e
       (λ memory. whole_only far memory.2.handed)
       (unsaid sink answer c.ending goes.last.world now.world ends)
 
-  by_end : AllAnswered c goes.last now ⊎ NoneBegun c goes.last now ⊎ NotBegun c goes.last now ⊎ LastTurn disk files sink c goes.last now → HandsAnswers disk c.answers c.clocks (session_cause c.ending) first.world.handed now.world.handed
-  by_end (inl all) = unmoved all.same
-  by_end (inr (inl begun)) = unmoved begun.same
-  by_end (inr (inr (inl not_begun))) = unmoved not_begun.same
-  by_end (inr (inr (inr turn))) = by_result turn.result turn.ends
+  by_end : HasEnded disk files sink c goes.last now → HandsAnswers disk c.answers c.clocks (session_cause c.ending) first.world.handed now.world.handed
+  by_end (at_rest over same) = whole_only far (ap (λ (x : Scene). x.world.handed) same)
+  by_end (in_turn turn) = by_result turn.result turn.ends

@@ -30,7 +30,7 @@ use Rattle.bd_session.specs.Ends.{EndsBy, EndsByCount, end_of, session_cause}
 use Rattle.bd_session.specs.Headline.{IsHalfWritten, LeavesTarget, MeetsTheHeadline, NoFault, carried_out, last_state}
 use Rattle.bd_session.specs.Promised.{IsHonest, IsPromised, MarksTellApart, Start, start}
 use Rattle.bd_session.specs.Session.{MeetsHonestly}
-use Rattle.bd_session.specs.Turns.{before_text, AllAnswered, Goes, LastTurn, NoneBegun, NotBegun, Turns, no_turn, next_turn}
+use Rattle.bd_session.specs.Turns.{before_text, Goes, LastTurn, Turns, no_turn, next_turn, HasEnded, all_answered, at_rest, in_turn, lacks_memory, next_is_scrub}
 use Rattle.bd_session.specs.declared.report.SessionEnd.{SessionEnd}
 use Rattle.bd_session.specs.declared.report.SessionEnd.TheVariants.{Done, SourceFault, TargetFault, DiskFault, Damaged, OutputFault, OutOfMemory, Unbuilt}
 use Rattle.bd_session.proofs.ByCommand.{long_quiet, phase_after-room, reads_for, target_or_kept}
@@ -194,25 +194,25 @@ module _ {disk files sink : Type 0} {c : Course} {first now : Scene} (told : dis
       no_memory : OutOfMemory ≡ Damaged damage → ⊥
       no_memory e = cc e
 
-  headline_met : AllAnswered c goes.last now ⊎ NoneBegun c goes.last now ⊎ NotBegun c goes.last now ⊎ LastTurn disk files sink c goes.last now → MeetsTheHeadline s (clock s.disk) c now.world.disk now.world.files
+  headline_met : HasEnded disk files sink c goes.last now → MeetsTheHeadline s (clock s.disk) c now.world.disk now.world.files
   unfolding g
-  headline_met (inl all) = subst (λ (x : Scene). MeetsTheHeadline s (clock s.disk) c x.world.disk x.world.files) (sym all.same) (ends_done g all.done all.all)
-  headline_met (inr (inl begun)) = unmoved (subst Leaves (sym begun.memory) leaves_memory) (λ other. absurd (other begun.memory)) (ap (λ (x : Scene). x.world.disk) begun.same) (ap (λ (x : Scene). x.world.files) begun.same)
-  headline_met (inr (inr (inl not_begun))) =
-      unmoved (subst Leaves (sym not_begun.ending) leaves_unbuilt) (λ _. slice_get_within c.commands (answered c) Scrub not_begun.next) (ap (λ (x : Scene). x.world.disk) not_begun.same) (ap (λ (x : Scene). x.world.files) not_begun.same)
-  headline_met (inr (inr (inr turn))) = by_result turn turn.result turn.meets turn.ends
+  headline_met (at_rest (all_answered done all) same) = subst (λ (x : Scene). MeetsTheHeadline s (clock s.disk) c x.world.disk x.world.files) (sym same) (ends_done g done all)
+  headline_met (at_rest (lacks_memory memory none) same) = unmoved (subst Leaves (sym memory) leaves_memory) (λ other. absurd (other memory)) (ap (λ (x : Scene). x.world.disk) same) (ap (λ (x : Scene). x.world.files) same)
+  headline_met (at_rest (next_is_scrub unbuilt next) same) =
+      unmoved (subst Leaves (sym unbuilt) leaves_unbuilt) (λ _. slice_get_within c.commands (answered c) Scrub next) (ap (λ (x : Scene). x.world.disk) same) (ap (λ (x : Scene). x.world.files) same)
+  headline_met (in_turn turn) = by_result turn turn.result turn.meets turn.ends
 
-  damage_met : AllAnswered c goes.last now ⊎ NoneBegun c goes.last now ⊎ NotBegun c goes.last now ⊎ LastTurn disk files sink c goes.last now → (damage : Damage) → c.ending ≢ Damaged damage
-  damage_met (inl all) damage is = clash (sym all.done ∙ is) where
+  damage_met : HasEnded disk files sink c goes.last now → (damage : Damage) → c.ending ≢ Damaged damage
+  damage_met (at_rest (all_answered done all) same) damage is = clash (sym done ∙ is) where
     clash : Done ≡ Damaged damage → ⊥
     clash e = cc e
-  damage_met (inr (inl begun)) damage is = clash (sym begun.memory ∙ is) where
+  damage_met (at_rest (lacks_memory memory none) same) damage is = clash (sym memory ∙ is) where
     clash : OutOfMemory ≡ Damaged damage → ⊥
     clash e = cc e
-  damage_met (inr (inr (inl not_begun))) damage is = clash (sym not_begun.ending ∙ is) where
+  damage_met (at_rest (next_is_scrub unbuilt next) same) damage is = clash (sym unbuilt ∙ is) where
     clash : Unbuilt ≡ Damaged damage → ⊥
     clash e = cc e
-  damage_met (inr (inr (inr turn))) damage is = no_damage turn turn.result turn.meets turn.ends damage is
+  damage_met (in_turn turn) damage is = no_damage turn turn.result turn.meets turn.ends damage is
 
 -- without a fault it ends well
 complete : (ending : SessionEnd) (before now : Faults) → EndsByCount (session_cause ending) before now → ((damage : Damage) → ending ≢ Damaged damage) → NoFault before now → (ending ≡ Done) ⊎ ((ending ≡ OutOfMemory) ⊎ (ending ≡ Unbuilt))

@@ -14,7 +14,7 @@ use Rattle.bd_store.specs.Attempts.{IsAnswerOf, Scene, attempt, Meets}
 use Rattle.bd_store.specs.declared.fault.StoreFault.{StoreFault}
 use Rattle.bd_session.specs.Course.{Course, next_command, answered}
 use Rattle.bd_session.specs.Ends.{EndsBy, IsMetBy}
-use Rattle.bd_session.specs.Turns.{before_text, AllAnswered, Goes, LastTurn, NoneBegun, NotBegun, Turns, no_turn, next_turn}
+use Rattle.bd_session.specs.Turns.{before_text, Goes, Turns, no_turn, next_turn, HasEnded, all_answered, at_rest, in_turn, lacks_memory, next_is_scrub}
 use Rattle.bd_session.specs.Keeping.{ClocksRise, IsTargetBelow, KeepsOthers, StraysOnlyFor, WritesByCommands}
 use Rattle.bd_session.proofs.Turning.{unsaid, paired, to_the_end}
 use Rattle.bd_session.proofs.ByCommand.{met_fault, quiet_writes, target_or_kept}
@@ -41,11 +41,9 @@ module _ {disk files sink : Type 0} {c : Course} {first now : Scene} (goes : Goe
     at_last : P (answered c) goes.last
     at_last = turned goes.turns (omega arith)
 
-    by_end : AllAnswered c goes.last now ⊎ NoneBegun c goes.last now ⊎ NotBegun c goes.last now ⊎ LastTurn disk files sink c goes.last now → P (answered c + 1) now
-    by_end (inl all) = subst (P (answered c + 1)) (sym all.same) (wider _ _ at_last)
-    by_end (inr (inl begun)) = subst (P (answered c + 1)) (sym begun.same) (wider _ _ at_last)
-    by_end (inr (inr (inl not_begun))) = subst (P (answered c + 1)) (sym not_begun.same) (wider _ _ at_last)
-    by_end (inr (inr (inr turn))) = one (answered c) goes.last now (omega arith) (record { command = turn.command; there = turn.next; result = turn.result; meets = turn.meets }) at_last
+    by_end : HasEnded disk files sink c goes.last now → P (answered c + 1) now
+    by_end (at_rest over same) = subst (P (answered c + 1)) (sym same) (wider _ _ at_last)
+    by_end (in_turn turn) = one (answered c) goes.last now (omega arith) (record { command = turn.command; there = turn.next; result = turn.result; meets = turn.meets }) at_last
 
   -- a target below a number is one below a greater number
   below_more : (k n : ℕ) (name : List ℕ) → k ≤ n → IsTargetBelow c k name → IsTargetBelow c n name
@@ -159,11 +157,9 @@ clocks_rise {disk} {files} {sink} {c} {first} {now} goes = record {
   rise = λ told. rising told goes.turns;
   last = λ told. omega (arith, last_clock told goes.turns, ends told goes.ends);
 } where
-  ends : disk → AllAnswered c goes.last now ⊎ NoneBegun c goes.last now ⊎ NotBegun c goes.last now ⊎ LastTurn disk files sink c goes.last now → clock goes.last.world.disk ≤ clock now.world.disk
-  ends told (inl all) = omega (arith, ap (λ (x : Scene). clock x.world.disk) all.same)
-  ends told (inr (inl begun)) = omega (arith, ap (λ (x : Scene). clock x.world.disk) begun.same)
-  ends told (inr (inr (inl not_begun))) = omega (arith, ap (λ (x : Scene). clock x.world.disk) not_begun.same)
-  ends told (inr (inr (inr turn))) = later (turn.meets.common.beyond told)
+  ends : disk → HasEnded disk files sink c goes.last now → clock goes.last.world.disk ≤ clock now.world.disk
+  ends told (at_rest over same) = omega (arith, ap (λ (x : Scene). clock x.world.disk) same)
+  ends told (in_turn turn) = later (turn.meets.common.beyond told)
 
 -- ---- which command brought the end
 
@@ -174,8 +170,8 @@ met_by {disk} {files} {sink} {c} {first} {now} goes = by_end goes.ends where
   by_result command found (Ok answer) answers is ends =
       ⊎_elim (λ out. subst (IsMetBy (next_command c)) (sym out.0) tt) (λ memory. subst (IsMetBy (next_command c)) (sym memory.0) tt) (unsaid sink answer c.ending goes.last.world now.world ends)
 
-  by_end : AllAnswered c goes.last now ⊎ NoneBegun c goes.last now ⊎ NotBegun c goes.last now ⊎ LastTurn disk files sink c goes.last now → IsMetBy (next_command c) c.ending
-  by_end (inl all) = subst (IsMetBy (next_command c)) (sym all.done) tt
-  by_end (inr (inl begun)) = subst (IsMetBy (next_command c)) (sym begun.memory) tt
-  by_end (inr (inr (inl not_begun))) = subst (IsMetBy (next_command c)) (sym not_begun.ending) not_begun.next
-  by_end (inr (inr (inr turn))) = by_result turn.command goes.last.store.found turn.result turn.meets.answer turn.next turn.ends
+  by_end : HasEnded disk files sink c goes.last now → IsMetBy (next_command c) c.ending
+  by_end (at_rest (all_answered done all) same) = subst (IsMetBy (next_command c)) (sym done) tt
+  by_end (at_rest (lacks_memory memory none) same) = subst (IsMetBy (next_command c)) (sym memory) tt
+  by_end (at_rest (next_is_scrub unbuilt next) same) = subst (IsMetBy (next_command c)) (sym unbuilt) next
+  by_end (in_turn turn) = by_result turn.command goes.last.store.found turn.result turn.meets.answer turn.next turn.ends

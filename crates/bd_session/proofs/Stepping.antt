@@ -1,5 +1,5 @@
 -- How the loop over the commands goes on and how it ends.
-use Rattle.std.proofs.Common.{◌≡◌, ◌∙◌, ℕ, ◌+◌, ◌<◌, ◌≤◌, arith, List, [], ◌∷◌, ◌++◌, length, inl, inr, refl, sym, ap, subst, get_or, Result, Some, slice_get}
+use Rattle.std.proofs.Common.{◌≡◌, ◌∙◌, ℕ, ◌+◌, ◌<◌, ◌≤◌, arith, List, [], ◌∷◌, ◌++◌, length, refl, sym, ap, subst, get_or, Result, Some, slice_get}
 use Rattle.std.proofs.lemmas.List.{length_push}
 use Rattle.std.proofs.lemmas.Option.{slice_get-get_or}
 use Rattle.bd_model.specs.declared.answer.Answer.{Answer}
@@ -10,7 +10,7 @@ use Rattle.bd_store.specs.declared.fault.StoreFault.{StoreFault}
 use Rattle.bd_session.specs.Course.{course}
 use Rattle.bd_session.specs.Ends.{EndsBy}
 use Rattle.bd_session.specs.Session.{MeetsSession}
-use Rattle.bd_session.specs.Turns.{before_text, Turn, Turns, no_turn, next_turn}
+use Rattle.bd_session.specs.Turns.{before_text, Turn, Turns, no_turn, next_turn, all_answered, at_rest, in_turn, lacks_memory, next_is_scrub}
 use Rattle.bd_session.specs.declared.report.SessionEnd.{SessionEnd}
 use Rattle.bd_session.specs.declared.report.SessionEnd.TheVariants.{OutOfMemory, Unbuilt}
 use Rattle.bd_session.specs.declared.report.SessionReport.{SessionReport}
@@ -29,12 +29,12 @@ module _ {disk files sink : Type 0} (commands : List Command) (first : Scene) wh
   -- there was no memory for the answers
   pub none_begun : (report : SessionReport) → IsOpen disk first → report.answers.items ≡ [] → report.clocks.items ≡ [] → report.end ≡ OutOfMemory → MeetsSession disk files sink (course commands report) first first
   none_begun report opened no_answers no_clocks memory =
-      meets_session opened (record { last = first; turns = none_turned report.answers.items report.clocks.items no_answers no_clocks; ends = inr (inl (record { memory = memory; none = no_answers; same = refl })) })
+      meets_session opened (record { last = first; turns = none_turned report.answers.items report.clocks.items no_answers no_clocks; ends = at_rest (lacks_memory memory no_answers) refl })
 
   -- all had their turn
   pub all_turned : (report : SessionReport) (index : ℕ) (now : Scene) → IsOpen disk first → HasTurned disk files sink commands first report index now → length commands ≤ index → MeetsSession disk files sink (course commands report) first now
   all_turned report index now opened far high =
-      meets_session opened (record { last = now; turns = far.turns; ends = inl (record { done = far.ending; all = omega (arith, far.count, high, few far.turns); same = refl }) })
+      meets_session opened (record { last = now; turns = far.turns; ends = at_rest (all_answered far.ending (omega (arith, far.count, high, few far.turns))) refl })
 
   -- the next command had its turn
   pub turned : (report : SessionReport) (index : ℕ) (before : Scene) → HasTurned disk files sink commands first report index before → (command : Command) → slice_get commands index ≡ Some command → (answer : Answer) (moment : ℕ) (after : Scene) → Turn disk files sink command answer moment before after →
@@ -55,11 +55,11 @@ module _ {disk files sink : Type 0} (commands : List Command) (first : Scene) wh
       Meets disk files (attempt command result before (before_text before now)) → (ending : SessionEnd) → EndsBy sink result ending before.world now.world → (last : SessionReport) → last ≡ record report { end = ending } → MeetsSession disk files sink (course commands last) first now
   ended report index before opened far command there result now meets ending ends last is =
       subst (λ (r : SessionReport). MeetsSession disk files sink (course commands r) first now) (sym is)
-      (meets_session opened (record { last = before; turns = far.turns; ends = inr (inr (inr (record { command = command; next = ap (slice_get commands) far.count ∙ there; result = result; meets = meets; ends = ends }))) }))
+      (meets_session opened (record { last = before; turns = far.turns; ends = in_turn (record { command = command; next = ap (slice_get commands) far.count ∙ there; result = result; meets = meets; ends = ends }) }))
 
   -- the next command is a scrub
   pub not_begun : (report : SessionReport) (index : ℕ) (now : Scene) → IsOpen disk first → HasTurned disk files sink commands first report index now → slice_get commands index ≡ Some Scrub → (last : SessionReport) → last ≡ record report { end = Unbuilt } →
       MeetsSession disk files sink (course commands last) first now
   not_begun report index now opened far there last is =
       subst (λ (r : SessionReport). MeetsSession disk files sink (course commands r) first now) (sym is)
-      (meets_session opened (record { last = now; turns = far.turns; ends = inr (inr (inl (record { ending = refl; next = ap (slice_get commands) far.count ∙ there; same = refl }))) }))
+      (meets_session opened (record { last = now; turns = far.turns; ends = at_rest (next_is_scrub refl (ap (slice_get commands) far.count ∙ there)) refl }))

@@ -1,5 +1,5 @@
 -- What images open with behind the answers of a list, whatever images they were before.
-use Rattle.std.proofs.Common.{◌⊎◌, ℕ, List, inl, inr, refl, sym, subst}
+use Rattle.std.proofs.Common.{ℕ, List, inl, inr, refl, sym, subst}
 use Rattle.bd_disk.specs.Made.{LeavesSince}
 use Rattle.bd_disk.proofs.Frames.{leaves_now, leaves_same, leaves_wider}
 use Rattle.bd_model.specs.declared.answer.Answer.{Answer}
@@ -8,7 +8,7 @@ use Rattle.bd_store.proofs.Opens.{opens_on}
 use Rattle.bd_store.specs.Attempts.{Scene}
 use Rattle.bd_session.specs.Course.{Course}
 use Rattle.bd_session.specs.Stops.{OpensAsStore, OpensBehind, CataloguesStay}
-use Rattle.bd_session.specs.Turns.{AllAnswered, Goes, LastTurn, NoneBegun, NotBegun, Turn, Turns, no_turn, next_turn}
+use Rattle.bd_session.specs.Turns.{Goes, Turn, Turns, no_turn, next_turn, HasEnded, at_rest, in_turn}
 use Rattle.bd_session.proofs.Turning.{IsOpen, open_after, still_open}
 
 module _ {disk files sink : Type 0} (told : disk) where
@@ -35,10 +35,8 @@ module _ {disk files sink : Type 0} (told : disk) where
     rests : Ended goes.last
     rests = leaves_wider (OpensBehind c goes.last goes.last) (λ image is. inl is) (leaves_same refl last_sure)
 
-    by : AllAnswered c goes.last now ⊎ NoneBegun c goes.last now ⊎ NotBegun c goes.last now ⊎ LastTurn disk files sink c goes.last now → Ended now
-    by (inl all) = subst Ended (sym all.same) rests
-    by (inr (inl none)) = subst Ended (sym none.same) rests
-    by (inr (inr (inl not_begun))) = subst Ended (sym not_begun.same) rests
-    by (inr (inr (inr turn))) = leaves_wider (OpensBehind c goes.last now)
+    by : HasEnded disk files sink c goes.last now → Ended now
+    by (at_rest over same) = subst Ended (sym same) rests
+    by (in_turn turn) = leaves_wider (OpensBehind c goes.last now)
         (λ image is. inr (turn.command, turn.next, is))
         ((turn.meets.on_disk told).opens last_sure)

@@ -17,9 +17,9 @@ use Rattle.bd_store.specs.Causes.{FailsOnlyByCount, HasRisen, NoneFell}
 use Rattle.bd_store.specs.declared.fault.StoreFault.{StoreFault}
 use Rattle.bd_store.specs.declared.fault.StoreFault.TheVariants.{SourceFault as StoreSource, TargetFault as StoreTarget, DiskFault as StoreDisk, Damaged as StoreDamaged, OutOfMemory as StoreMemory}
 use Rattle.bd_session.specs.Course.{Course}
-use Rattle.bd_session.specs.Ends.{Cause, FailsSink, FromNothing, LeavesSink, EndsBy, EndsByCount, EndsOnlyByCount, end_of, session_cause}
+use Rattle.bd_session.specs.Ends.{Cause, FailsSink, FromNothing, FromStore, LeavesSink, EndsBy, EndsByCount, EndsOnlyByCount, end_of, session_cause}
 use Rattle.bd_session.specs.Keeping.{KeepsStore}
-use Rattle.bd_session.specs.Turns.{before_text, AllAnswered, Goes, LastTurn, NoneBegun, NotBegun, Turns, no_turn, next_turn}
+use Rattle.bd_session.specs.Turns.{before_text, Goes, Turns, no_turn, next_turn, HasEnded, IsOver, all_answered, at_rest, in_turn, lacks_memory, next_is_scrub}
 use Rattle.bd_session.specs.declared.report.SessionEnd.{SessionEnd}
 use Rattle.bd_session.specs.declared.report.SessionEnd.TheVariants.{Done, SourceFault, TargetFault, DiskFault, Damaged, OutputFault, OutOfMemory, Unbuilt}
 use Rattle.bd_session.specs.declared.report.SessionReport.{SessionReport}
@@ -101,11 +101,9 @@ module _ {disk files sink : Type 0} {c : Course} {first now : Scene} (goes : Goe
   pub to_the_end : (R : Scene → Scene → Type 0) → ((a : Scene) → R a a) → ((a b c : Scene) → R a b → R b c → R a c) →
       ((result : Result Answer StoreFault) → (a b : Scene) → MeetsCommon disk result a (before_text a b) → R a b) → R first now
   to_the_end R none both one = both _ _ _ (along R none both one goes.turns) (last goes.ends) where
-    last : AllAnswered c goes.last now ⊎ NoneBegun c goes.last now ⊎ NotBegun c goes.last now ⊎ LastTurn disk files sink c goes.last now → R goes.last now
-    last (inl all) = subst (R goes.last) (sym all.same) (none _)
-    last (inr (inl begun)) = subst (R goes.last) (sym begun.same) (none _)
-    last (inr (inr (inl not_begun))) = subst (R goes.last) (sym not_begun.same) (none _)
-    last (inr (inr (inr turn))) = one _ _ _ turn.meets.common
+    last : HasEnded disk files sink c goes.last now → R goes.last now
+    last (at_rest over same) = subst (R goes.last) (sym same) (none _)
+    last (in_turn turn) = one _ _ _ turn.meets.common
 
   pub bytes_stay : now.world.disk_bytes ≡ first.world.disk_bytes
   bytes_stay = to_the_end (λ a b. b.world.disk_bytes ≡ a.world.disk_bytes) (λ a. refl) (λ a b c e f. f ∙ e) (λ result a b meets. meets.bytes)
@@ -181,16 +179,17 @@ last_cause sink (Ok answer) ending last now meets ends =
     (λ memory. by_nothing (ap session_cause memory.0) (λ k. record (meets.cause.cause k) { sink = memory.2.faults k }))
     (unsaid sink answer ending last.world now.world ends)
 
+-- an end without a further command comes by no count
+over_cause : {c : Course} → IsOver c → session_cause c.ending ≡ FromNothing
+over_cause (all_answered done all) = ap session_cause done
+over_cause (lacks_memory memory none) = ap session_cause memory
+over_cause (next_is_scrub unbuilt next) = ap session_cause unbuilt
+
 pub by_count : {disk files sink : Type 0} {c : Course} {first now : Scene} → Goes disk files sink c first now → EndsOnlyByCount (session_cause c.ending) first.world.counts now.world.counts
 by_count {disk} {files} {sink} {c} {first} {now} goes = subst (λ (x : Faults). EndsOnlyByCount (session_cause c.ending) x now.world.counts) (counts_stay goes.turns) (by_end goes.ends) where
-  unmoved : now ≡ goes.last → session_cause c.ending ≡ FromNothing → EndsOnlyByCount (session_cause c.ending) goes.last.world.counts now.world.counts
-  unmoved same nothing = by_nothing nothing (ap (λ (x : Scene). x.world.counts) same)
-
-  by_end : AllAnswered c goes.last now ⊎ NoneBegun c goes.last now ⊎ NotBegun c goes.last now ⊎ LastTurn disk files sink c goes.last now → EndsOnlyByCount (session_cause c.ending) goes.last.world.counts now.world.counts
-  by_end (inl all) = unmoved all.same (ap session_cause all.done)
-  by_end (inr (inl begun)) = unmoved begun.same (ap session_cause begun.memory)
-  by_end (inr (inr (inl not_begun))) = unmoved not_begun.same (ap session_cause not_begun.ending)
-  by_end (inr (inr (inr turn))) = last_cause sink turn.result c.ending goes.last now turn.meets.common turn.ends
+  by_end : HasEnded disk files sink c goes.last now → EndsOnlyByCount (session_cause c.ending) goes.last.world.counts now.world.counts
+  by_end (at_rest over same) = by_nothing (over_cause over) (ap (λ (x : Scene). x.world.counts) same)
+  by_end (in_turn turn) = last_cause sink turn.result c.ending goes.last now turn.meets.common turn.ends
 
 -- ---- the store
 
@@ -218,14 +217,12 @@ keeps_store {disk} {files} {sink} {c} {first} {now} opened goes = by_end goes.en
     clash : true ≡ false → ⊥
     clash e = cc e
 
-  not_disk : {e : SessionEnd} → c.ending ≡ e → (e ≡ DiskFault → ⊥) → c.ending ≢ DiskFault
-  not_disk is other d = other (sym is ∙ d)
+  no_fault : FromStore StoreDisk ≡ FromNothing → ⊥
+  no_fault e = cc e
 
-  by_end : AllAnswered c goes.last now ⊎ NoneBegun c goes.last now ⊎ NotBegun c goes.last now ⊎ LastTurn disk files sink c goes.last now → KeepsStore disk c.ending first now
-  by_end (inl all) = unmoved all.same (not_disk all.done (λ e. cc e))
-  by_end (inr (inl begun)) = unmoved begun.same (not_disk begun.memory (λ e. cc e))
-  by_end (inr (inr (inl not_begun))) = unmoved not_begun.same (not_disk not_begun.ending (λ e. cc e))
-  by_end (inr (inr (inr turn))) =
+  by_end : HasEnded disk files sink c goes.last now → KeepsStore disk c.ending first now
+  by_end (at_rest over same) = unmoved same (λ failed. no_fault (sym (ap session_cause failed) ∙ over_cause over))
+  by_end (in_turn turn) =
       let disk_end = disk_ends sink turn.result c.ending goes.last.world now.world turn.ends in
       record {
         worn = (λ worn. disk_end.0 (turn.meets.common.worn.0 worn), λ d. turn.meets.common.worn.1 (disk_end.1 d));

@@ -1,5 +1,5 @@
 -- What was done, one command after the other.
-use Rattle.std.specs.Prelude.{◌≡◌, ◌⊎◌, ℕ, List, [], ◌∷◌, ◌++◌, length, slice_get, Some, Result, Ok}
+use Rattle.std.specs.Prelude.{◌≡◌, ℕ, List, [], ◌∷◌, ◌++◌, length, slice_get, Some, Result, Ok}
 use Rattle.bd_disk.specs.History.{clock}
 use Rattle.bd_files.specs.Sinks.{HandsOn}
 use Rattle.bd_model.specs.Texts.{answer_text}
@@ -40,26 +40,24 @@ pub record LastTurn (disk files sink : Type 0) (c : Course) (before now : Scene)
   pub meets : Meets disk files (attempt command result before (before_text before now))
   pub ends : EndsBy sink result c.ending before.world now.world
 
--- all commands were answered
-pub record AllAnswered (c : Course) (last now : Scene) : Type 0 where
-  pub done : c.ending ≡ Done
-  pub all : answered c ≡ length c.commands
-  pub same : now ≡ last
+-- why no command was begun behind the last answer
+pub data IsOver (c : Course) : Type 0 where
+  -- all were answered
+  all_answered : c.ending ≡ Done → answered c ≡ length c.commands → IsOver c
+  -- there was no memory for the answers
+  lacks_memory : c.ending ≡ OutOfMemory → c.answers ≡ [] → IsOver c
+  -- the next one is a scrub
+  next_is_scrub : c.ending ≡ Unbuilt → next_command c ≡ Some Scrub → IsOver c
 
--- no command was begun, for want of memory for the answers
-pub record NoneBegun (c : Course) (last now : Scene) : Type 0 where
-  pub memory : c.ending ≡ OutOfMemory
-  pub none : c.answers ≡ []
-  pub same : now ≡ last
-
--- the next command is a scrub, and wasn't begun
-pub record NotBegun (c : Course) (last now : Scene) : Type 0 where
-  pub ending : c.ending ≡ Unbuilt
-  pub next : next_command c ≡ Some Scrub
-  pub same : now ≡ last
+-- how a list ended
+pub data HasEnded (disk files sink : Type 0) (c : Course) (last now : Scene) : Type 0 where
+  -- nothing was done behind the last answer
+  at_rest : IsOver c → now ≡ last → HasEnded disk files sink c last now
+  -- the command behind it brought the end
+  in_turn : LastTurn disk files sink c last now → HasEnded disk files sink c last now
 
 -- From first to last: the turns of the commands that were answered, and how it ended.
 pub record Goes (disk files sink : Type 0) (c : Course) (first now : Scene) : Type 0 where
   pub last : Scene
   pub turns : Turns disk files sink c.commands first c.answers c.clocks last
-  pub ends : AllAnswered c last now ⊎ NoneBegun c last now ⊎ NotBegun c last now ⊎ LastTurn disk files sink c last now
+  pub ends : HasEnded disk files sink c last now
