@@ -1,4 +1,4 @@
--- What is said of a command by which one it is. A command that is built adds its lines here; all else goes by its answer.
+-- What is said of a command by which one it is. A command that is built adds its line to `is_of`; all else goes by deed and answer.
 use Rattle.std.proofs.Common.{◌≡◌, ◌≤◌, ◌⊎◌, ◌∙◌, ◌&&◌, ◌==◌, ℕ, true, [], inl, inr, refl, sym, ap, subst, Result, Ok, Err, Option, Some, None, false, List}
 use Rattle.std.specs.FinMap as map
 use Rattle.std.specs.Str.{bytes_eq}
@@ -13,6 +13,11 @@ use Rattle.bd_disk.proofs.Traces.{reads_of_run}
 use Rattle.bd_model.specs.declared.answer.Answer.{Answer}
 use Rattle.bd_model.specs.declared.command.Command.{Command}
 use Rattle.bd_model.specs.declared.command.Command.TheVariants.{Backup, Restore, Expire, Reorganise, Scrub, List as Listing}
+use Rattle.bd_model.specs.declared.answer.ScrubReport.{ScrubReport}
+use Rattle.bd_model.specs.declared.answer.VersionLine.{VersionLine}
+use Rattle.bd_model.specs.declared.mark.Mark.{Mark}
+use Rattle.bd_model.specs.declared.damage.Damage.{Damage}
+use Rattle.bd_model.specs.Roomy.{Roomy}
 use Rattle.bd_model.specs.FileMap.{FileMap}
 use Rattle.bd_model.specs.Marks.{Near}
 use Rattle.bd_model.specs.State.{VersionState, history}
@@ -27,16 +32,16 @@ use Rattle.bd_catalog.specs.Standing.{StandsFor}
 use Rattle.bd_catalog.specs.Agreement.{Agrees}
 use Rattle.bd_catalog.proofs.StandingFound.{opened-found}
 use Rattle.bd_script.specs.Long.{is_long}
-use Rattle.bd_store.specs.Attempts.{IsAnswerOf, ReadsByCommand, Scene, attempt}
-use Rattle.bd_store.specs.Deeds.{Deed, TakesIn, GivesBack, GivesUp, Settles, Checks, Tells, deed_of}
+use Rattle.bd_store.specs.Attempts.{IsAnswerOf, ReadsByCommand, Scene, attempt, ReadsRestored}
+use Rattle.bd_store.specs.Deeds.{Deed, TakesIn, GivesBack, GivesUp, Settles, Checks, Tells, deed_of, source_of, target_of}
 use Rattle.bd_store.specs.Steps.{task, IsNear, KeepsBut, KeepsFiles}
-use Rattle.bd_store.specs.Touches.{IsLeanExpiry, WalksTo, arranges_first, waits}
+use Rattle.bd_store.specs.Touches.{IsLeanExpiry, WalksTo, arranges_first, waits, AnswersArranging, AnswersByNumbers, AnswersByVersion, AnswersExpiry}
 use Rattle.bd_store.specs.Writes.{WritesByCommand, WritesFor, arranges_for}
 use Rattle.bd_store.specs.declared.fault.StoreFault.{StoreFault}
 use Rattle.bd_store.specs.declared.fault.StoreFault.TheVariants.{SourceFault as StoreSource, TargetFault as StoreTarget, DiskFault as StoreDisk, Damaged as StoreDamaged, OutOfMemory as StoreMemory}
 use Rattle.bd_session.specs.Drops.{ArrangesFirst, Drops}
 use Rattle.bd_session.specs.Reads.{ExpiryDrops, ExpiryReads, ReadsFor, RestoreReads}
-use Rattle.bd_session.specs.Ends.{IsMetBy, end_of}
+use Rattle.bd_session.specs.Ends.{IsMetBy, end_of, HasName, MayMeetDamage}
 use Rattle.bd_session.specs.Keeping.{IsQuiet, IsQuietDeed}
 use Rattle.bd_session.proofs.Dropping.{drops_oldest}
 
@@ -61,54 +66,48 @@ target_or_kept (Some target) old new name keeps =
       | false ↦ λ e. inr (keeps.others name (not_from_Decides _ (bytes_eq-Decides name target) e))
     ] refl
 
--- ---- which faults it meets
+-- ---- what an answer says of its command
+
+-- an answer of many lines can't be, where none of the three can
+none_long : (R : Answer → Type 0) → ((report : ScrubReport) → R (Scrubbed report) → ⊥) → ((lines : Roomy VersionLine) → R (Listed lines) → ⊥) → ((a b c d e f : ℕ) (mark : Mark) → R (Soaked a b c d e f mark) → ⊥) →
+    (answer : Answer) → is_long answer ≡ true → R answer → ⊥
+none_long R scrubbed listed soaked (Scrubbed report) long is = scrubbed report is
+none_long R scrubbed listed soaked (Listed lines) long is = listed lines is
+none_long R scrubbed listed soaked (Soaked a b c d e f mark) long is = soaked a b c d e f mark is
+none_long R scrubbed listed soaked _ long is = absurd (cc long)
+
+-- each fault and each of these answers is one that the command may have
+record IsOf (found : Found) (command : Command) : Type 0 where
+  source : IsAnswerOf found command (Err StoreSource) → HasName (source_of command)
+  target : IsAnswerOf found command (Err StoreTarget) → HasName (target_of command)
+  damaged : (damage : Damage) → IsAnswerOf found command (Err (StoreDamaged damage)) → MayMeetDamage (deed_of found command)
+  long : (answer : Answer) → is_long answer ≡ true → IsAnswerOf found command (Ok answer) → command ≡ Listing
+  restored : (v bytes : ℕ) → IsAnswerOf found command (Ok (Restored v bytes)) → (name : List ℕ) × (command ≡ Restore v name)
+  expired : (v extents : ℕ) → IsAnswerOf found command (Ok (Expired v extents)) → (command ≡ Expire) × (1 ≤ retained_in found.catalogue)
+
+-- the one table here that has a line for each command
+is_of : (found : Found) (command : Command) → IsOf found command
+is_of found (Backup name) = record { source = λ _. (name, refl); target = λ no. absurd no; damaged = λ _ _. tt; long = λ answer long is. absurd (none_long (λ a. AnswersByNumbers found (Ok a)) (λ _ no. no) (λ _ no. no) (λ _ _ _ _ _ _ _ no. no) answer long is); restored = λ _ _ no. absurd no; expired = λ _ _ no. absurd no }
+is_of found (Restore v name) = record { source = λ no. absurd no; target = λ _. (name, refl); damaged = λ _ _. tt; long = λ answer long is. absurd (none_long (λ a. AnswersByVersion found v (Ok a)) (λ _ no. no) (λ _ no. no) (λ _ _ _ _ _ _ _ no. no) answer long is); restored = λ given bytes is. (name, ap (λ n. Restore n name) (sym is.2)); expired = λ _ _ no. absurd no }
+is_of found Expire = record { source = λ no. absurd no; target = λ no. absurd no; damaged = λ _ _. tt; long = λ answer long is. absurd (none_long (λ a. AnswersExpiry found (Ok a)) (λ _ no. no) (λ _ no. no) (λ _ _ _ _ _ _ _ no. no) answer long is); restored = λ _ _ no. absurd no; expired = λ _ _ is. (refl, is.0) }
+is_of found Reorganise = record { source = λ no. absurd no; target = λ no. absurd no; damaged = λ _ _. tt; long = λ answer long is. absurd (none_long (λ a. AnswersArranging found (Ok a)) (λ _ no. no) (λ _ no. no) (λ _ _ _ _ _ _ _ no. no) answer long is); restored = λ _ _ no. absurd no; expired = λ _ _ no. absurd no }
+is_of found Scrub = record { source = λ no. absurd no; target = λ no. absurd no; damaged = λ _ no. absurd no; long = λ _ _ no. absurd no; restored = λ _ _ no. absurd no; expired = λ _ _ no. absurd no }
+is_of found Listing = record { source = λ no. absurd (cc no); target = λ no. absurd (cc no); damaged = λ _ no. absurd (cc no); long = λ _ _ _. refl; restored = λ _ _ no. absurd (cc no); expired = λ _ _ no. absurd (cc no) }
 
 -- which command met a fault
 pub met_fault : (found : Found) (command : Command) (fault : StoreFault) → IsAnswerOf found command (Err fault) → (next : Option Command) → next ≡ Some command → IsMetBy next (end_of fault)
 met_fault found command StoreDisk answers next is = tt
 met_fault found command StoreMemory answers next is = tt
-met_fault found (Backup name) StoreSource answers next is = (Backup name, is, (name, refl))
-met_fault found (Restore v name) StoreSource answers next is = absurd answers
-met_fault found Listing StoreSource answers next is = absurd (cc answers)
-met_fault found Expire StoreSource answers next is = absurd answers
-met_fault found Reorganise StoreSource answers next is = absurd answers
-met_fault found Scrub StoreSource answers next is = absurd answers
-met_fault found (Backup name) StoreTarget answers next is = absurd answers
-met_fault found (Restore v name) StoreTarget answers next is = (Restore v name, is, (name, refl))
-met_fault found Listing StoreTarget answers next is = absurd (cc answers)
-met_fault found Expire StoreTarget answers next is = absurd answers
-met_fault found Reorganise StoreTarget answers next is = absurd answers
-met_fault found Scrub StoreTarget answers next is = absurd answers
-met_fault found (Backup name) (StoreDamaged damage) answers next is = (Backup name, is, (found, tt))
-met_fault found (Restore v name) (StoreDamaged damage) answers next is = (Restore v name, is, (found, tt))
-met_fault found Listing (StoreDamaged damage) answers next is = absurd (cc answers)
-met_fault found Expire (StoreDamaged damage) answers next is = (Expire, is, (found, tt))
-met_fault found Reorganise (StoreDamaged damage) answers next is = (Reorganise, is, (found, tt))
-met_fault found Scrub (StoreDamaged damage) answers next is = absurd answers
-
--- ---- what was answered
+met_fault found command StoreSource answers next is = (command, is, (is_of found command).source answers)
+met_fault found command StoreTarget answers next is = (command, is, (is_of found command).target answers)
+met_fault found command (StoreDamaged damage) answers next is = (command, is, (found, (is_of found command).damaged damage answers))
 
 -- an answer of many lines is that of a list, which touches nothing
 pub long_quiet : (command : Command) (answer : Answer) (before after : Scene) → is_long answer ≡ true → IsAnswerOf before.store.found command (Ok answer) → ReadsByCommand (attempt command (Ok answer) before after) command → KeepsFiles command before.world.files after.world.files →
     (after.world.disk ≡ before.world.disk) × (after.world.files ≡ before.world.files)
-long_quiet Listing answer before after long answers reads keeps = (reads, keeps)
-long_quiet (Backup name) (Scrubbed report) before after long answers reads keeps = absurd answers
-long_quiet (Backup name) (Listed lines) before after long answers reads keeps = absurd answers
-long_quiet (Backup name) (Soaked x0 x1 x2 x3 x4 x5 x6) before after long answers reads keeps = absurd answers
-long_quiet (Backup name) _ before after long answers reads keeps = absurd (cc long)
-long_quiet (Restore v name) (Scrubbed report) before after long answers reads keeps = absurd answers
-long_quiet (Restore v name) (Listed lines) before after long answers reads keeps = absurd answers
-long_quiet (Restore v name) (Soaked x0 x1 x2 x3 x4 x5 x6) before after long answers reads keeps = absurd answers
-long_quiet (Restore v name) _ before after long answers reads keeps = absurd (cc long)
-long_quiet Expire (Scrubbed report) before after long answers reads keeps = absurd answers
-long_quiet Expire (Listed lines) before after long answers reads keeps = absurd answers
-long_quiet Expire (Soaked x0 x1 x2 x3 x4 x5 x6) before after long answers reads keeps = absurd answers
-long_quiet Expire _ before after long answers reads keeps = absurd (cc long)
-long_quiet Reorganise (Scrubbed report) before after long answers reads keeps = absurd answers
-long_quiet Reorganise (Listed lines) before after long answers reads keeps = absurd answers
-long_quiet Reorganise (Soaked x0 x1 x2 x3 x4 x5 x6) before after long answers reads keeps = absurd answers
-long_quiet Reorganise _ before after long answers reads keeps = absurd (cc long)
-long_quiet Scrub answer before after long answers reads keeps = absurd answers
+long_quiet command answer before after long answers =
+    subst (λ c. ReadsByCommand (attempt command (Ok answer) before after) c → KeepsFiles c before.world.files after.world.files → (after.world.disk ≡ before.world.disk) × (after.world.files ≡ before.world.files))
+    (sym ((is_of before.store.found command).long answer long answers)) (λ reads keeps. (reads, keeps))
 
 -- where an expiry arranges first
 arranging_first : (phase : Phase) (count : ℕ) → (waits phase && (count == 2)) ≡ true → ArrangesFirst phase count
@@ -142,22 +141,14 @@ module _ (shape : Shape) (st : VersionState) (phase : Phase) (files : FileMap) (
 
   pub reads_for : (command : Command) (answer : Answer) → IsNear (task shape 0 st files command) → IsAnswerOf before.store.found command (Ok answer) → ReadsByCommand (attempt command (Ok answer) before after) command →
       ReadsFor shape st after.world.disk (clock before.world.disk) (clock after.world.disk) answer
-  reads_for (Restore v name) (Restored given bytes) near answers reads = subst (RestoreReads shape st after.world.disk (clock before.world.disk) (clock after.world.disk)) (sym answers.2) (walked v near reads.layout)
-  reads_for (Restore v name) (Expired given extents) near answers reads = absurd answers
-  reads_for (Restore v name) _ near answers reads = tt
-  reads_for (Backup name) (Restored given bytes) near answers reads = absurd answers
-  reads_for (Backup name) (Expired given extents) near answers reads = absurd answers
-  reads_for (Backup name) _ near answers reads = tt
-  reads_for Listing (Restored given bytes) near answers reads = absurd (cc answers)
-  reads_for Listing (Expired given extents) near answers reads = absurd (cc answers)
-  reads_for Listing _ near answers reads = tt
-  reads_for Expire (Restored given bytes) near answers reads = absurd answers
-  reads_for Expire (Expired given extents) near answers reads = dropped answers.0 reads
-  reads_for Expire _ near answers reads = tt
-  reads_for Reorganise (Restored given bytes) near answers reads = absurd answers
-  reads_for Reorganise (Expired given extents) near answers reads = absurd answers
-  reads_for Reorganise _ near answers reads = tt
-  reads_for Scrub answer near answers reads = absurd answers
+  reads_for command (Restored given bytes) near answers reads =
+      let of = (is_of before.store.found command).restored given bytes answers in
+      let restored : ReadsRestored (attempt command (Ok (Restored given bytes)) before after) given = subst (ReadsByCommand (attempt command (Ok (Restored given bytes)) before after)) of.1 reads in
+      walked given (subst (λ c. IsNear (task shape 0 st files c)) of.1 near) restored.layout
+  reads_for command (Expired given extents) near answers reads =
+      let of = (is_of before.store.found command).expired given extents answers in
+      dropped of.1 (subst (ReadsByCommand (attempt command (Ok (Expired given extents)) before after)) of.0 reads)
+  reads_for command _ near answers reads = tt
 
 -- the room in an answer's lists says nothing of the phase
 pub phase_after-room : (st : VersionState) (phase : Phase) (answer : Answer) → phase_after st phase (without_room answer) ≡ phase_after st phase answer
