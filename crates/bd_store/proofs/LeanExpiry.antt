@@ -26,6 +26,7 @@ use Rattle.bd_model.specs.History.{History as Versions, oldest, retained}
 use Rattle.bd_model.specs.Sizes.{Sizes}
 use Rattle.bd_model.specs.State.{VersionState, history}
 use Rattle.bd_model.specs.Step.{Outcome, drop_oldest, expired_extents, phase_after, unchanged}
+use Rattle.bd_gate.specs.Commits.{MakesOrFails}
 use Rattle.bd_gate.specs.Halves.{BeforeExtents}
 use Rattle.bd_space.specs.Allotment.{Allotment, extent_count, TakenExactly}
 use Rattle.bd_roll.specs.declared.step.Step.TheVariants.{Expire as Dropping}
@@ -35,7 +36,7 @@ use Rattle.bd_catalog.specs.Opening.{Found}
 use Rattle.bd_roll.specs.Rules.{obeys}
 use Rattle.bd_roll.specs.Splitting.{FitsExpire, after_expire, expired}
 use Rattle.bd_catalog.specs.Standing.{Stands, StandsFor}
-use Rattle.bd_catalog.specs.Steps.{after_step, HasCommitted, InOtherHalf, IsMade, IsOldOrCommitted, LeavesEither}
+use Rattle.bd_catalog.specs.Steps.{after_step, catalogue_calls, HasCommitted, InOtherHalf, IsMade, IsOldOrCommitted, LeavesEither}
 use Rattle.bd_catalog.proofs.Committing.{number-small}
 use Rattle.bd_catalog.proofs.Staged.{InUnowned, either_stands, staged_commit, unowned_unnamed}
 use Rattle.bd_catalog.proofs.Standing.{stands-shows}
@@ -48,7 +49,7 @@ use Rattle.bd_store.specs.Following.{EndsReady, Follows}
 use Rattle.bd_store.specs.Kept.{IsKept}
 use Rattle.bd_store.specs.Steps.{Answered, IsOneStep, LeadsTo, StandsOnEitherSide, Task, task}
 use Rattle.bd_store.specs.Stops.{IsSafeAtStops}
-use Rattle.bd_store.specs.Touches.{AnswersExpiry, ExpiryReads, arranges_first, is_waiting, waits}
+use Rattle.bd_store.specs.Touches.{AnswersExpiry, ExpiryReads, FailsLean, arranges_first, is_waiting, waits}
 use Rattle.bd_store.specs.Writes.{IsUnowned, StepsTo, WritesByCommand}
 use Rattle.bd_store.specs.declared.fault.StoreFault.{StoreFault}
 use Rattle.bd_store.specs.declared.fault.StoreFault.TheVariants.{Damaged, DiskFault, OutOfMemory, SourceFault, TargetFault}
@@ -226,8 +227,8 @@ module _ {D : Type 0} (d : DiskGhosts D) (w : World) (found : Found) (held : ℕ
     };
   }
 
-  pub failed_meets : (now : Found) → d.faults disk0 ≤ d.faults disk1 → Rose (d.faults disk0) (d.faults disk1) → (d.tells → LeavesEither found (after_step found Dropping) h0 h1) → Meets d.tells files (attempt Expire (Err DiskFault) before (after_it now true))
-  failed_meets now later rose either = record {
+  pub failed_meets : (now : Found) → d.faults disk0 ≤ d.faults disk1 → Rose (d.faults disk0) (d.faults disk1) → (d.tells → LeavesEither found (after_step found Dropping) h0 h1) → (d.tells → FailsLean found h0 h1) → Meets d.tells files (attempt Expire (Err DiskFault) before (after_it now true))
+  failed_meets now later rose either calls = record {
     common = record {
       bytes = writes.bytes;
       cause = record { later = record { disk = later; sources = omega arith; targets = omega arith; sink = omega arith }; cause = (rose, refl, refl, refl) };
@@ -242,7 +243,7 @@ module _ {D : Type 0} (d : DiskGhosts D) (w : World) (found : Found) (held : ℕ
     on_disk = λ told. record {
       opens = opens_unarranged (dropped _ (λ no. absurd (cc no)) (either told));
       writes = writes_half told now (Err DiskFault) tt;
-      reads = λ _. nothing_read writes told;
+      reads = λ _. (calls told, nothing_read writes told);
       looks = looks_from _ {places = []} tt (nothing_read writes told);
       damage = tt;
       recipe = λ first. not_both first (lean found fits);
@@ -261,6 +262,7 @@ module _ {D : Type 0} (d : DiskGhosts D) (w : World) (found : Found) (held : ℕ
     pub either : d.tells → LeavesEither found (after_step found Dropping) h0 h1
     pub made : OnOk result (now ≡ after_step found Dropping)
     pub done : OnOk result (d.tells → IsMade found (after_step found Dropping) h0 h1)
+    pub calls : d.tells → MakesOrFails (catalogue_calls found (after_expire found.catalogue)) h0 h1 result
 
   pub expiry_meets : (version extents : ℕ) → version ≡ oldest_in found.catalogue → extents ≡ length (expired found.catalogue) → (now : Found) (worn : Bool) (result : Result (Unit {0}) Failed) → IsCommitted now result → worn ≡ is_err result →
       Meets d.tells files (attempt Expire (answer_of version extents result) before (after_it now worn))
@@ -268,7 +270,7 @@ module _ {D : Type 0} (d : DiskGhosts D) (w : World) (found : Found) (held : ℕ
       subst (λ (f : Found). Meets d.tells files (attempt Expire (Ok (Expired version extents)) before (after_it f worn))) (sym is.made)
       (subst (λ b. Meets d.tells files (attempt Expire (Ok (Expired version extents)) before (after_it (after_step found Dropping) b))) (sym same) (expired_meets version extents is_version is_extents is.cause.kept is.done is.either))
   expiry_meets version extents is_version is_extents now worn (Err failed) is same =
-      subst (λ b. Meets d.tells files (attempt Expire (Err DiskFault) before (after_it now b))) (sym same) (failed_meets now is.cause.later is.cause.failed is.either)
+      subst (λ b. Meets d.tells files (attempt Expire (Err DiskFault) before (after_it now b))) (sym same) (failed_meets now is.cause.later is.cause.failed is.either is.calls)
 
 -- what it gave up is free again, and what the catalogue owns is taken
 pub kept_expired : (found now : Found) (space : Allotment) (worn : Bool) (result : Result (Unit {0}) Failed) → worn ≡ is_err result → OnOk result (now ≡ after_step found Dropping) → OnOk result (TakenExactly space (all_extents now.catalogue)) →
@@ -329,7 +331,7 @@ lean_follows {disk} {files} {result} {before} {after} settled some meets =
               expired = λ version extents read. (read no).1;
               arranged = λ owned free read. (read no).1;
               source = λ read. read no;
-              disk = λ read. read no;
+              disk = λ read. (read no).1;
               memory = λ read. read no;
             }) result ends is.reads;
           };

@@ -10,13 +10,14 @@ use Rattle.bd_model.specs.declared.layout.Phase.TheVariants.{Settled, Waiting}
 use Rattle.bd_model.specs.declared.shape.Shape.{Shape}
 use Rattle.bd_model.specs.declared.answer.Answer.{Answer}
 use Rattle.bd_model.specs.declared.answer.Answer.TheVariants.{Arranged, BackedUp, Expired, FullExtents, FullNumbers, FullVersions, NoVersion, NothingRetained, Restored}
+use Rattle.bd_gate.specs.Commits.{FailsWithin}
 use Rattle.bd_roll.specs.Catalogue.{oldest_in, retained_in}
 use Rattle.bd_catalog.specs.Opening.{Found}
 use Rattle.bd_catalog.specs.Rows.{spots_in, walk}
 use Rattle.bd_catalog.specs.Sound.{recipe_of}
 use Rattle.bd_roll.specs.Splitting.{after_expire}
 use Rattle.bd_catalog.specs.Standing.{StandsFor}
-use Rattle.bd_catalog.specs.Steps.{IsMade}
+use Rattle.bd_catalog.specs.Steps.{catalogue_calls, IsMade}
 use Rattle.bd_catalog.specs.Walks.{restore_reads, IsLean}
 use Rattle.bd_recipe.specs.Reading.{length_in, recipe_places, InRecipe}
 use Rattle.bd_arrange.specs.Arranged.{InDue}
@@ -163,6 +164,10 @@ pub record IsLeanExpiry (found after : Found) (old new : History) : Type 0 where
   pub catalogue : after.catalogue ≡ after_expire found.catalogue
   pub made : IsMade found after old new
 
+-- one whose disk failed makes a first part of these calls
+abbrev pub FailsLean : Found → History → History → Type 0
+FailsLean found old new = FailsWithin (catalogue_calls found (after_expire found.catalogue)) old new
+
 -- It reads nothing, at any answer; where nothing is retained it touches nothing.
 abbrev pub ExpiryReadsFor : Kind → Found → Found → History → History → Type 0
 ExpiryReadsFor (Gained bytes chunks fresh) found after old new = arranges_first found ≡ false → IsLeanExpiry found after old new × ReadsOnly [] old new
@@ -178,6 +183,6 @@ abbrev pub ExpiryReads : Found → Found → History → History → Result Answ
 ExpiryReads found after old new (Ok answer) = ExpiryReadsFor (kind_of answer) found after old new
 ExpiryReads found after old new (Err SourceFault) = arranges_first found ≡ false → ReadsOnly [] old new
 ExpiryReads found after old new (Err TargetFault) = arranges_first found ≡ false → ReadsOnly [] old new
-ExpiryReads found after old new (Err DiskFault) = arranges_first found ≡ false → ReadsOnly [] old new
+ExpiryReads found after old new (Err DiskFault) = arranges_first found ≡ false → FailsLean found old new × ReadsOnly [] old new
 ExpiryReads found after old new (Err (Damaged damage)) = arranges_first found ≡ false → ReadsOnly [] old new
 ExpiryReads found after old new (Err OutOfMemory) = arranges_first found ≡ false → ReadsOnly [] old new

@@ -51,5 +51,5 @@ returns g c =
           version c.drop_volume-extents.result
           (omega (arith, c.newest.ensures, c.retained.ensures, ap (λ (s : Shown). retained_in s.found.catalogue) c.self.view_is, c.requires.fits.some)) c.drop_volume-extents.ensures
           c.commit-named.new.self.found c.is_err-self-inside.result c.commit-named.result
-          (record { cause = c.commit-named.ensures.cause; either = c.commit-named.ensures.either; made = c.commit-named.ensures.made; done = c.commit-named.ensures.done }) c.is_err-self-inside.ensures.value)));
+          (record { cause = c.commit-named.ensures.cause; either = c.commit-named.ensures.either; made = c.commit-named.ensures.made; done = c.commit-named.ensures.done; calls = c.commit-named.ensures.calls }) c.is_err-self-inside.ensures.value)));
     }
