@@ -32,6 +32,10 @@ pub record CountsStrays (files : FileMap) (name : List ℕ) (before now : ℕ) :
   pub rose : Lacks files name → Rose before now
   pub kept : (bytes : List ℕ) → Holds files name bytes → now ≡ before
 
+-- each other name is as unfinished as it was
+pub record UnfinishesOnly (name : List ℕ) (old new : List (List ℕ)) : Type 0 where
+  pub others : (other : List ℕ) → (other ≡ name → ⊥) → Contains new other ↔ Contains old other
+
 -- the names but this one
 abbrev pub without : List ℕ → List (List ℕ) → List (List ℕ)
 without name names = filter (λ other. not (bytes_eq other name)) names

@@ -86,7 +86,7 @@ refuses_whole t space a parts held held_then some is has same OutOfMemory r = tt
 
 -- a source that was read to its end is there
 pub files_read : {F T U : Type 0} {g : FileGhosts F} {name : List ℕ} {old new : F} {done : Result T IntakeFault} (r : Result U IntakeFault) → (MissesSource done → ⊥) → LeavesFiles g name old new done → LeavesFiles g name old new r
-files_read r there leaves = record { targets = leaves.targets; strays = leaves.strays; missing = λ t lacks. absurd (there (leaves.missing t lacks)); same = leaves.same }
+files_read r there leaves = record { targets = leaves.targets; strays = leaves.strays; missing = λ t lacks. absurd (there (leaves.missing t lacks)); same = leaves.same; unfinished = leaves.unfinished }
 
 -- ---- the beginning
 

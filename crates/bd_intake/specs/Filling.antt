@@ -53,3 +53,4 @@ pub record LeavesFiles {F T : Type 0} (g : Ghosts F) (name : List ℕ) (old new 
   pub strays : g.tells → CountsMissing (g.files old) name (g.strays old) (g.strays new)
   pub missing : g.tells → Lacks (g.files old) name → MissesSource result
   pub same : g.tells → g.files new ≡ g.files old
+  pub unfinished : g.tells → g.unfinished new ≡ g.unfinished old

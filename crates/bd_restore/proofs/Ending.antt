@@ -21,7 +21,7 @@ use Rattle.bd_restore.specs.Target.{held, flag_at, mark_at, HasChunks, IsTarget}
 use Rattle.bd_restore.specs.Walk.{joined, walk_reads, AreFlags, AreGiven, Gives, Walks}
 use Rattle.bd_volume.specs.Headers.{HasGoodHeaders}
 use Rattle.bd_restore.proofs.Finishing.{all_given, all_marked, flags_none, given_none, only_put}
-use Rattle.bd_restore.proofs.Seeing.{met_needed, met_part, met_seen, met_whole, missing_seen, missing_whole}
+use Rattle.bd_restore.proofs.Seeing.{met_walked, met_needed, met_part, met_seen, met_whole, missing_seen, missing_whole}
 
 module _ (found : Found) (plan : Planned) (filled : List Bool) (old new : History) (fresh : filled ≡ replicate (length plan.entries) false) where
   abbrev s : Sizes
@@ -51,6 +51,7 @@ module _ (found : Found) (plan : Planned) (filled : List Bool) (old new : Histor
   pub met_by : (damage : Damage) → MetOn (record { sizes = s; version = v; entries = entries }) image filled (walk c v) damage old new → IsMetBy found plan damage old new
   met_by damage met = record {
     part = met_part s c image v entries filled damage old new none_filled met;
+    walked = met_walked s c image v entries filled damage old new none_filled met;
     needed = met_needed s c image v entries filled damage old new none_filled met;
     seen = λ are. met_seen s c image v entries filled damage old new none_filled met are;
     whole = λ sound. met_whole s c image v entries filled damage old new none_filled met sound;
@@ -65,6 +66,7 @@ module _ (found : Found) (plan : Planned) (filled : List Bool) (old new : Histor
         let lt : k < length entries = subst (λ n. k < n) after.count inside in
         record {
           part = refl;
+          walked = λ no. no;
           needed = tt;
           seen = λ are. missing_seen s c image v entries filled_now after k lt miss m (walk_reads s entries [] spots) is_mark are (walked.reads [] none_filled) good;
           whole = λ sound. missing_whole s c image v entries filled_now after k lt miss sound;

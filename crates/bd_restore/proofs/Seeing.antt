@@ -29,7 +29,7 @@ use Rattle.bd_catalog.specs.Sound.{is_stored, part_holds, part_records, recipe_o
 use Rattle.bd_recipe.specs.Reading.{chunks_in, recipe_places}
 use Rattle.bd_recipe.proofs.Entries.{length-entries_in}
 use Rattle.bd_recipe.proofs.Found.{places_of_entry}
-use Rattle.bd_restore.specs.Met.{BreaksAt, ComesTo, HasEntry, IsNeeded, IsReached, IsSeenAfter, IsWhole, MetOn}
+use Rattle.bd_restore.specs.Met.{BreaksAt, ComesTo, HasEntry, IsNeeded, IsOfRecipe, IsReached, IsSeenAfter, IsWhole, MetOn}
 use Rattle.bd_restore.specs.Target.{flag_at, length_at, mark_at}
 use Rattle.bd_restore.specs.Walk.{AreFlags, Sought, is_found}
 use Rattle.bd_volume.specs.Headers.{HasGoodHeaders}
@@ -114,6 +114,18 @@ module _ (s : Sizes) (c : Catalogue) (image : List ℕ) (v : ℕ) where
 
     pub met_part : IsOfVersion v damage
     met_part = part_of damage breaks
+
+    walked_by : (d : Damage) → BreaksAt w (records_at ahead) p x d met.places → ¬ IsOfRecipe d
+    walked_by (Header who at said left) b it = it
+    walked_by (Body who at recorded found) b it = it
+    walked_by (Length u m recorded found) b it = it
+    walked_by (Entry u index said start) b it = b
+    walked_by (Sum u recorded found) b it = b
+    walked_by (Row who start recorded found) b it = it
+    walked_by (Missing u index m) b it = it
+
+    pub met_walked : ¬ IsOfRecipe damage
+    met_walked = walked_by damage breaks
 
     needed_by : (d : Damage) → BreaksAt w (records_at ahead) p x d met.places → IsNeeded entries d
     needed_by (Header who at said left) b = tt

@@ -84,6 +84,16 @@ abbrev pub MeetsOn : {D F : Type 0} → Ghosts D → Sought → List RowPlace �
 MeetsOn d w rows old new damage =
     d.tells → MetOn w (contents (d.history old.disk)) old.progress.filled.items rows damage (d.history old.disk) (d.history new.disk)
 
+-- It is of the recipe, which is read and checked before the target is begun.
+abbrev pub IsOfRecipe : Damage → Type 0
+IsOfRecipe (Entry u index said start) = Unit {0}
+IsOfRecipe (Sum u recorded found) = Unit {0}
+IsOfRecipe (Header who at said left) = ⊥
+IsOfRecipe (Row who start recorded found) = ⊥
+IsOfRecipe (Body who at recorded found) = ⊥
+IsOfRecipe (Length u m recorded found) = ⊥
+IsOfRecipe (Missing u index m) = ⊥
+
 -- A restore came to what the damage names: to a record that breaks the rule, behind records whose headers hold; to an entry
 -- without a record behind a walk on which all hold. A damage of the recipe comes before the walk.
 abbrev pub ComesTo : Sought → List ℕ → List RowPlace → Damage → List ℕ → Type 0

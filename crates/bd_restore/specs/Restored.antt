@@ -9,7 +9,7 @@ use Rattle.bd_catalog.specs.Damages.{IsOfVersion}
 use Rattle.bd_catalog.specs.Opening.{Found}
 use Rattle.bd_catalog.specs.Rows.{spots_in, walk}
 use Rattle.bd_catalog.specs.Sound.{recipe_of, records_for}
-use Rattle.bd_restore.specs.Met.{IsNeeded, IsSeenAfter, IsWhole}
+use Rattle.bd_restore.specs.Met.{IsNeeded, IsOfRecipe, IsSeenAfter, IsWhole}
 use Rattle.bd_restore.specs.Plan.{Planned}
 use Rattle.bd_restore.specs.Target.{held, HasChunks}
 use Rattle.bd_restore.specs.Walk.{joined, walk_reads}
@@ -26,10 +26,11 @@ pub record GivesBack (found : Found) (plan : Planned) (image name : List ℕ) (o
   pub file : new ≡ map.insert old name (joined plan.entries (records_for found.sizes found.catalogue image plan.version))
   pub checked : HasChunks plan.entries (held new name)
 
--- The damage is one of a restore of the plan's version. Where the plan has the entries of its recipe, the bytes that it
+-- The damage is one of a restore of the plan's version, and none of the recipe. Where the plan has the entries of its recipe, the bytes that it
 -- names were read, they break its rule, and the restore came to it; and some row or entry of the walk doesn't hold.
 pub record IsMetBy (found : Found) (plan : Planned) (damage : Damage) (old new : History) : Type 0 where
   pub part : IsOfVersion plan.version damage
+  pub walked : ¬ IsOfRecipe damage
   pub needed : IsNeeded plan.entries damage
   pub seen : plan.entries ≡ recipe_of found.sizes found.catalogue (contents old) plan.version → IsSeenAfter found.sizes found.catalogue (contents old) plan.version damage old new
   pub whole : ¬ IsWhole found.sizes found.catalogue (contents old) plan.version plan.entries

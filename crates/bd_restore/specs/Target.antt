@@ -2,7 +2,7 @@
 use Rattle.std.specs.Prelude.{◌≡◌, ◌≢◌, ℕ, ◌<◌, Bool, true, List, [], length, map, take, sum_by, slice_index, slice_index_or, unwrap_or, Some, false}
 use Rattle.std.specs.FinMap as map
 use Rattle.bd_disk.specs.Images.{bytes_at}
-use Rattle.bd_files.specs.Files.{ChangesOnly}
+use Rattle.bd_files.specs.Files.{ChangesOnly, UnfinishesOnly}
 use Rattle.bd_files.specs.declared.files.Files.{Ghosts}
 use Rattle.bd_model.specs.FileMap.{FileMap}
 use Rattle.bd_model.specs.Marks.{mark}
@@ -32,11 +32,11 @@ pub record IsTarget (entries : List RecipeEntry) (name : List ℕ) (files : File
   pub there : map.get files name ≡ Some (held files name)
   pub long : length (held files name) ≡ total entries
 
--- where the files tell, no more names were missing, and what is under other names is as it was
+-- where the files tell, no more names were missing, and each other name has what it had, and is as unfinished as it was
 unfoldable pub KeepsOthers : {F : Type 0} → Ghosts F → List ℕ → F → F → Type 0
-KeepsOthers g name old new = g.tells → (g.strays new ≡ g.strays old) × ChangesOnly name (g.files old) (g.files new)
+KeepsOthers g name old new = g.tells → (g.strays new ≡ g.strays old) × ChangesOnly name (g.files old) (g.files new) × UnfinishesOnly name (g.unfinished old) (g.unfinished new)
 
--- No more sources failed. Where the files tell, no more names were missing, and what is under other names is as it was.
+-- no more sources failed, and what the files tell beside the name stays
 pub record ChangesTarget {F : Type 0} (g : Ghosts F) (name : List ℕ) (old new : F) : Type 0 where
   pub sources : g.source_faults new ≡ g.source_faults old
   pub others : KeepsOthers g name old new

@@ -12,7 +12,8 @@ use Rattle.bd_model.specs.Step.{Outcome, phase_after, step}
 use Rattle.bd_catalog.specs.Standing.{Stands, StandsFor}
 use Rattle.bd_store.specs.Steps.{task, StandsOnEitherSide}
 use Rattle.bd_session.specs.Course.{Course, answered, next_command}
-use Rattle.bd_session.specs.Headline.{Acknowledged, IsHalfWritten, MeetsTheHeadline, StandsAfter, StandsInPhase, carried_out, last_state}
+use Rattle.bd_session.specs.Headline.{Acknowledged, MeetsTheHeadline, StandsAfter, StandsInPhase, carried_out, last_state}
+use Rattle.bd_session.specs.Keeping.{IsHalfWritten}
 use Rattle.bd_session.specs.Promised.{Start, reached}
 use Rattle.bd_session.specs.Reads.{ReadsInCourse}
 use Rattle.bd_session.specs.declared.report.SessionEnd.TheVariants.{Done, DiskFault, OutputFault, OutOfMemory}

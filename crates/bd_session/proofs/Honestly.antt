@@ -20,14 +20,15 @@ use Rattle.bd_model.specs.declared.shape.Shape.{Shape}
 use Rattle.bd_model.proofs.ListLemmas.{same_some}
 use Rattle.bd_catalog.specs.Standing.{Stands, StandsFor}
 use Rattle.bd_store.specs.Deeds.{target_of}
-use Rattle.bd_store.specs.Attempts.{Meets, MeetsOnBoth, Scene, attempt}
+use Rattle.bd_store.specs.Attempts.{Meets, MeetsOnBoth, Scene, SparesTarget, attempt}
 use Rattle.bd_store.specs.Steps.{Task, task, Answered, IsNear, IsOneStep, KeepsFiles, MakesStep}
 use Rattle.bd_store.specs.Stops.{IsSafeAtStops, StopsOnEitherSide}
 use Rattle.bd_store.specs.declared.fault.StoreFault.{StoreFault}
 use Rattle.bd_store.specs.declared.fault.StoreFault.TheVariants.{SourceFault as StoreSource, TargetFault as StoreTarget, DiskFault as StoreDisk, Damaged as StoreDamaged, OutOfMemory as StoreMemory}
 use Rattle.bd_session.specs.Course.{Course, answered}
-use Rattle.bd_session.specs.Ends.{EndsBy, EndsByCount, end_of, session_cause}
-use Rattle.bd_session.specs.Headline.{IsHalfWritten, LeavesTarget, MeetsTheHeadline, NoFault, carried_out, last_state}
+use Rattle.bd_session.specs.Ends.{EndsBy, EndsByCount, LeavesTarget, end_of, session_cause}
+use Rattle.bd_session.specs.Headline.{MeetsTheHeadline, NoFault, carried_out, last_state}
+use Rattle.bd_session.specs.Keeping.{IsHalfWritten}
 use Rattle.bd_session.specs.Promised.{IsHonest, IsPromised, MarksTellApart, Start, start}
 use Rattle.bd_session.specs.Session.{MeetsHonestly}
 use Rattle.bd_session.specs.Turns.{before_text, Goes, LastTurn, Turns, no_turn, next_turn, HasEnded, all_answered, at_rest, in_turn, lacks_memory, next_is_scrub}
@@ -159,18 +160,20 @@ module _ {disk files sink : Type 0} {c : Course} {first now : Scene} (told : dis
     all_kept : now.world.files ≡ g.point.files → (name : List ℕ) → IsHalfWritten c name ⊎ (map.get now.world.files name ≡ map.get g.point.files name)
     all_kept same name = inr (ap (λ (m : FileMap). map.get m name) same)
 
-    by_fault : (fault : StoreFault) → c.ending ≡ end_of fault → MakesStep t g.phase (contents now.world.disk) now.world.files (Err fault) → StopsOnEitherSide t goes.last.world.disk now.world.disk (Err fault) → MeetsTheHeadline s (clock s.disk) c now.world.disk now.world.files
-    by_fault StoreSource is kept stops = left (subst Leaves (sym is) leaves_source) (record { phase = Settled; so = kept.stands }) stops.done (all_kept kept.beside)
-    by_fault StoreTarget is kept stops = left (subst Leaves (sym is) leaves_target) kept.stands stops.done (half_or_kept (subst LeavesTarget (sym is) tt) kept.beside)
-    by_fault StoreMemory is kept stops = left (subst Leaves (sym is) leaves_memory) kept.stands stops.done (half_or_kept (subst LeavesTarget (sym is) tt) kept.beside)
-    by_fault StoreDisk is kept stops = ends_failed s c goes.last.world.disk now.world.disk goes.last.world.files g writes turn.command turn.next now.world.files is kept.stands stops.within (half_or_kept (subst LeavesTarget (sym is) tt) kept.beside)
-    by_fault (StoreDamaged damage) is kept stops = absurd kept
+    by_fault : (fault : StoreFault) → c.ending ≡ end_of fault → MakesStep t g.phase (contents now.world.disk) now.world.files (Err fault) → StopsOnEitherSide t goes.last.world.disk now.world.disk (Err fault) →
+        SparesTarget disk goes.last.world (before_text goes.last now).world (Err fault) → MeetsTheHeadline s (clock s.disk) c now.world.disk now.world.files
+    by_fault StoreSource is kept stops spares = left (subst Leaves (sym is) leaves_source) (record { phase = Settled; so = kept.stands }) stops.done (all_kept kept.beside)
+    by_fault StoreTarget is kept stops spares = left (subst Leaves (sym is) leaves_target) kept.stands stops.done (half_or_kept (subst LeavesTarget (sym is) tt) kept.beside)
+    by_fault StoreMemory is kept stops spares = left (subst Leaves (sym is) leaves_memory) kept.stands stops.done (all_kept (spares.files ∙ g.beside))
+    by_fault StoreDisk is kept stops spares = ends_failed s c goes.last.world.disk now.world.disk goes.last.world.files g writes turn.command turn.next now.world.files is kept.stands stops.within (half_or_kept (subst LeavesTarget (sym is) tt) kept.beside)
+    by_fault (StoreDamaged damage) is kept stops spares = absurd kept
 
     by_result : (result : Result Answer StoreFault) → Meets disk files (attempt turn.command result goes.last (before_text goes.last now)) → EndsBy sink result c.ending goes.last.world now.world → MeetsTheHeadline s (clock s.disk) c now.world.disk now.world.files
     by_result (Err fault) meets ends =
         by_fault fault ends.0
         (made s c.commands c.answers c.clocks goes.last now g held_last turn.command near (Err fault) (meets.on_both told files_told))
         (stopped s c.commands c.answers c.clocks goes.last now g held_last turn.command near (Err fault) (meets.on_both told files_told))
+        (meets.on_files files_told).spares
     by_result (Ok answer) meets ends =
         let done : Answered t g.phase answer (contents now.world.disk) now.world.files = made s c.commands c.answers c.clocks goes.last now g held_last turn.command near (Ok answer) (meets.on_both told files_told) in
         let stops : StopsOnEitherSide t goes.last.world.disk now.world.disk (Ok answer) = stopped s c.commands c.answers c.clocks goes.last now g held_last turn.command near (Ok answer) (meets.on_both told files_told) in

@@ -3,6 +3,7 @@ pub mod Apart
 pub mod ByCommand
 pub mod Dropping
 pub mod Ending
+pub mod Finished
 pub mod Going
 pub mod Handing
 pub mod Honestly

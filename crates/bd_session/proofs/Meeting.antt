@@ -5,6 +5,7 @@ use Rattle.bd_session.specs.Session.{MeetsSession}
 use Rattle.bd_session.specs.Turns.{Goes}
 use Rattle.bd_session.proofs.Honestly.{meets_honestly}
 use Rattle.bd_session.proofs.Handing.{hands_answers}
+use Rattle.bd_session.proofs.Finished.{stays_finished}
 use Rattle.bd_session.proofs.Kept.{by_commands, clocks_rise, keeps_others, met_by, strays_only}
 use Rattle.bd_session.proofs.Stopping.{catalogues_stay}
 use Rattle.bd_session.proofs.Turning.{IsOpen, by_count, bytes_stay, keeps_store}
@@ -19,6 +20,7 @@ meets_session opened goes = record {
   written = hands_answers goes;
   others = keeps_others goes;
   strays = strays_only goes;
+  finished = stays_finished goes;
   writes = by_commands goes;
   goes = goes;
   catalogues = λ told sure. catalogues_stay told goes opened sure;

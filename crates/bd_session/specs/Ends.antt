@@ -8,6 +8,7 @@ use Rattle.bd_model.specs.declared.answer.Answer.{Answer}
 use Rattle.bd_model.specs.declared.command.Command.{Command}
 use Rattle.bd_model.specs.declared.command.Command.TheVariants.{Scrub}
 use Rattle.bd_catalog.specs.Opening.{Found}
+use Rattle.bd_restore.specs.Met.{IsOfRecipe}
 use Rattle.bd_script.specs.Long.{is_long}
 use Rattle.bd_store.specs.Deeds.{Deed, TakesIn, GivesBack, GivesUp, Settles, Checks, Tells, deed_of, source_of, target_of}
 use Rattle.bd_store.specs.Causes.{HasRisen, NoneFell}
@@ -42,6 +43,17 @@ EndsBy sink (Err fault) ending before now = (ending ≡ end_of fault) × LeavesS
 EndsBy sink (Ok answer) OutputFault before now = FailsSink sink (answer_text answer) before now
 EndsBy sink (Ok answer) OutOfMemory before now = (is_long answer ≡ true) × LeavesSink before now
 EndsBy sink (Ok answer) ending before now = ⊥
+
+-- An end that may leave the target of a restore half written: it isn't begun where memory is wanted or the recipe is damaged.
+abbrev pub LeavesTarget : SessionEnd → Type 0
+LeavesTarget Done = ⊥
+LeavesTarget SourceFault = ⊥
+LeavesTarget TargetFault = Unit {0}
+LeavesTarget DiskFault = Unit {0}
+LeavesTarget (Damaged damage) = ¬ IsOfRecipe damage
+LeavesTarget OutputFault = ⊥
+LeavesTarget OutOfMemory = ⊥
+LeavesTarget Unbuilt = ⊥
 
 -- ---- by which count
 

@@ -11,12 +11,12 @@ use Rattle.bd_model.specs.declared.layout.Phase.{Phase}
 use Rattle.bd_model.specs.Folds.{Point, answers_of, unheld}
 use Rattle.bd_model.specs.Step.{without_room}
 use Rattle.bd_catalog.specs.Standing.{StandsFor, Stands}
-use Rattle.bd_store.specs.Deeds.{target_of}
-use Rattle.bd_session.specs.Course.{Course, answered, next_command}
+use Rattle.bd_session.specs.Course.{Course, answered}
+use Rattle.bd_session.specs.Keeping.{IsHalfWritten}
 use Rattle.bd_session.specs.Promised.{Start, reached, phase_reached}
 use Rattle.bd_session.specs.Reads.{ReadsInCourse}
 use Rattle.bd_session.specs.declared.report.SessionEnd.{SessionEnd}
-use Rattle.bd_session.specs.declared.report.SessionEnd.TheVariants.{Done, TargetFault, DiskFault, Damaged, OutputFault, OutOfMemory, Unbuilt}
+use Rattle.bd_session.specs.declared.report.SessionEnd.TheVariants.{Done, DiskFault, Damaged, OutputFault, OutOfMemory, Unbuilt}
 
 -- the image stands for the state to which the first k commands lead; where there is no such state, no image does
 pub record StandsAfter (s : Start) (commands : List Command) (k : ℕ) (image : List ℕ) : Type 0 where
@@ -52,20 +52,6 @@ carried_out _ k = k
 -- every command that was begun was carried out
 abbrev pub IsCarriedOut : SessionEnd → Type 0
 IsCarriedOut ending = (ending ≡ Done) ⊎ (ending ≡ OutputFault)
-
--- an end that may leave the target of a restore half written
-abbrev pub LeavesTarget : SessionEnd → Type 0
-LeavesTarget TargetFault = Unit {0}
-LeavesTarget DiskFault = Unit {0}
-LeavesTarget OutOfMemory = Unit {0}
-LeavesTarget _ = ⊥
-
--- the target of a command that didn't end well
-pub record IsHalfWritten (c : Course) (name : List ℕ) : Type 0 where
-  pub command : Command
-  pub next : next_command c ≡ Some command
-  pub target : target_of command ≡ Some name
-  pub fault : LeavesTarget c.ending
 
 -- The contents stand for the state after the commands that were carried out, or, after a fault of the disk, for the next
 -- one. The files are those of that state. Where every command that was begun was carried out, the phase is theirs too.

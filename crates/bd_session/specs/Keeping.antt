@@ -3,16 +3,19 @@ use Rattle.std.specs.Prelude.{◌≡◌, ◌⊎◌, ◌↔◌, ℕ, ◌+◌, ◌
 use Rattle.std.specs.FinMap as map
 use Rattle.bd_disk.specs.History.{History, clock}
 use Rattle.bd_disk.specs.Made.{WritesNothing, WritesOnly}
-use Rattle.bd_files.specs.Files.{Lacks}
+use Rattle.bd_files.specs.Files.{IsFinished, Lacks}
 use Rattle.bd_files.specs.World.{World}
 use Rattle.bd_model.specs.FileMap.{FileMap}
 use Rattle.bd_model.specs.declared.answer.Answer.{Answer}
+use Rattle.bd_model.specs.declared.answer.Answer.TheVariants.{Restored}
 use Rattle.bd_model.specs.declared.command.Command.{Command}
+use Rattle.bd_model.specs.declared.command.Command.TheVariants.{Restore}
 use Rattle.bd_catalog.specs.Agreement.{Agrees}
 use Rattle.bd_catalog.specs.Opening.{Found}
 use Rattle.bd_store.specs.Attempts.{Scene}
 use Rattle.bd_store.specs.Deeds.{Deed, TakesIn, GivesBack, GivesUp, Settles, Checks, Tells, deed_of, source_of, target_of}
-use Rattle.bd_session.specs.Course.{Course, answered}
+use Rattle.bd_session.specs.Course.{Course, answered, next_command}
+use Rattle.bd_session.specs.Ends.{LeavesTarget}
 use Rattle.bd_session.specs.declared.report.SessionEnd.{SessionEnd}
 use Rattle.bd_session.specs.declared.report.SessionEnd.TheVariants.{DiskFault}
 
@@ -45,6 +48,27 @@ pub record IsTargetBelow (c : Course) (n : ℕ) (name : List ℕ) : Type 0 where
 -- each file has what it had, but for the targets of commands that were tried
 pub record KeepsOthers (c : Course) (before now : FileMap) : Type 0 where
   pub others : (name : List ℕ) → IsTargetBelow c (answered c + 1) name ⊎ (map.get now name ≡ map.get before name)
+
+-- the target of a command that didn't end well
+pub record IsHalfWritten (c : Course) (name : List ℕ) : Type 0 where
+  pub command : Command
+  pub next : next_command c ≡ Some command
+  pub target : target_of command ≡ Some name
+  pub fault : LeavesTarget c.ending
+
+-- one of these commands was answered that it gave a version back to this name
+pub record IsGivenBack (commands : List Command) (answers : List Answer) (name : List ℕ) : Type 0 where
+  pub number : ℕ
+  pub version : ℕ
+  pub bytes : ℕ
+  pub command : slice_get commands number ≡ Some (Restore version name)
+  pub answer : slice_get answers number ≡ Some (Restored version bytes)
+
+-- each name that was finished, and each to which a version was given back, is finished, but for the target of a command that
+-- didn't end well
+pub record StaysFinished (c : Course) (before now : World) : Type 0 where
+  pub kept : (name : List ℕ) → IsFinished name before.unfinished → IsHalfWritten c name ⊎ IsFinished name now.unfinished
+  pub given : (name : List ℕ) → IsGivenBack c.commands c.answers name → IsHalfWritten c name ⊎ IsFinished name now.unfinished
 
 -- A command was tried whose source wasn't there: neither at entry, nor, unless it is an earlier one's target, when it was
 -- asked for.

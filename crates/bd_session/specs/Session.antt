@@ -9,7 +9,7 @@ use Rattle.bd_store.specs.Attempts.{Scene}
 use Rattle.bd_session.specs.Course.{Course, answered, next_command}
 use Rattle.bd_session.specs.Ends.{EndsOnlyByCount, IsMetBy, session_cause}
 use Rattle.bd_session.specs.Headline.{EndsWell, MeetsTheHeadline}
-use Rattle.bd_session.specs.Keeping.{ClocksRise, KeepsOthers, KeepsStore, StraysOnlyFor, WritesByCommands}
+use Rattle.bd_session.specs.Keeping.{ClocksRise, KeepsOthers, KeepsStore, StaysFinished, StraysOnlyFor, WritesByCommands}
 use Rattle.bd_session.specs.Promised.{IsPromised, start}
 use Rattle.bd_session.specs.Stops.{OpensAsStore, CataloguesStay}
 use Rattle.bd_session.specs.Telling.{HandsAnswers}
@@ -35,6 +35,7 @@ pub record MeetsSession (disk files sink : Type 0) (c : Course) (before now : Sc
   pub written : sink → HandsAnswers disk c.answers c.clocks (session_cause c.ending) before.world.handed now.world.handed
   pub others : files → KeepsOthers c before.world.files now.world.files
   pub strays : files → StraysOnlyFor c before.world now.world
+  pub finished : disk → files → StaysFinished c before.world now.world
   pub writes : disk → WritesByCommands c before.world.disk now.world.disk
   -- over whatever image: each command, from where the one before it left, is all that a command on a store is promised to be
   pub goes : Goes disk files sink c before now

@@ -21,7 +21,7 @@ use Rattle.bd_model.specs.declared.layout.Phase.TheVariants.{Settled}
 use Rattle.bd_recipe.specs.Marked.{Marked}
 use Rattle.bd_store.specs.Writes.{arranges}
 use Rattle.bd_arrange.specs.Arranged.{IsSpared}
-use Rattle.bd_store.specs.Attempts.{scene, Attempt, Meets, Scene, attempt, EndsFor, MayLook, NamesFor, TransfersByCommand, NewestEnds, ReadsByCommand}
+use Rattle.bd_store.specs.Attempts.{scene, Attempt, Meets, Scene, attempt, EndsFor, MayLook, NamesFor, TransfersByCommand, NewestEnds, ReadsByCommand, SparesTarget}
 use Rattle.bd_store.specs.Deeds.{Deed, TakesIn, GivesBack, GivesUp, Settles, Checks, Tells, deed_of}
 use Rattle.bd_store.specs.Following.{Follows, IsMadeReady, IsMadeReadyOn, MakesReady, ReadiesFor}
 use Rattle.bd_store.specs.Naming.{NamesArranging}
@@ -148,6 +148,17 @@ module _ (disk files : Type 0) (command : Command) (before : Scene) (mid : Found
       arranging = λ waiting keeps. keeps;
     }) command makes
 
+    spares : SparesTarget disk now.world after.world result → SparesTarget disk before.world after.world result
+    spares = by_end (λ e. SparesTarget disk now.world after.world e → SparesTarget disk before.world after.world e) (record {
+      named = λ version bytes chunks fresh need is. tt;
+      full = λ counted free held is. tt;
+      expired = λ version extents is. tt;
+      arranged = λ owned free is. tt;
+      source = λ is. record { files = is.files; unfinished = is.unfinished };
+      disk = λ is. tt;
+      memory = λ is. record { files = is.files; unfinished = is.unfinished };
+    }) result follows.ends
+
     rested : arranges before.store.found command ≡ false → before.store.found.catalogue.phase ≡ Settled
     rested = ready_settled before.store.found (deed_of before.store.found command) makes
 
@@ -178,7 +189,13 @@ module _ (disk files : Type 0) (command : Command) (before : Scene) (mid : Found
         damage = damage (deed_of before.store.found command) makes;
         recipe = recipe told (deed_of before.store.found command) makes;
       };
-      on_files = λ told. record { beside = (follows.on_files told).beside; strays = (follows.on_files told).strays; finished = (follows.on_files told).finished };
+      on_files = λ told. record {
+        beside = (follows.on_files told).beside;
+        strays = (follows.on_files told).strays;
+        finished = (follows.on_files told).finished;
+        unfinished = (follows.on_files told).unfinished;
+        spares = spares (follows.on_files told).spares;
+      };
       on_both = λ told files_tell. record {
         transfers = transfers told (follows.on_both told files_tell).transfers;
         step = step_before command before.store.held before.store.found mid before.world.disk h1 after.world.disk before.world.files after.world.files result neighbour makes follows.ends follows.answer (agrees told) (readied told).readies.states (follows.on_both told files_tell).step (same_files (follows.on_files files_tell).beside);

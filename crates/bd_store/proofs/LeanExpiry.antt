@@ -219,7 +219,7 @@ module _ {D : Type 0} (d : DiskGhosts D) (w : World) (found : Found) (held : ℕ
       damage = tt;
       recipe = λ first. not_both first (lean found fits);
     };
-    on_files = λ told. record { beside = refl; strays = record { later = omega arith; missing = inl refl }; finished = tt };
+    on_files = λ told. record { beside = refl; strays = record { later = omega arith; missing = inl refl }; finished = tt; unfinished = refl; spares = tt };
     on_both = λ told files_tell. record {
       transfers = tt;
       step = expired_step found held w.files h0 h1 (agrees told) fits version extents is_version is_extents (made told) (either told).stops;
@@ -248,7 +248,7 @@ module _ {D : Type 0} (d : DiskGhosts D) (w : World) (found : Found) (held : ℕ
       damage = tt;
       recipe = λ first. not_both first (lean found fits);
     };
-    on_files = λ told. record { beside = refl; strays = record { later = omega arith; missing = inl refl }; finished = tt };
+    on_files = λ told. record { beside = refl; strays = record { later = omega arith; missing = inl refl }; finished = tt; unfinished = refl; spares = tt };
     on_both = λ told files_tell. record {
       transfers = tt;
       step = failed_step found held w.files h0 h1 (agrees told) fits (either told);

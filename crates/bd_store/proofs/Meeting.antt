@@ -2,12 +2,14 @@
 use Rattle.std.proofs.Common.{◌≡◌, ℕ, List, Option, Some, None, false, true, inl, refl, sym, ◌∙◌, subst, arith, Result, Ok, Err}
 use Rattle.bd_disk.specs.History.{History}
 use Rattle.bd_disk.proofs.Frames.{made_none}
+use Rattle.bd_files.specs.World.{World}
+use Rattle.bd_files.proofs.FileLemmas.{unfinishes_none}
 use Rattle.bd_model.specs.FileMap.{FileMap}
 use Rattle.bd_model.specs.declared.answer.Answer.{Answer}
 use Rattle.bd_model.specs.declared.command.Command.{Command}
 use Rattle.bd_catalog.specs.Agreement.{Agrees}
 use Rattle.bd_catalog.specs.Opening.{Found}
-use Rattle.bd_store.specs.Attempts.{Scene, Attempt, attempt, DamageByCommand, FinishesByCommand, TransfersByCommand, IsAnswerOf, KeepsVersions, Meets, MeetsCommon, ReadsByCommand, RecipeByCommand, SettlesBy, TellsFigures, WhereRestored}
+use Rattle.bd_store.specs.Attempts.{Scene, Attempt, attempt, DamageByCommand, FinishesByCommand, TransfersByCommand, IsAnswerOf, KeepsVersions, Meets, MeetsCommon, ReadsByCommand, RecipeByCommand, SettlesBy, TellsFigures, WhereRestored, SparesTarget, TouchesNoFile, UnfinishesBut}
 use Rattle.bd_store.specs.Causes.{ByCount}
 use Rattle.bd_store.specs.Deeds.{deed_of, target_of}
 use Rattle.bd_store.specs.Shown.{Shown, SameVersions}
@@ -27,6 +29,10 @@ pub files_stay : (target : Option (List ℕ)) (files : FileMap) → KeepsBut tar
 files_stay None files = refl
 files_stay (Some target) files = record { others = λ other differ. refl }
 
+pub unfinished_stay : (target : Option (List ℕ)) (names : List (List ℕ)) → UnfinishesBut target names names
+unfinished_stay None names = refl
+unfinished_stay (Some target) names = unfinishes_none target names
+
 -- after a fault nothing was given back
 pub given_nothing : (P : Type 0) (fault : StoreFault) → WhereRestored (Err fault) P
 given_nothing P SourceFault = tt
@@ -34,6 +40,15 @@ given_nothing P TargetFault = tt
 given_nothing P DiskFault = tt
 given_nothing P (Damaged damage) = tt
 given_nothing P OutOfMemory = tt
+
+-- where no file was touched, no target was
+pub spared : (disk : Type 0) (before now : World) (result : Result Answer StoreFault) → TouchesNoFile before now → SparesTarget disk before now result
+spared disk before now (Ok answer) same = tt
+spared disk before now (Err SourceFault) same = same
+spared disk before now (Err TargetFault) same = tt
+spared disk before now (Err DiskFault) same = tt
+spared disk before now (Err (Damaged damage)) same = λ told recipe. same
+spared disk before now (Err OutOfMemory) same = same
 
 -- what memory wasn't there for is no step
 pub memory_step : (command : Command) (held : ℕ) (h : History) (files : FileMap) → IsOneStep command held held h h files files (Err OutOfMemory)
@@ -100,6 +115,8 @@ module _ (command : Command) (result : Result Answer StoreFault) (s : Scene) whe
       beside = files_stay (target_of command) s.world.files;
       strays = record { later = omega arith; missing = inl refl };
       finished = is.finished;
+      unfinished = unfinished_stay (target_of command) s.world.unfinished;
+      spares = spared disk s.world s.world result (record { files = refl; unfinished = refl });
     };
     on_both = λ told files_tell. record { transfers = is.transfers; step = step told files_tell; stops = stops told files_tell };
   }

@@ -64,7 +64,7 @@ module _ {disk files : Type 0} (s : Scene) (figures : Figures) (sound : s.store.
     answer = tt;
     store = record { held = refl; versions = same_versions s.store; settles = settled; figures = (has.owned, has.free) };
     on_disk = λ told. record { opens = opens_quiet (made_none _ s.world.disk); writes = made_none _ s.world.disk; step = refl; reads = reads_none s.world.disk };
-    on_files = λ told. record { beside = refl; strays = record { later = omega arith; missing = inl refl }; finished = tt };
+    on_files = λ told. record { beside = refl; strays = record { later = omega arith; missing = inl refl }; finished = tt; unfinished = refl; spares = tt };
     on_both = λ told files_tell. record {
       transfers = tt;
       step = arranged_step s.store s.world.disk s.world.files figures (agrees told) settled has are;

@@ -1,6 +1,6 @@
 -- A restore meets its promise, at each of its ends: the recipe couldn't be read, the version was given back, or the walk
 -- stopped.
-use Rattle.std.proofs.Common.{◌≡◌, ◌∙◌, ◌↔◌, ◌≤◌, ℕ, Bool, true, false, List, [], inl, inr, refl, sym, ap, subst, arith, Ok, Err, Result}
+use Rattle.std.proofs.Common.{◌≡◌, ◌≢◌, ◌∙◌, ◌↔◌, ◌≤◌, ℕ, Bool, true, false, List, [], inl, inr, refl, sym, ap, subst, arith, Ok, Err, Result}
 use Rattle.bd_disk.specs.Calls.{FailsByCount, Rose}
 use Rattle.bd_disk.specs.History.{History, contents}
 use Rattle.bd_disk.specs.Made.{WritesNothing}
@@ -9,9 +9,10 @@ use Rattle.bd_disk.specs.Trace.{ReadsOnly}
 use Rattle.bd_disk.specs.declared.disk.Disk.{Ghosts as DiskGhosts}
 use Rattle.bd_disk.proofs.Frames.{nothing_within, unchanged}
 use Rattle.bd_disk.proofs.RunLemmas.{both_reads, looked, nothing_written, wider_reads}
-use Rattle.bd_files.specs.Files.{ChangesOnly, IsFinished}
+use Rattle.bd_files.specs.Files.{ChangesOnly, IsFinished, UnfinishesOnly}
 use Rattle.bd_files.specs.declared.files.Files.{Ghosts as FilesGhosts}
 use Rattle.bd_files.specs.World.{Faults, World, counts, with_disk, with_files}
+use Rattle.bd_files.proofs.FileLemmas.{unfinishes_none}
 use Rattle.bd_model.specs.declared.answer.Answer.{Answer}
 use Rattle.bd_model.specs.declared.answer.Answer.TheVariants.{Restored}
 use Rattle.bd_model.specs.declared.command.Command.TheVariants.{Restore}
@@ -33,7 +34,7 @@ use Rattle.bd_restore.specs.Walk.{InRows}
 use Rattle.bd_volume.specs.Headers.{HasGoodHeaders}
 use Rattle.bd_restore.specs.declared.fault.RestoreFault.{RestoreFault}
 use Rattle.bd_restore.specs.declared.fault.RestoreFault.TheVariants.{TargetFault as RestoreTarget, DiskFault as RestoreDisk, Damaged as RestoreDamaged, OutOfMemory as RestoreMemory}
-use Rattle.bd_store.specs.Attempts.{Scene, Attempt, attempt, scene, EndsInDamage, KeepsStore, KeepsVersions, Meets, MeetsCommon, RestoreReads, SettlesBy, TellsFigures}
+use Rattle.bd_store.specs.Attempts.{Scene, Attempt, attempt, scene, EndsInDamage, KeepsStore, KeepsVersions, Meets, MeetsCommon, RestoreReads, SettlesBy, TellsFigures, SparesTarget}
 use Rattle.bd_store.specs.Causes.{FailsOnlyByCount}
 use Rattle.bd_store.specs.Naming.{fault_of_reading, fault_of_restore}
 use Rattle.bd_store.specs.Shown.{SameVersions, Shown}
@@ -42,13 +43,13 @@ use Rattle.bd_store.specs.Writes.{StepsTo, WritesByCommand}
 use Rattle.bd_store.specs.declared.fault.StoreFault.{StoreFault}
 use Rattle.bd_store.specs.declared.fault.StoreFault.TheVariants.{DiskFault}
 use Rattle.bd_store.proofs.Asking.{retained_is}
-use Rattle.bd_store.proofs.Meeting.{given_nothing}
+use Rattle.bd_store.proofs.Meeting.{given_nothing, spared}
 use Rattle.bd_store.proofs.Giving.{agrees_quiet, reading_names, reading_one_step, restored_content, restored_one_step, restored_safe, restored_once, restored_walks, walk_names, walk_one_step}
 use Rattle.bd_store.proofs.Quiet.{safe_quiet}
 use Rattle.bd_store.proofs.Opens.{opens_quiet, opens_unarranged}
 
 -- what is told of the files whose target was changed
-changed_target : {F : Type 0} {f : FilesGhosts F} {name : List ℕ} {a b : F} → ChangesTarget f name a b → f.tells → (f.strays b ≡ f.strays a) × ChangesOnly name (f.files a) (f.files b)
+changed_target : {F : Type 0} {f : FilesGhosts F} {name : List ℕ} {a b : F} → ChangesTarget f name a b → f.tells → (f.strays b ≡ f.strays a) × ChangesOnly name (f.files a) (f.files b) × UnfinishesOnly name (f.unfinished a) (f.unfinished b)
 unfolding KeepsOthers
 changed_target changed told = changed.others told
 
@@ -153,7 +154,13 @@ module _ {D F : Type 0} (d : DiskGhosts D) (f : FilesGhosts F) (w : World) (foun
         damage = reading_names found v (d.history disk0) (d.history disk1) told fault (is.entries told) is.seen;
         recipe = unread_ends fault is told;
       };
-      on_files = λ told. record { beside = record { others = λ other differ. refl }; strays = record { later = omega arith; missing = inl refl }; finished = given_nothing _ (fault_of_reading fault) };
+      on_files = λ told. record {
+        beside = record { others = λ other differ. refl };
+        strays = record { later = omega arith; missing = inl refl };
+        finished = given_nothing _ (fault_of_reading fault);
+        unfinished = unfinishes_none name (f.unfinished files0);
+        spares = spared d.tells before.world (with_files f (with_disk d w disk1) files0) (Err (fault_of_reading fault)) (record { files = refl; unfinished = refl });
+      };
       on_both = λ told files_tell. record {
         transfers = given_nothing _ (fault_of_reading fault);
         step = reading_one_step found v (d.history disk0) (agrees told) from to name stays _ fault (nothing_written is.disk told) (is.entries told);
@@ -215,7 +222,13 @@ module _ {D F : Type 0} (d : DiskGhosts D) (f : FilesGhosts F) (w : World) (foun
         damage = tt;
         recipe = λ damage broken. let no : Err damage ≡ Ok plan.entries = sym broken ∙ read.entries told in absurd (cc);
       };
-      on_files = λ told. record { beside = (changed_target ran.files told).1; strays = record { later = omega (arith, (changed_target ran.files told).0); missing = inl (changed_target ran.files told).0 }; finished = gave.finished told };
+      on_files = λ told. record {
+        beside = (changed_target ran.files told).1;
+        strays = record { later = omega (arith, (changed_target ran.files told).0); missing = inl (changed_target ran.files told).0 };
+        finished = gave.finished told;
+        unfinished = (changed_target ran.files told).2;
+        spares = tt;
+      };
       on_both = λ told files_tell. record {
         transfers = record {
           file = restored_content found v (d.history disk0) (agrees told) from to plan (read.entries told) read.made.version (d.history disk1) (nothing_written read.disk told) (d.history disk2) (nothing_written ran.disk told) name _ _ (gave.file told files_tell).file;
@@ -260,6 +273,14 @@ module _ {D F : Type 0} (d : DiskGhosts D) (f : FilesGhosts F) (w : World) (foun
     stopped_reads (RestoreDamaged damage) a = tt
     stopped_reads RestoreMemory a = tt
 
+    -- the target was begun: it isn't for want of memory, nor a damage of the recipe
+    stopped_spares : (old new : World) (fault : RestoreFault) → ◌≢◌ {A = Result ℕ RestoreFault} (Err fault) (Err RestoreMemory) → IfMet {T = ℕ} (Err fault) (λ damage. d.tells → IsMetBy found plan damage (d.history disk1) (d.history disk2)) →
+        SparesTarget d.tells old new (Err (fault_of_restore fault))
+    stopped_spares old new RestoreTarget other met = tt
+    stopped_spares old new RestoreDisk other met = tt
+    stopped_spares old new (RestoreDamaged damage) other met = λ told of_recipe. absurd ((met told).walked of_recipe)
+    stopped_spares old new RestoreMemory other met = absurd (other refl)
+
     pub meets_stopped : (fault : RestoreFault) (worn : Bool) → Ran (Err fault) → IfMet {T = ℕ} (Err fault) (λ damage. d.tells → IsMetBy found plan damage (d.history disk1) (d.history disk2)) → ((worn ≡ true) ↔ (◌≡◌ {A = Result Answer StoreFault} (Err (fault_of_restore fault)) (Err DiskFault))) →
         Meets d.tells f.tells (ended (Err (fault_of_restore fault)) worn disk2 files2)
     meets_stopped fault worn ran met fails = record {
@@ -275,7 +296,13 @@ module _ {D F : Type 0} (d : DiskGhosts D) (f : FilesGhosts F) (w : World) (foun
         damage = walk_names found v (d.history disk0) (d.history disk1) told plan (read.entries told) read.made.version (nothing_written read.disk told) (read.places told) (d.history disk2) fault met;
         recipe = λ damage broken. let no : Err damage ≡ Ok plan.entries = sym broken ∙ read.entries told in absurd (cc);
       };
-      on_files = λ told. record { beside = (changed_target ran.files told).1; strays = record { later = omega (arith, (changed_target ran.files told).0); missing = inl (changed_target ran.files told).0 }; finished = given_nothing _ (fault_of_restore fault) };
+      on_files = λ told. record {
+        beside = (changed_target ran.files told).1;
+        strays = record { later = omega (arith, (changed_target ran.files told).0); missing = inl (changed_target ran.files told).0 };
+        finished = given_nothing _ (fault_of_restore fault);
+        unfinished = (changed_target ran.files told).2;
+        spares = stopped_spares before.world (with_files f (with_disk d w disk2) files2) fault ran.cause.memory met;
+      };
       on_both = λ told files_tell. record {
         transfers = given_nothing _ (fault_of_restore fault);
         step = walk_one_step found v (d.history disk0) (agrees told) from to plan (read.entries told) read.made.version (d.history disk1) (nothing_written read.disk told) (d.history disk2) (nothing_written ran.disk told) name stays _ _ fault (changed_target ran.files files_tell).1 told met;

@@ -59,7 +59,7 @@ use Rattle.bd_store.specs.Writes.{IsUnowned, StepsTo}
 use Rattle.bd_store.specs.declared.fault.StoreFault.{StoreFault}
 use Rattle.bd_store.specs.declared.fault.StoreFault.TheVariants.{DiskFault, OutOfMemory}
 use Rattle.bd_store.proofs.Ending.{not_both}
-use Rattle.bd_store.proofs.Meeting.{common_untouched, memory_step, same_versions}
+use Rattle.bd_store.proofs.Meeting.{common_untouched, memory_step, same_versions, spared}
 use Rattle.bd_store.proofs.OneCall.{failed_one_step, failed_safe, made_one_step, made_safe, refused_one_step, refused_safe}
 use Rattle.bd_store.proofs.Opens.{opens_named, opens_quiet, opens_written}
 use Rattle.bd_store.proofs.Quiet.{safe_untouched}
@@ -213,7 +213,7 @@ module _ {D F : Type 0} (d : DiskGhosts D) (f : FilesGhosts F) (w : World) (foun
   with_room_is (Full counted was kept) free has took = record {
     disk = took.disk;
     cause = record { disk_later = took.cause.disk_later; source_later = took.cause.source_later; cause = took.cause.cause };
-    files = record { targets = took.files.targets; strays = took.files.strays; missing = took.files.missing; same = took.files.same };
+    files = record { targets = took.files.targets; strays = took.files.strays; missing = took.files.missing; same = took.files.same; unfinished = took.files.unfinished };
     counted = λ told stream there. let so = took.counted told stream there in (so.0, so.1, free_is free has, refl);
   }
   with_room_is SourceFailed free has took = took
@@ -262,7 +262,13 @@ module _ {D F : Type 0} (d : DiskGhosts D) (f : FilesGhosts F) (w : World) (foun
       step = refused_step_to found.catalogue fault;
       reads = nothing_read took.disk told;
     };
-    on_files = λ told. record { beside = took.files.same told; strays = strays_of _ _ _ _ (took.files.strays told); finished = tt };
+    on_files = λ told. record {
+      beside = took.files.same told;
+      strays = strays_of _ _ _ _ (took.files.strays told);
+      finished = tt;
+      unfinished = took.files.unfinished told;
+      spares = spared d.tells before.world (with_files f (with_disk d w disk2) files2) (refusal_of fault) (record { files = took.files.same told; unfinished = took.files.unfinished told });
+    };
     on_both = λ told files_tell. record {
       transfers = refused_transfers fault worn took told files_tell;
       step = refused_one_step found name (f.files files0) (f.files files2) (took.files.same files_tell) h1 h2 space (begun.agrees told) begun.settled begun.below begun.fewer (written took.disk told) begun.count begun.owners old (is_old told)
@@ -366,7 +372,7 @@ module _ {D F : Type 0} (d : DiskGhosts D) (f : FilesGhosts F) (w : World) (foun
             step = subst (λ a. StepsTo found.catalogue found3.catalogue (Ok a)) says (staged.version.recipe.numbers, fresh_entries staged.fresh, ap (λ (s : Found). s.catalogue) is.made);
             reads = all_read disk3 found3 space3 (Ok answer) told is;
           };
-          on_files = λ told. record { beside = took.files.same told; strays = strays_of _ _ _ _ (took.files.strays told); finished = tt };
+          on_files = λ told. record { beside = took.files.same told; strays = strays_of _ _ _ _ (took.files.strays told); finished = tt; unfinished = took.files.unfinished told; spares = tt };
           on_both = λ told files_tell. record {
             transfers = subst (λ a. TakesSource (attempt (Backup name) (Ok a) before (scene end (with_files f (with_disk d w disk3) files2))) name (Ok a)) says (taken_in disk3 found3 space3 worn told files_tell is.made (is.done told));
             step = made_one_step found name (f.files files0) (f.files files2) (took.files.same files_tell) h1 h2 space (begun.agrees told) begun.settled begun.below begun.fewer (written took.disk told) begun.count begun.owners old (is_old told)
@@ -402,7 +408,7 @@ module _ {D F : Type 0} (d : DiskGhosts D) (f : FilesGhosts F) (w : World) (foun
             step = tt;
             reads = all_read disk3 found3 space3 (Err DiskFault) told is;
           };
-          on_files = λ told. record { beside = took.files.same told; strays = strays_of _ _ _ _ (took.files.strays told); finished = tt };
+          on_files = λ told. record { beside = took.files.same told; strays = strays_of _ _ _ _ (took.files.strays told); finished = tt; unfinished = took.files.unfinished told; spares = tt };
           on_both = λ told files_tell. record {
             transfers = takes_nothing (λ s. tt) tt;
             step = failed_one_step found name (f.files files0) (f.files files2) (took.files.same files_tell) h1 h2 space (begun.agrees told) begun.settled begun.below begun.fewer (written took.disk told) begun.count begun.owners old (is_old told)
@@ -429,6 +435,6 @@ follows_without_memory name s sound agrees goes = record {
   answer = goes;
   store = record { held = refl; versions = same_versions s.store; settles = tt; figures = tt };
   on_disk = λ told. record { opens = opens_quiet (made_none _ s.world.disk); writes = made_none _ s.world.disk; step = refl; reads = reads_none s.world.disk };
-  on_files = λ told. record { beside = refl; strays = record { later = omega arith; missing = inl refl }; finished = tt };
+  on_files = λ told. record { beside = refl; strays = record { later = omega arith; missing = inl refl }; finished = tt; unfinished = refl; spares = record { files = refl; unfinished = refl } };
   on_both = λ told files_tell. record { transfers = takes_nothing (λ s. tt) tt; step = memory_step (Backup name) s.store.held s.world.disk s.world.files; stops = safe_untouched (Backup name) s.store.held s.world.disk s.world.files OutOfMemory };
 }

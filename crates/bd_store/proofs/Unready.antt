@@ -35,7 +35,7 @@ use Rattle.bd_store.specs.declared.fault.StoreFault.{StoreFault}
 use Rattle.bd_store.specs.declared.fault.StoreFault.TheVariants.{DiskFault}
 use Rattle.bd_store.proofs.Behind.{quiet_writing, ready_settled}
 use Rattle.bd_store.proofs.Ending.{by_ready, gone_on, went_on, rests_not, first_two, not_both}
-use Rattle.bd_store.proofs.Meeting.{files_stay, given_nothing}
+use Rattle.bd_store.proofs.Meeting.{files_stay, given_nothing, spared, unfinished_stay}
 use Rattle.bd_store.proofs.Nearing.{near_state}
 use Rattle.bd_store.proofs.Opens.{opens_before}
 use Rattle.bd_store.proofs.Taken.{takes_nothing}
@@ -266,6 +266,8 @@ module _ (disk files : Type 0) (command : Command) (before : Scene) (mid : Found
         beside = files_stay (target_of command) before.world.files;
         strays = record { later = omega arith; missing = inl refl };
         finished = refusal_finishes (target_of command);
+        unfinished = unfinished_stay (target_of command) before.world.unfinished;
+        spares = spared disk before.world failed.world (Err (fault_of_reading fault)) (record { files = refl; unfinished = refl });
       };
       on_both = λ told files_tell. record {
         transfers = refusal_transfers (deed_of before.store.found command) makes;

@@ -4,7 +4,7 @@ use Rattle.std.specs.FinMap as map
 use Rattle.bd_disk.specs.History.{contents}
 use Rattle.bd_disk.specs.Looks.{LooksOnlyAt}
 use Rattle.bd_disk.specs.Made.{TouchesNothing, WritesOnly}
-use Rattle.bd_files.specs.Files.{Holds, IsFinished, Lacks}
+use Rattle.bd_files.specs.Files.{Holds, IsFinished, Lacks, UnfinishesOnly}
 use Rattle.bd_files.specs.World.{World}
 use Rattle.bd_model.specs.FileMap.{FileMap}
 use Rattle.bd_model.specs.declared.answer.Answer.{Answer}
@@ -23,6 +23,7 @@ use Rattle.bd_catalog.specs.Rows.{walk}
 use Rattle.bd_catalog.specs.Sound.{content, recipe_of}
 use Rattle.bd_roll.specs.Splitting.{after_expire, expired}
 use Rattle.bd_recipe.specs.Reading.{recipe_found}
+use Rattle.bd_restore.specs.Met.{IsOfRecipe}
 use Rattle.bd_restore.specs.Target.{held, HasChunks}
 use Rattle.bd_volume.specs.Headers.{HasGoodHeaders}
 use Rattle.bd_store.specs.Causes.{FailsOnlyByCount, StraysOnlyBy}
@@ -303,10 +304,31 @@ Finishes (Some target) result unfinished = WhereRestored result (IsFinished targ
 abbrev pub FinishesByCommand : Command → Result Answer StoreFault → List (List ℕ) → Type 0
 FinishesByCommand command result unfinished = Finishes (target_of command) result unfinished
 
-pub record MeetsOnFiles (a : Attempt) : Type 0 where
+-- each name is as unfinished as it was, but for a target
+abbrev pub UnfinishesBut : Option (List ℕ) → List (List ℕ) → List (List ℕ) → Type 0
+UnfinishesBut None old new = new ≡ old
+UnfinishesBut (Some target) old new = UnfinishesOnly target old new
+
+-- no file was touched
+pub record TouchesNoFile (before now : World) : Type 0 where
+  pub files : now.files ≡ before.files
+  pub unfinished : now.unfinished ≡ before.unfinished
+
+-- A source's fault and want of memory come before a target is begun, and so does a damage of the recipe, where the disk tells.
+abbrev pub SparesTarget : Type 0 → World → World → Result Answer StoreFault → Type 0
+SparesTarget disk before now (Ok answer) = Unit {0}
+SparesTarget disk before now (Err SourceFault) = TouchesNoFile before now
+SparesTarget disk before now (Err TargetFault) = Unit {0}
+SparesTarget disk before now (Err DiskFault) = Unit {0}
+SparesTarget disk before now (Err (Damaged damage)) = disk → IsOfRecipe damage → TouchesNoFile before now
+SparesTarget disk before now (Err OutOfMemory) = TouchesNoFile before now
+
+pub record MeetsOnFiles (disk : Type 0) (a : Attempt) : Type 0 where
   pub beside : KeepsFiles a.command a.before.world.files a.after.world.files
   pub strays : StraysOnlyBy a.command a.before.world.files a.before.world.strays a.after.world.strays
   pub finished : FinishesByCommand a.command a.result a.after.world.unfinished
+  pub unfinished : UnfinishesBut (target_of a.command) a.before.world.unfinished a.after.world.unfinished
+  pub spares : SparesTarget disk a.before.world a.after.world a.result
 
 -- ---- where both tell
 
@@ -353,5 +375,5 @@ pub record Meets (disk files : Type 0) (a : Attempt) : Type 0 where
   -- a refusal by the catalogue alone leaves everything as it was
   pub untouched : IsByNumbers a.result → a.after ≡ a.before
   pub on_disk : disk → MeetsOnDisk a
-  pub on_files : files → MeetsOnFiles a
+  pub on_files : files → MeetsOnFiles disk a
   pub on_both : disk → files → MeetsOnBoth a

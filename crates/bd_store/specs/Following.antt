@@ -93,5 +93,5 @@ pub record Follows (disk files : Type 0) (a : Attempt) : Type 0 where
   pub answer : IsAnswerOf a.before.store.found a.command a.result
   pub store : KeepsStore a
   pub on_disk : disk → FollowsOnDisk a
-  pub on_files : files → MeetsOnFiles a
+  pub on_files : files → MeetsOnFiles disk a
   pub on_both : disk → files → FollowsOnBoth a

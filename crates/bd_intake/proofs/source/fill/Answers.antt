@@ -22,6 +22,7 @@ loop-count-init g c = record {
   targets = refl;
   strays = λ t. record { later = omega arith; cause = inl refl };
   same = λ t. refl;
+  unfinished = λ t. refl;
   staging = c.requires.staging;
   still_open = c.requires.open;
   short = c.requires.short;
@@ -94,6 +95,7 @@ loop-count-preserved g c =
       targets = c.fetch_piece.ensures.files.targets ∙ now.targets;
       strays = λ t. missing_more files other c.args.name.now (g.F.Files.strays c.args.files.now) (g.F.Files.strays c.loop-count.files) (g.F.Files.strays c.fetch_piece.new.files) (now.same t) (now.strays t) (c.fetch_piece.ensures.files.strays t);
       same = λ t. c.fetch_piece.ensures.files.same t ∙ now.same t;
+      unfinished = λ t. c.fetch_piece.ensures.files.unfinished t ∙ now.unfinished t;
       staging = c.in_ok-take_piece.ensures.staging;
       still_open = c.in_ok-take_piece.ensures.open;
       short = c.in_ok-take_piece.ensures.short;

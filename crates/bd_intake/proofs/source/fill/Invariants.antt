@@ -16,6 +16,7 @@ invariant-loop-count g l = record {
   targets : g.F.Files.target_faults l.files ≡ g.F.Files.target_faults l.initial.files;
   strays : g.F.Files.tells → CountsMissing (g.F.Files.files l.initial.files) l.name (g.F.Files.strays l.initial.files) (g.F.Files.strays l.files);
   same : g.F.Files.tells → g.F.Files.files l.files ≡ g.F.Files.files l.initial.files;
+  unfinished : g.F.Files.tells → g.F.Files.unfinished l.files ≡ g.F.Files.unfinished l.initial.files;
   staging : IsStaging (given l.terms) l.space l.staging;
   still_open : l.chunker.finished ≡ false;
   short : length l.chunker.held < 65536;

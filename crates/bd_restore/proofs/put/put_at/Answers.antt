@@ -1,4 +1,5 @@
 use Rattle.std.proofs.Common.{arith}
+use Rattle.bd_files.proofs.FileLemmas.{begins_only}
 use Rattle.bd_restore.proofs.Frames.{target_none, target_once}
 use Rattle.bd_restore.proofs.Putting.{place_within}
 use Rattle.bd_restore.specs.Target.{held}
@@ -15,7 +16,7 @@ pub returns-then-entry-found-clause-files : goal.returns-then-entry-found-clause
 returns-then-entry-found-clause-files g c = target_none
 
 pub returns-then-is_err-clause-files : goal.returns-then-is_err-clause-files
-returns-then-is_err-clause-files g c = target_once c.put.ensures.sources c.put.ensures.strays c.put.ensures.others
+returns-then-is_err-clause-files g c = target_once c.put.ensures.sources c.put.ensures.strays c.put.ensures.others (λ told. begins_only (c.put.ensures.unfinished told))
 
 pub returns-clause-files : goal.returns-clause-files
-returns-clause-files g c = target_once c.put.ensures.sources c.put.ensures.strays c.put.ensures.others
+returns-clause-files g c = target_once c.put.ensures.sources c.put.ensures.strays c.put.ensures.others (λ told. begins_only (c.put.ensures.unfinished told))

@@ -6,7 +6,7 @@ use Rattle.bd_disk.specs.History.{contents}
 use Rattle.bd_disk.proofs.RunLemmas.{no_reads}
 use Rattle.bd_model.specs.declared.damage.Damage.TheVariants.{Missing}
 use Rattle.bd_catalog.specs.Rows.{walk}
-use Rattle.bd_files.proofs.FileLemmas.{finished}
+use Rattle.bd_files.proofs.FileLemmas.{begins_only, finished, finishes_only}
 use Rattle.bd_recipe.specs.Reading.{total}
 use Rattle.bd_restore.specs.Met.{MetOn}
 use Rattle.bd_restore.specs.Plan.{Planned}
@@ -36,23 +36,23 @@ walk-requires-clause-ready g c =
     }
 
 pub returns-then-is_err-clause-files : goal.returns-then-is_err-clause-files
-returns-then-is_err-clause-files g c = target_once c.begin.ensures.sources c.begin.ensures.strays c.begin.ensures.others
+returns-then-is_err-clause-files g c = target_once c.begin.ensures.sources c.begin.ensures.strays c.begin.ensures.others (λ told. begins_only (c.begin.ensures.unfinished told))
 
 pub returns-in_err-walk-clause-files : goal.returns-in_err-walk-clause-files
-returns-in_err-walk-clause-files g c = target_both (target_once c.begin.ensures.sources c.begin.ensures.strays c.begin.ensures.others) c.walk.ensures.files
+returns-in_err-walk-clause-files g c = target_both (target_once c.begin.ensures.sources c.begin.ensures.strays c.begin.ensures.others (λ told. begins_only (c.begin.ensures.unfinished told))) c.walk.ensures.files
 
 pub returns-in-Some-clause-files : goal.returns-in-Some-clause-files
-returns-in-Some-clause-files g c = target_both (target_once c.begin.ensures.sources c.begin.ensures.strays c.begin.ensures.others) c.walk.ensures.files
+returns-in-Some-clause-files g c = target_both (target_once c.begin.ensures.sources c.begin.ensures.strays c.begin.ensures.others (λ told. begins_only (c.begin.ensures.unfinished told))) c.walk.ensures.files
 
 pub returns-then-is_err-2-clause-files : goal.returns-then-is_err-2-clause-files
 returns-then-is_err-2-clause-files g c =
-    target_both (target_both (target_once c.begin.ensures.sources c.begin.ensures.strays c.begin.ensures.others) c.walk.ensures.files)
-    (target_once c.finish.ensures.sources c.finish.ensures.strays (λ tells. record { others = λ other differ. ap (λ m. map.get m other) (c.finish.ensures.same tells) }))
+    target_both (target_both (target_once c.begin.ensures.sources c.begin.ensures.strays c.begin.ensures.others (λ told. begins_only (c.begin.ensures.unfinished told))) c.walk.ensures.files)
+    (target_once c.finish.ensures.sources c.finish.ensures.strays (λ tells. record { others = λ other differ. ap (λ m. map.get m other) (c.finish.ensures.same tells) }) (λ told. finishes_only (c.finish.ensures.unfinished told)))
 
 pub returns-clause-files : goal.returns-clause-files
 returns-clause-files g c =
-    target_both (target_both (target_once c.begin.ensures.sources c.begin.ensures.strays c.begin.ensures.others) c.walk.ensures.files)
-    (target_once c.finish.ensures.sources c.finish.ensures.strays (λ tells. record { others = λ other differ. ap (λ m. map.get m other) (c.finish.ensures.same tells) }))
+    target_both (target_both (target_once c.begin.ensures.sources c.begin.ensures.strays c.begin.ensures.others (λ told. begins_only (c.begin.ensures.unfinished told))) c.walk.ensures.files)
+    (target_once c.finish.ensures.sources c.finish.ensures.strays (λ tells. record { others = λ other differ. ap (λ m. map.get m other) (c.finish.ensures.same tells) }) (λ told. finishes_only (c.finish.ensures.unfinished told)))
 
 -- ---- the counts
 
@@ -160,7 +160,7 @@ returns-clause-file g c = λ told tells.
     (gives_back found plan progress.filled.items old new fresh c.walk.new.progress.filled.items (went.went.walk told) (went.good told) name before begun now ended
     (went.went.gives told tells) (went.went.ready.there tells)
     (subst (λ l. (k : ℕ) → k < length l → flag_at l k ≡ true) c.deref.ensures.value c.in_default.ensures.none)
-    (same_others (target_both (target_once c.begin.ensures.sources c.begin.ensures.strays c.begin.ensures.others) c.walk.ensures.files) tells)
+    (same_others (target_both (target_once c.begin.ensures.sources c.begin.ensures.strays c.begin.ensures.others (λ told. begins_only (c.begin.ensures.unfinished told))) c.walk.ensures.files) tells)
     (c.finish.ensures.same tells))
 
 pub returns-clause-finished : goal.returns-clause-finished
