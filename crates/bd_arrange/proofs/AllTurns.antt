@@ -6,7 +6,7 @@ use Rattle.std.proofs.lemmas.Bool.{cases_lt}
 use Rattle.std.proofs.lemmas.List.{append-nil, length-map, nil_from_length}
 use Rattle.std.proofs.lemmas.List.Elements.{All-weaker}
 use Rattle.std.proofs.lemmas.Grind.{flat_map-append}
-use Rattle.bd_model.specs.History.{History, contains, newest, oldest}
+use Rattle.bd_model.specs.History.{VersionHistory, contains, newest, oldest}
 use Rattle.bd_model.specs.Laws.{ArrangesOne, grown}
 use Rattle.bd_model.specs.Layout.{closed_volume, open_category, record_bytes, row_of, rows}
 use Rattle.bd_model.specs.Marks.{mark}
@@ -27,7 +27,7 @@ use Rattle.bd_roll.specs.Rules.{active_holds}
 use Rattle.bd_roll.specs.Splitting.{MaySplit, MaySplits, SplitEntry, after_split, after_splits, last_rows}
 use Rattle.bd_catalog.specs.Standing.{BeginWith, HasActives}
 use Rattle.bd_roll.proofs.InPlace.{Named}
-use Rattle.bd_roll.proofs.Obeying.{open_row_of, row_of as row_rule, IsBounded}
+use Rattle.bd_roll.proofs.RuleLemmas.{open_row_of, row_of as row_rule, IsBounded}
 use Rattle.bd_volume.specs.Holding.{HoldsRow, HoldsRows, group_at, groups_over}
 use Rattle.bd_volume.proofs.StoredChunks.{Bounded, stored_of}
 use Rattle.bd_arrange.specs.Cuts.{archived_records, bytes_in, kept_records, records_in}
@@ -40,7 +40,7 @@ use Rattle.bd_arrange.proofs.Splits.{starting}
 
 -- The categories f wait from the cursor on, as they were before the version of the chunks w, and the entries tell which of
 -- their chunks it uses.
-pub record AreWaiting (s : Sizes) (h : History) (w : List (List ℕ)) (entries : List RecipeEntry) (cursor : ℕ) (f : ℕ → List (List ℕ)) : Type 0 where
+pub record AreWaiting (s : Sizes) (h : VersionHistory) (w : List (List ℕ)) (entries : List RecipeEntry) (cursor : ℕ) (f : ℕ → List (List ℕ)) : Type 0 where
   pub sizes : IsBounded s
   pub some : h.expired < length h.versions
   pub low : h.base + 1 ≤ cursor
@@ -49,7 +49,7 @@ pub record AreWaiting (s : Sizes) (h : History) (w : List (List ℕ)) (entries :
   pub told : (i : ℕ) (x : List ℕ) → i ≤ newest h → contains (open_category h Settled i) x ≡ true → has_mark entries (mark x) ≡ contains w x
 
 -- what the turns from start i on leave of a catalogue
-pub record Leads (s : Sizes) (h : History) (w : List (List ℕ)) (g : Ground) (now : List ℕ) (c : Catalogue) (i : ℕ) (d : Catalogue) (es : List SplitEntry) : Type 0 where
+pub record Leads (s : Sizes) (h : VersionHistory) (w : List (List ℕ)) (g : Ground) (now : List ℕ) (c : Catalogue) (i : ℕ) (d : Catalogue) (es : List SplitEntry) : Type 0 where
   pub actives : HasActives s (grown h w) (Waiting (newest h + 1)) (after_splits d es) now
   pub rows : rows_of (after_splits d es).volumes ≡ map (rows (grown h w) (Waiting (newest h + 1))) (range_with_len (oldest h) (suc (newest h - oldest h)))
   pub bytes : records_of (closed_volume (grown h w) (Waiting i) (newest h)) ++ flat_map (archived_bytes g c) es ≡ records_of (closed_volume (grown h w) (Waiting (newest h + 1)) (newest h))
@@ -58,8 +58,8 @@ no_stored : (cs : List (List ℕ)) → map stored_of cs ≡ [] → cs ≡ []
 no_stored [] none = refl
 no_stored (c ∷ cs) none = absurd (omega (arith, ap (λ l. length l) none))
 
-module _ (s : Sizes) (h : History) (w : List (List ℕ)) (entries : List RecipeEntry) (old now : List ℕ) (c : Catalogue) (cursor : ℕ) (f : ℕ → List (List ℕ)) (are : AreWaiting s h w entries cursor f) where
-  abbrev next : History
+module _ (s : Sizes) (h : VersionHistory) (w : List (List ℕ)) (entries : List RecipeEntry) (old now : List ℕ) (c : Catalogue) (cursor : ℕ) (f : ℕ → List (List ℕ)) (are : AreWaiting s h w entries cursor f) where
+  abbrev next : VersionHistory
   next = grown h w
 
   abbrev g : Ground

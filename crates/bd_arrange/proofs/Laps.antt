@@ -14,7 +14,7 @@ use Rattle.bd_disk.specs.History.{contents}
 use Rattle.bd_disk.specs.Images.{Agree, AgreeBut}
 use Rattle.bd_disk.specs.Runs.{Works}
 use Rattle.bd_disk.specs.declared.disk.Disk.{Ghosts}
-use Rattle.bd_disk.proofs.Agreeing.{agree_fewer}
+use Rattle.bd_disk.proofs.AgreeLemmas.{agree_fewer}
 use Rattle.bd_disk.proofs.Frames.{same_contents}
 use Rattle.bd_disk.proofs.RunLemmas.{both_work, work_written}
 use Rattle.bd_disk.proofs.Traces.{has_read_later}
@@ -35,19 +35,19 @@ use Rattle.bd_space.specs.Allotment.{Allotment, free_count, IsTaken, TakenExactl
 use Rattle.bd_space.specs.declared.space.Use.TheVariants.{Taken}
 use Rattle.bd_space.proofs.Distinct.{IsDistinct-append, distinct_apart, distinct_left, distinct_right}
 use Rattle.bd_catalog.specs.Agreement.{Agrees}
-use Rattle.bd_roll.specs.Catalogue.{Catalogue, OpenEntry, VersionEntry, VolumeEntry, all_extents, bytes_of_rows, oldest_in, starts_of}
+use Rattle.bd_roll.specs.Catalogue.{Catalogue, OpenEntry, VersionEntry, VolumeEntry, all_extents, bytes_of_rows, oldest_in, row_starts}
 use Rattle.bd_catalog.specs.Damages.{BreaksRule, header_holds, header_places}
 use Rattle.bd_catalog.specs.Opening.{Found}
 use Rattle.bd_catalog.specs.Rows.{RowPlace, Spot, open_row, row_spots}
 use Rattle.bd_roll.specs.Rules.{active_holds, all_differ, ascends, fits_eight, obeys, row_holds, starts_hold, volume_holds}
 use Rattle.bd_roll.specs.Splitting.{KeptEntry, MaySplit, MaySplits, SplitEntry, after_split, after_splits, kept_extents, kept_of, last_extents, last_rows}
 use Rattle.bd_catalog.specs.Standing.{BeginWith}
-use Rattle.bd_roll.proofs.Expiring.{AscendsFrom, ascends_first}
-use Rattle.bd_roll.proofs.Fitting.{all_differ-once}
+use Rattle.bd_roll.proofs.RulesAfterDrop.{AscendsFrom, ascends_first}
+use Rattle.bd_roll.proofs.RulesAfterBackup.{all_differ-once}
 use Rattle.bd_roll.proofs.InPlace.{starts}
-use Rattle.bd_roll.proofs.Obeying.{IsBounded, count_in_volume, distinct_of, open_ascend, rules_of}
-use Rattle.bd_roll.proofs.OneArranging.{splits_rules}
-use Rattle.bd_roll.proofs.Owning.{distinct_ascending, in_categories, waiting_volume}
+use Rattle.bd_roll.proofs.RuleLemmas.{IsBounded, count_in_volume, distinct_of, open_ascend, rules_of}
+use Rattle.bd_roll.proofs.SplitsAsOne.{splits_rules}
+use Rattle.bd_roll.proofs.OwnedByStep.{distinct_ascending, in_categories, waiting_volume}
 use Rattle.bd_catalog.proofs.StandingFound.{Obeys, obeys-each, opened-found}
 use Rattle.bd_recipe.specs.Reading.{IfDamaged}
 use Rattle.bd_recipe.specs.declared.fault.ReadFault.{ReadFault}
@@ -55,16 +55,16 @@ use Rattle.bd_recipe.specs.declared.fault.ReadFault.TheVariants.{DiskFault, Dama
 use Rattle.bd_recipe.proofs.Versions.{are_all, are_left, are_right}
 use Rattle.bd_volume.specs.Growing.{CanGrow}
 use Rattle.bd_volume.specs.Named.{InNamed}
-use Rattle.bd_volume.proofs.Copying.{no_work, work_told}
+use Rattle.bd_volume.proofs.CopyLemmas.{no_work, work_told}
 use Rattle.bd_volume.proofs.RowsMore.{bytes-rows_more}
 use Rattle.bd_volume.proofs.Unnamed.{in_flat}
 use Rattle.bd_arrange.specs.Arranged.{InDue, IsAllotted, IsDamageOfDue}
-use Rattle.bd_arrange.specs.Cuts.{InCategory, IsDamageIn, IsOfHeaders, IsWhole, archived_records, bytes_in, kept_records, records_in}
+use Rattle.bd_arrange.specs.Cuts.{InCategory, IsDamageIn, IsOfHeaders, IsWholeCategory, archived_records, bytes_in, kept_records, records_in}
 use Rattle.bd_arrange.specs.Desks.{Archives, Becomes, BecomesSplit, InRoom, IsCategory, IsToMove, KeepsExtents, OnDesk, Tells, Turned, new_extents}
 use Rattle.bd_arrange.specs.Turns.{Ground, IsKeptOf, IsLeft, IsSplit, Turns, archived_on, due, ground, grown_bytes, is_due, taken_by}
 use Rattle.bd_arrange.specs.Underway.{HasSplits, HasTurned, IsStaged, IsTakenFor, filled_bytes}
 use Rattle.bd_arrange.proofs.Splits.{SameNumbers, added_by, ascends_last, bytes_later, extents_after, extents_grown, kept_by, may_last, rows_grown, same_numbers, same_oldest, some_volume, splits-last, splits_among, start_among, still_open}
-use Rattle.bd_arrange.proofs.Staying.{IsAtWork, active_among_all, among_map, kept_stays, last_among_all, open_apart, records_stay, room_staged, spots_stay, volume_stays, whole_before}
+use Rattle.bd_arrange.proofs.TurnFrame.{IsAtWork, active_among_all, among_map, kept_stays, last_among_all, open_apart, records_stay, room_staged, spots_stay, volume_stays, whole_before}
 use Rattle.bd_arrange.proofs.TakingTurns.{KeptStays, free_after, free_last, grown-last, to_move, to_split, turns_later, turns_left, turns_split}
 
 -- ---- lists
@@ -324,7 +324,7 @@ module _ {D : Type 0} (d : Ghosts D) (found : Found) (entries : List RecipeEntry
           turns_now : Turns g image2 (free_count before) c lap.done lap.splits
           turns_now = turns_later g (image1 told) image2 (free_count before) c lap.done lap.splits stay (lap.told told).turns
 
-          pub whole : IsWhole s (image0 told) a
+          pub whole : IsWholeCategory s (image0 told) a
           whole = whole_before s c some_extent rules (image0 told) (image1 told) (room told) (named told) a has_a (turn.turned.whole told)
 
           volume_now : filled_bytes g image2 desk.filling ≡ grown_bytes g c lap.splits
@@ -584,10 +584,10 @@ module _ (s : Sizes) where
   are_last (e ∷ []) are = are_left s e.extents [] are
   are_last (e ∷ second ∷ es) are = are_last (second ∷ es) (are_right s e.extents (flat_map (λ (x : VolumeEntry). x.extents) (second ∷ es)) are)
 
-last_ascends : (oldest j : ℕ) (es : List VolumeEntry) → 1 ≤ length es → starts_hold oldest j es ≡ true → (top : ℕ) × (ascends oldest top (starts_of (last_rows es)) ≡ true)
+last_ascends : (oldest j : ℕ) (es : List VolumeEntry) → 1 ≤ length es → starts_hold oldest j es ≡ true → (top : ℕ) × (ascends oldest top (row_starts (last_rows es)) ≡ true)
 last_ascends oldest j [] some hold = absurd (omega (arith, some))
-last_ascends oldest j (e ∷ []) some hold = (j, left_and (ascends oldest j (starts_of e.rows)) true hold)
-last_ascends oldest j (e ∷ second ∷ es) some hold = last_ascends oldest (j + 1) (second ∷ es) (omega arith) (right_and (ascends oldest j (starts_of e.rows)) (starts_hold oldest (j + 1) (second ∷ es)) hold)
+last_ascends oldest j (e ∷ []) some hold = (j, left_and (ascends oldest j (row_starts e.rows)) true hold)
+last_ascends oldest j (e ∷ second ∷ es) some hold = last_ascends oldest (j + 1) (second ∷ es) (omega arith) (right_and (ascends oldest j (row_starts e.rows)) (starts_hold oldest (j + 1) (second ∷ es)) hold)
 
 rising : (low high : ℕ) (ns : List ℕ) → ascends low high ns ≡ true → IsStrictlyIncreasing ns
 rising low high [] ascending k lt = absurd (omega (arith, lt))
@@ -619,7 +619,7 @@ grows_first found rules space desk allotted begins some =
     All-weaker (Contains extents) (IsTaken space) (λ n own. All-contains (IsTaken space) (all_extents c) n allotted.owners.taken (last_among_all c n own)) extents (All-contains_itself extents) in
     record {
       rows = subst (λ l. list_all (row_holds s) l ≡ true) (sym begins.rows) (left_and (list_all (row_holds s) rows) sized (left_and (list_all (row_holds s) rows && sized) (fits_eight (bytes_of_rows rows)) held));
-      ascend = subst (λ l. IsStrictlyIncreasing (starts_of l)) (sym begins.rows) (rising (oldest_in c) up_to.0 (starts_of rows) up_to.1);
+      ascend = subst (λ l. IsStrictlyIncreasing (row_starts l)) (sym begins.rows) (rising (oldest_in c) up_to.0 (row_starts rows) up_to.1);
       extents = record {
         sized = ap length begins.numbers ∙ count_in_volume s (record { rows = rows; extents = extents }) held ∙ ap (λ l. up s.extent (bytes_of_rows l)) (sym begins.rows);
         extents = subst (AreExtents s) (sym begins.numbers) are;

@@ -7,7 +7,7 @@ use Rattle.bd_model.proofs.ListLemmas.{not_nil}
 use Rattle.std.specs.Prelude.{max}
 use Rattle.bd_roll.specs.Catalogue.{Catalogue, VolumeEntry, oldest_in, volume_extents}
 use Rattle.bd_roll.specs.Splitting.{SplitEntry, after_split, after_splits, last_extents, last_grown, last_rows}
-use Rattle.bd_roll.proofs.Splitting.{length-last}
+use Rattle.bd_roll.proofs.RulesAfterSplit.{length-last}
 
 abbrev pub rows_of : List VolumeEntry → List (List CategoryRow)
 rows_of es = map (λ e. e.rows) es

@@ -1,5 +1,5 @@
 pub mod AllTurns
-pub mod Committing
+pub mod ArrangedStates
 pub mod DueHeld
 mod Faults
 pub mod InGrown
@@ -14,15 +14,15 @@ pub mod OpenRows
 pub mod Opens
 pub mod Picked
 pub mod RowsThen
-pub mod Settling
+pub mod SettledLayout
 pub mod SplitExtents
 pub mod SplitMoves
 pub mod Splits
 pub mod StandsArranged
-pub mod Staying
+pub mod TurnFrame
 mod Stretches
 pub mod TakingTurns
-mod Telling
+mod CategoryRecords
 pub mod Told
-pub mod Turning
+pub mod TurnCalls
 pub mod WrittenRecords

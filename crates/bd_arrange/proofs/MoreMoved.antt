@@ -17,13 +17,13 @@ use Rattle.bd_space.proofs.Uses.{taken_still}
 use Rattle.bd_roll.specs.Catalogue.{bytes_of_rows}
 use Rattle.bd_volume.specs.Copies.{InSection}
 use Rattle.bd_volume.specs.Filled.{Filled}
-use Rattle.bd_volume.specs.Growing.{AddsExtents, AreCounted, CanGrow, HasFree, IsSource, NoneLater, records_on}
+use Rattle.bd_volume.specs.Growing.{AddsExtents, AreCounted, CanGrow, HasFreeFor, IsSource, NoneLater, records_on}
 use Rattle.bd_volume.specs.declared.append.Records.{Records}
 use Rattle.bd_volume.specs.declared.copy.Section.{Section}
-use Rattle.bd_volume.proofs.Copying.{wider_work}
-use Rattle.bd_volume.proofs.Taking.{still_apart}
+use Rattle.bd_volume.proofs.CopyLemmas.{wider_work}
+use Rattle.bd_volume.proofs.GrownExtents.{still_apart}
 use Rattle.bd_arrange.specs.Cuts.{going}
-use Rattle.bd_arrange.specs.Moving.{CanMove, InMoved, IsTarget, Moves, MovesOne, bytes_if, bytes_of, chunks_of, picked, rows_then, share}
+use Rattle.bd_arrange.specs.Moving.{CanMove, InMoved, IsPlaceForKept, Moves, MovesOne, bytes_if, bytes_of, chunks_of, picked, rows_then, share}
 use Rattle.bd_arrange.specs.declared.cut.Stretch.{Stretch}
 use Rattle.bd_arrange.specs.declared.moving.Errand.{Errand}
 use Rattle.bd_arrange.specs.declared.moving.Target.{Target}
@@ -79,7 +79,7 @@ module _ {D : Type 0} (g : Ghosts D) (s : Sizes) (some : 1 ≤ s.extent) (e : Er
   total_gone : gone + share (not x.kept) x.bytes ≤ bytes_of (going false e.stretches.now)
   total_gone = omega (arith, sum-going (λ (y : Stretch). y.bytes) false xs x, going-part false now more, ap (λ l. bytes_of (going false l)) whole)
 
-  pub next_free : HasFree s space old (bytes_of (going false e.stretches.now)) → HasFree s mid filling (share (not x.kept) x.bytes)
+  pub next_free : HasFreeFor s space old (bytes_of (going false e.stretches.now)) → HasFreeFor s mid filling (share (not x.kept) x.bytes)
   next_free free =
       omega (
         arith,
@@ -110,7 +110,7 @@ module _ {D : Type 0} (g : Ghosts D) (s : Sizes) (some : 1 ≤ s.extent) (e : Er
       apart = still_apart space mid old filling e.from.now can.source_taken can.source_apart adds;
     }
 
-    pub next_target : IsTarget s mid filling section target
+    pub next_target : IsPlaceForKept s mid filling section target
     next_target = record {
       extents = can.target;
       taken = still e.to.now can.target_taken;

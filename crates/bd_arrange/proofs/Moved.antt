@@ -4,28 +4,28 @@ use Rattle.std.specs.Prelude.{All, Contains, IsTrue}
 use Rattle.std.specs.List.{IsDistinct}
 use Rattle.std.proofs.lemmas.List.Elements.{All-contains_itself, All-weaker, Contains-append_cases, Contains-append_left, Contains-append_right}
 use Rattle.bd_disk.specs.Images.{Agree, InRange}
-use Rattle.bd_disk.proofs.Agreeing.{agree_fewer}
+use Rattle.bd_disk.proofs.AgreeLemmas.{agree_fewer}
 use Rattle.bd_model.specs.Sizes.{Sizes, extent_place}
 use Rattle.bd_model.specs.declared.layout.Phase.TheVariants.{Settled}
 use Rattle.bd_space.proofs.Distinct.{distinct_head, distinct_tail}
 use Rattle.bd_roll.specs.Catalogue.{Catalogue, OpenEntry, VersionEntry, VolumeEntry, all_extents}
 use Rattle.bd_roll.specs.Rules.{ascends, obeys}
 use Rattle.bd_roll.specs.Splitting.{AreSplits, MaySplits, SplitEntry, after_split, after_splits, extents_at, kept_of, last_extents}
-use Rattle.bd_roll.proofs.Expiring.{ascends_cons, ascends_first}
+use Rattle.bd_roll.proofs.RulesAfterDrop.{ascends_cons, ascends_first}
 use Rattle.bd_roll.proofs.InPlace.{at_other, first, later, put_differ, starts}
-use Rattle.bd_roll.proofs.Obeying.{open_ascend, rules_of}
-use Rattle.bd_roll.proofs.OneArranging.{may_splits, one_arranging}
-use Rattle.bd_roll.proofs.Owning.{in_categories}
-use Rattle.bd_roll.proofs.Splitting.{ascends_lower}
+use Rattle.bd_roll.proofs.RuleLemmas.{open_ascend, rules_of}
+use Rattle.bd_roll.proofs.SplitsAsOne.{may_splits, one_arranging}
+use Rattle.bd_roll.proofs.OwnedByStep.{in_categories}
+use Rattle.bd_roll.proofs.RulesAfterSplit.{ascends_lower}
 use Rattle.bd_catalog.specs.Agreement.{InExtents}
 use Rattle.bd_catalog.specs.Opening.{Found}
 use Rattle.bd_catalog.specs.Standing.{BeginWith}
-use Rattle.bd_catalog.proofs.Agreeing.{begin_with_agrees}
+use Rattle.bd_catalog.proofs.AgreeLemmas.{begin_with_agrees}
 use Rattle.bd_volume.proofs.Unnamed.{in_flat}
 use Rattle.bd_arrange.specs.Arranged.{IsArrangedFrom}
 use Rattle.bd_arrange.specs.Turns.{Ground, Turns, due, ground, grown_bytes, is_due, taken_by}
 use Rattle.bd_arrange.proofs.OpenRows.{at_put}
-use Rattle.bd_arrange.proofs.Staying.{last_among_all}
+use Rattle.bd_arrange.proofs.TurnFrame.{last_among_all}
 use Rattle.bd_arrange.proofs.TakingTurns.{KeptStays, turns_later}
 
 abbrev splits_starts : List SplitEntry → List ℕ

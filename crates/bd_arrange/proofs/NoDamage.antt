@@ -9,7 +9,7 @@ use Rattle.std.proofs.lemmas.List.Folds.{fold-map, list_all-append}
 use Rattle.std.proofs.lemmas.List.Sums.{AllPass-from_list_all, sum_by-cons}
 use Rattle.bd_disk.specs.History.{History, contents}
 use Rattle.bd_model.specs.Chunks.{numbers}
-use Rattle.bd_model.specs.History.{History as Versions, contains, newest}
+use Rattle.bd_model.specs.History.{VersionHistory as Versions, contains, newest}
 use Rattle.bd_model.specs.Layout.{arranged_to, is_arranged, open_category}
 use Rattle.bd_model.specs.Marks.{mark}
 use Rattle.bd_model.specs.Records.{Stored, stored_at}
@@ -28,10 +28,10 @@ use Rattle.bd_catalog.specs.Opening.{Found, opened}
 use Rattle.bd_catalog.specs.Rows.{RowPlace, Spot, open_row, records_at, row_bytes, row_end, row_spots, spots_from}
 use Rattle.bd_catalog.specs.Sound.{length_holds, part_holds, part_records, stored_holds}
 use Rattle.bd_catalog.specs.Standing.{StandsFor}
-use Rattle.bd_roll.proofs.Obeying.{bounded_of}
-use Rattle.bd_catalog.proofs.Standing.{Shows, stands-shows}
-use Rattle.bd_recipe.proofs.Standing.{version-bounded}
-use Rattle.bd_volume.specs.Holding.{Group, HoldsLayout, chunks_in, groups_over}
+use Rattle.bd_roll.proofs.RuleLemmas.{bounded_of}
+use Rattle.bd_catalog.proofs.StandingLemmas.{Shows, stands-shows}
+use Rattle.bd_recipe.proofs.StandingRecipe.{version-bounded}
+use Rattle.bd_volume.specs.Holding.{Group, HoldsLayout, chunks_of_groups, groups_over}
 use Rattle.bd_volume.proofs.Held.{layout_held}
 use Rattle.bd_volume.proofs.HeldRows.{held_parts}
 use Rattle.bd_volume.proofs.HeldWalk.{chunks-over}
@@ -40,7 +40,7 @@ use Rattle.bd_volume.proofs.WalkRecords.{part_at, row_records}
 use Rattle.bd_arrange.specs.Arranged.{IsDamageOfDue}
 use Rattle.bd_arrange.specs.Cuts.{IsOfHeaders}
 use Rattle.bd_arrange.specs.Turns.{due, is_due}
-use Rattle.bd_arrange.proofs.Staying.{among_map}
+use Rattle.bd_arrange.proofs.TurnFrame.{among_map}
 
 -- rows of some categories are rows of all
 row_behind : (e : OpenEntry) (xs es : List OpenEntry) (p : RowPlace) → (Contains (map open_row xs) p → Contains (map open_row es) p) → Contains (open_row e ∷ map open_row xs) p → Contains (map open_row (e ∷ es)) p
@@ -92,7 +92,7 @@ module _ (shape : Shape) (st : VersionState) (phase : Phase) (held : ℕ) (image
   abbrev IsBounded : List ℕ → Type 0
   IsBounded x = (1 ≤ length x) × (length x ≤ s.max)
 
-  bounded : Bounded s (chunks_in groups)
+  bounded : Bounded s (chunks_of_groups groups)
   bounded x has =
       in_some (open_category h phase) x (IsBounded x) (h.base + 1) (newest h + 1 - (h.base + 1)) (ap (λ cs. contains cs x) (sym (chunks-over (open_category h phase) (numbers (h.base + 1) (newest h)))) ∙ has)
       (λ i from to there.

@@ -15,17 +15,17 @@ use Rattle.bd_extio.proofs.Places.{length-owner_bytes}
 use Rattle.bd_space.specs.Allotment.{Allotment}
 use Rattle.bd_roll.specs.Catalogue.{bytes_of_rows}
 use Rattle.bd_catalog.specs.Standing.{BeginWith}
-use Rattle.bd_catalog.proofs.Agreeing.{begin_with_more}
+use Rattle.bd_catalog.proofs.AgreeLemmas.{begin_with_more}
 use Rattle.bd_volume.specs.Copies.{AreApart, bytes_on, InSection}
 use Rattle.bd_volume.specs.Filled.{Filled}
-use Rattle.bd_volume.specs.Growing.{AddsExtents, AppendsFrom, CanGrow, IsSource, KeepsRows, Moves, records_on, rows_after}
+use Rattle.bd_volume.specs.Growing.{AddsExtents, AppendsFrom, CanGrow, IsSource, KeepsRows, MovesSection, records_on, rows_after}
 use Rattle.bd_volume.specs.declared.append.Records.{Records}
 use Rattle.bd_volume.specs.declared.fault.AppendFault.{AppendFault}
 use Rattle.bd_volume.specs.declared.fault.AppendFault.TheVariants.{DiskFault, OutOfMemory}
-use Rattle.bd_volume.proofs.Copying.{length-section, no_work, other_stays, wider_work}
+use Rattle.bd_volume.proofs.CopyLemmas.{length-section, no_work, other_stays, wider_work}
 use Rattle.bd_volume.proofs.RowsMore.{bytes-rows_more}
-use Rattle.bd_volume.proofs.Taking.{still_apart}
-use Rattle.bd_arrange.specs.Moving.{InMoved, IsTarget, MovesOne, bytes_if, rows_then, share}
+use Rattle.bd_volume.proofs.GrownExtents.{still_apart}
+use Rattle.bd_arrange.specs.Moving.{InMoved, IsPlaceForKept, MovesOne, bytes_if, rows_then, share}
 use Rattle.bd_arrange.specs.declared.moving.Target.{Target}
 use Rattle.bd_arrange.proofs.InGrown.{in_added}
 
@@ -49,7 +49,7 @@ behind_first s extents some at bytes old new fits written =
     ap (λ n. take n (owner_bytes s extents new)) total ∙ both.front
 
 module _ {D : Type 0} (g : Ghosts D) (sized : g.tells → (disk : D) → length (contents (g.history disk)) ≡ g.bytes disk) (s : Sizes) (some : 1 ≤ s.extent) (a b : D) (room : disk_bytes s ≤ g.bytes a)
-    (moved : Records) (target : Target) (space : Allotment) (f : Filled) (grows : CanGrow s space f) (source : IsSource s space f moved.from) (is : IsTarget s space f moved.from target) where
+    (moved : Records) (target : Target) (space : Allotment) (f : Filled) (grows : CanGrow s space f) (source : IsSource s space f moved.from) (is : IsPlaceForKept s space f moved.from target) where
   abbrev n : ℕ
   n = moved.from.bytes
 
@@ -87,7 +87,7 @@ module _ {D : Type 0} (g : Ghosts D) (sized : g.tells → (disk : D) → length 
     }
 
   -- it goes to the volume
-  module _ (k : target.kept ≡ false) (space_now : Allotment) (new : Filled) (adds : AddsExtents space space_now f new) (works : Moves g s f new moved.from a b) where
+  module _ (k : target.kept ≡ false) (space_now : Allotment) (new : Filled) (adds : AddsExtents space space_now f new) (works : MovesSection g s f new moved.from a b) where
     pub works_behind : (total : ℕ) → n ≤ total → bytes_of_rows f.rows + total ≤ length new.numbers * s.extent → Works g (InSection s moved.from) (InMoved s space f target.extents.now target.at (share target.kept n)) a b
     works_behind total le fits = wider_work _ _ (λ place r. r) (λ place r. inr (in_added s some space space_now f new (bytes_of_rows f.rows) n place adds (omega arith) (omega (arith, fits, le)) r)) works
 

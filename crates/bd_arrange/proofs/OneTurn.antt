@@ -6,7 +6,7 @@ use Rattle.std.proofs.lemmas.List.{append-nil, length-map}
 use Rattle.std.proofs.lemmas.List.Filters.{length-filter_both}
 use Rattle.std.proofs.lemmas.List.Sums.{sum_by-append}
 use Rattle.std.proofs.lemmas.List.FromFn.{length-map-range_with_len}
-use Rattle.bd_model.specs.History.{History, contains, newest, oldest}
+use Rattle.bd_model.specs.History.{VersionHistory, contains, newest, oldest}
 use Rattle.bd_model.specs.Laws.{ArrangesOne, grown, rows_more, rows_with}
 use Rattle.bd_model.specs.Layout.{closed_volume, open_category, record_bytes, row_of, rows}
 use Rattle.bd_model.specs.Records.{records_of}
@@ -25,7 +25,7 @@ use Rattle.bd_roll.specs.Splitting.{MaySplit, SplitEntry, after_split, extents_a
 use Rattle.bd_catalog.specs.Standing.{BeginWith, HasActives}
 use Rattle.bd_roll.proofs.InPlace.{at_other, put_differ, same_or_not, starts}
 use Rattle.bd_catalog.proofs.StandingLists.{map-range_with_len}
-use Rattle.bd_roll.proofs.Obeying.{count_in_category}
+use Rattle.bd_roll.proofs.RuleLemmas.{count_in_category}
 use Rattle.bd_arrange.specs.Turns.{taken_by}
 use Rattle.bd_arrange.proofs.LastVolume.{extents-grown, last_rows-are, rows-grown, rows_of}
 use Rattle.bd_arrange.proofs.OpenRows.{at_put, put_rows}
@@ -33,7 +33,7 @@ use Rattle.bd_arrange.proofs.Told.{some_pass}
 
 -- The catalogue has the layout in which the starts below i are arranged: what its open categories begin with stands on the
 -- image, and as many extents are free as the later starts take.
-pub record IsAt (s : Sizes) (h : History) (w : List (List ℕ)) (now : List ℕ) (free : ℕ) (d : Catalogue) (i : ℕ) : Type 0 where
+pub record IsAt (s : Sizes) (h : VersionHistory) (w : List (List ℕ)) (now : List ℕ) (free : ℕ) (d : Catalogue) (i : ℕ) : Type 0 where
   pub actives : HasActives s (grown h w) (Waiting i) d now
   pub rows : rows_of d.volumes ≡ map (rows (grown h w) (Waiting i)) (range_with_len (oldest h) (suc (newest h - oldest h)))
   pub differ : IsDistinct nat_eq (starts d.actives)
@@ -42,7 +42,7 @@ pub record IsAt (s : Sizes) (h : History) (w : List (List ℕ)) (now : List ℕ)
   pub reserved : reserve_left s.extent (grown h w) (Waiting i) ≤ free
 
 -- a split of the category of start i, by the new version's chunks
-pub record SplitsSo (s : Sizes) (h : History) (w : List (List ℕ)) (now : List ℕ) (i : ℕ) (e : SplitEntry) : Type 0 where
+pub record SplitsSo (s : Sizes) (h : VersionHistory) (w : List (List ℕ)) (now : List ℕ) (i : ℕ) (e : SplitEntry) : Type 0 where
   pub start : e.start ≡ i
   pub some : 1 ≤ length (archived h w i)
   pub chunks : e.chunks ≡ length (archived h w i)
@@ -68,8 +68,8 @@ few_kept s i cs (k ∷ []) few hold is =
       | false ↦ λ same. absurd (not_nil same)
     ] is
 
-module _ (s : Sizes) (h : History) (w : List (List ℕ)) (now : List ℕ) (one : 1 ≤ s.extent) (some : h.expired < length h.versions) (i : ℕ) (low : h.base + 1 ≤ i) (high : i ≤ newest h) where
-  abbrev next : History
+module _ (s : Sizes) (h : VersionHistory) (w : List (List ℕ)) (now : List ℕ) (one : 1 ≤ s.extent) (some : h.expired < length h.versions) (i : ℕ) (low : h.base + 1 ≤ i) (high : i ≤ newest h) where
+  abbrev next : VersionHistory
   next = grown h w
 
   step : ArrangesOne h w i

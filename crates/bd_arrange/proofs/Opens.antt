@@ -2,12 +2,12 @@
 use Rattle.std.proofs.Common.{◌⊎◌, ◌∙◌, ◌≤◌, ℕ, List, inl, inr, subst, arith, ⊎_elim}
 use Rattle.bd_disk.specs.History.{History, contents}
 use Rattle.bd_disk.specs.Made.{LeavesNow, LeavesSince, WritesOnly}
-use Rattle.bd_disk.proofs.Agreeing.{agree_fewer}
+use Rattle.bd_disk.proofs.AgreeLemmas.{agree_fewer}
 use Rattle.bd_disk.proofs.Frames.{leaves_by_writes, leaves_wider}
 use Rattle.bd_model.specs.Sizes.{extent_place}
 use Rattle.bd_catalog.specs.Opening.{Found}
 use Rattle.bd_catalog.specs.Steps.{HasCommitted, IsOldOrCommitted}
-use Rattle.bd_catalog.proofs.Agreeing.{InFront, opens_again}
+use Rattle.bd_catalog.proofs.AgreeLemmas.{InFront, opens_again}
 use Rattle.bd_arrange.specs.Opens.{HasCatalogueOf, OpensSoFar, OpensWith}
 
 pub same_both : {a b c : Found} → HasCatalogueOf a b → HasCatalogueOf b c → HasCatalogueOf a c

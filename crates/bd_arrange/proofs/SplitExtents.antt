@@ -10,7 +10,7 @@ use Rattle.bd_space.proofs.Exact.{TakenExactly-left, TakenExactly-permutation}
 use Rattle.bd_space.proofs.Uses.{taken_still}
 use Rattle.bd_roll.specs.Splitting.{KeptEntry, kept_extents}
 use Rattle.bd_volume.specs.Growing.{Takes}
-use Rattle.bd_volume.proofs.Taking.{takes_exactly}
+use Rattle.bd_volume.proofs.GrownExtents.{takes_exactly}
 use Rattle.bd_arrange.specs.Desks.{KeepsExtents, OnDesk, new_extents}
 
 module _ (space first then : Allotment) (old : OnDesk) (numbers more : List ℕ) (takes : Takes numbers space first) (adds : Takes more first then) where

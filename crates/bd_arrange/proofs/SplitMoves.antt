@@ -24,15 +24,15 @@ use Rattle.bd_space.proofs.Uses.{taken_still}
 use Rattle.bd_catalog.specs.Agreement.{InExtents, InFree}
 use Rattle.bd_roll.specs.Catalogue.{OpenEntry}
 use Rattle.bd_roll.specs.Rules.{active_holds, row_holds}
-use Rattle.bd_catalog.proofs.Agreeing.{in_extents}
+use Rattle.bd_catalog.proofs.AgreeLemmas.{in_extents}
 use Rattle.bd_volume.specs.Filled.{Filled}
 use Rattle.bd_volume.specs.Growing.{AddsExtents, AreCounted, CanGrow, Takes}
-use Rattle.bd_volume.proofs.Copying.{wider_work}
+use Rattle.bd_volume.proofs.CopyLemmas.{wider_work}
 use Rattle.bd_volume.proofs.RowsMore.{rows_more-hold}
-use Rattle.bd_volume.proofs.Taking.{taken_apart}
-use Rattle.bd_arrange.specs.Cuts.{InCategory, IsCut, going}
+use Rattle.bd_volume.proofs.GrownExtents.{taken_apart}
+use Rattle.bd_arrange.specs.Cuts.{InCategory, IsCutOf, going}
 use Rattle.bd_arrange.specs.Desks.{InRoom, IsCategory, OnDesk}
-use Rattle.bd_arrange.specs.Moving.{CanMove, CanSplit, InMoved, IsKeptBy, Moves, SplitsBy, bytes_of, kept_entries, rows_then}
+use Rattle.bd_arrange.specs.Moving.{CanMove, CanSplit, InMoved, IsKeptBy, Moves, SplitsBy, bytes_of, kept_actives, rows_then}
 use Rattle.bd_arrange.specs.declared.cut.Cut.{Cut}
 use Rattle.bd_arrange.specs.declared.cut.Stretch.{Stretch}
 use Rattle.bd_arrange.specs.declared.moving.Errand.{Errand}
@@ -47,7 +47,7 @@ taken_extents s space first numbers count takes = record {
   differ = AllPairs-from_IsDistinct Decides-eqb numbers takes.once;
 }
 
-module _ (s : Sizes) (some : 1 ≤ s.extent) (space first : Allotment) (desk : OnDesk) (a : OpenEntry) (cut : Cut) (category : IsCategory s space desk a) (grows : CanGrow s space desk.filling) (is : IsCut s a.row cut)
+module _ (s : Sizes) (some : 1 ≤ s.extent) (space first : Allotment) (desk : OnDesk) (a : OpenEntry) (cut : Cut) (category : IsCategory s space desk a) (grows : CanGrow s space desk.filling) (is : IsCutOf s a.row cut)
     (numbers : List ℕ) (takes : Takes numbers space first) (sized : length numbers ≡ up s.extent cut.kept.bytes) where
   row_fits : a.row.bytes ≤ length a.extents * s.extent
   row_fits = up-enough s.extent a.row.bytes (length a.extents) some (eqb-true (length a.extents) (up s.extent a.row.bytes) (right_and (row_holds s a.row) (length a.extents == up s.extent a.row.bytes) category.holds))
@@ -112,7 +112,7 @@ module _ (s : Sizes) (some : 1 ≤ s.extent) (space first : Allotment) (desk : O
 
   module _ (short : s.max ≤ 65536) (small : cut.kept.bytes < 2 ^ 42) where
     abbrev entries : List OpenEntry
-    entries = kept_entries a.row.start cut.kept numbers
+    entries = kept_actives a.row.start cut.kept numbers
 
     abbrev one_entry : OpenEntry
     one_entry = record { row = record { start = a.row.start; chunks = cut.kept.chunks; bytes = cut.kept.bytes }; extents = numbers }
@@ -192,7 +192,7 @@ module _ (s : Sizes) (some : 1 ≤ s.extent) (space first : Allotment) (desk : O
         (subst (λ (h : Filled). Moves g s r from to xs space_now h new.filling x y) (sym same) moves))))
 
 -- both sides have few bytes
-module _ (shape : Shape) (a : OpenEntry) (cut : Cut) (holds : active_holds (sizes_of shape) a ≡ true) (extents : AreExtents (sizes_of shape) a.extents) (is : IsCut (sizes_of shape) a.row cut) where
+module _ (shape : Shape) (a : OpenEntry) (cut : Cut) (holds : active_holds (sizes_of shape) a ≡ true) (extents : AreExtents (sizes_of shape) a.extents) (is : IsCutOf (sizes_of shape) a.row cut) where
   row_small : a.row.bytes ≤ 2 ^ 40
   row_small =
       let s = sizes_of shape in

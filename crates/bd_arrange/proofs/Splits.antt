@@ -15,7 +15,7 @@ use Rattle.bd_roll.specs.Catalogue.{Catalogue, OpenEntry, VersionEntry, VolumeEn
 use Rattle.bd_roll.specs.Rules.{ascends}
 use Rattle.bd_roll.specs.Splitting.{MaySplit, MaySplits, SplitEntry, after_split, after_splits, last_extents, last_grown, last_rows, put_in_place}
 use Rattle.bd_roll.proofs.InPlace.{first, later, put_keeps, starts}
-use Rattle.bd_roll.proofs.Owning.{in_categories}
+use Rattle.bd_roll.proofs.OwnedByStep.{in_categories}
 use Rattle.bd_volume.proofs.RowsMore.{bytes-rows_more}
 
 -- ---- one more

@@ -6,7 +6,7 @@ use Rattle.std.proofs.lemmas.List.{length-take}
 use Rattle.bd_disk.specs.Images.{Agree}
 use Rattle.bd_model.specs.Category.{begins, lasts}
 use Rattle.bd_model.specs.Chunks.{numbers}
-use Rattle.bd_model.specs.History.{History, contains, newest, version}
+use Rattle.bd_model.specs.History.{VersionHistory, contains, newest, version}
 use Rattle.bd_model.specs.Laws.{before, grown}
 use Rattle.bd_model.specs.Layout.{arranged_to, open_category}
 use Rattle.bd_model.specs.Marks.{Distinct, Near, mark}
@@ -30,13 +30,13 @@ use Rattle.bd_catalog.specs.Rows.{open_row}
 use Rattle.bd_roll.specs.Rules.{obeys, phase_holds}
 use Rattle.bd_roll.specs.Splitting.{AreSplits, SplitEntry, after_splits, kept_of}
 use Rattle.bd_catalog.specs.Standing.{HasActives, HasNumbers, HasReserve, HasVolumes, StandsFor}
-use Rattle.bd_roll.proofs.Obeying.{bounded_of}
-use Rattle.bd_roll.proofs.OneArranging.{may_splits, one_arranging}
-use Rattle.bd_catalog.proofs.Standing.{Shows, stands-shows, stands_by_parts}
+use Rattle.bd_roll.proofs.RuleLemmas.{bounded_of}
+use Rattle.bd_roll.proofs.SplitsAsOne.{may_splits, one_arranging}
+use Rattle.bd_catalog.proofs.StandingLemmas.{Shows, stands-shows, stands_by_parts}
 use Rattle.bd_catalog.proofs.StandingFound.{numbers-each, obeys-each, opened-found}
 use Rattle.bd_catalog.proofs.StandingOwned.{owned-stands}
 use Rattle.bd_recipe.specs.Reading.{recipe_found}
-use Rattle.bd_recipe.proofs.Standing.{recipe-found, version-bounded}
+use Rattle.bd_recipe.proofs.StandingRecipe.{recipe-found, version-bounded}
 use Rattle.bd_volume.specs.Holding.{HoldsRows, groups_over}
 use Rattle.bd_volume.specs.Named.{InNamed}
 use Rattle.bd_volume.proofs.Held.{layout_held}
@@ -46,7 +46,7 @@ use Rattle.bd_arrange.specs.Arranged.{AnArrangedStoreStands, arranged_catalogue}
 use Rattle.bd_arrange.specs.Turns.{AreArranged, ground}
 use Rattle.bd_arrange.proofs.AllTurns.{AreWaiting}
 use Rattle.bd_arrange.proofs.Moved.{splits_ascend}
-use Rattle.bd_arrange.proofs.Settling.{actives_settle, reserve_settles, volumes_settle}
+use Rattle.bd_arrange.proofs.SettledLayout.{actives_settle, reserve_settles, volumes_settle}
 
 -- an open category has chunks of the version that it begins with
 open_bounded : (shape : Shape) (st : VersionState) (phase : Phase) (i : ℕ) → Bounded (sizes_of shape) (open_category (history shape st) phase i)
@@ -80,10 +80,10 @@ module _ (shape : Shape) (st : VersionState) (held free cursor : ℕ) (old new :
   c = found.catalogue
 
   -- the history, and what it was before its newest version
-  abbrev all : History
+  abbrev all : VersionHistory
   all = history shape st
 
-  abbrev h : History
+  abbrev h : VersionHistory
   h = before all
 
   abbrev w : List (List ℕ)
@@ -137,7 +137,7 @@ module _ (shape : Shape) (st : VersionState) (held free cursor : ℕ) (old new :
   high = omega (arith, waits.high, shows.numbers.newest, last)
 
   held_rows : HoldsRows s old (map open_row c.actives) (groups_over (open_category (grown h w) (Waiting cursor)) (numbers (h.base + 1) (newest (grown h w))))
-  held_rows = subst (λ (x : History). HoldsRows s old (map open_row c.actives) (groups_over (open_category x (Waiting cursor)) (numbers (x.base + 1) (newest x)))) grew
+  held_rows = subst (λ (x : VersionHistory). HoldsRows s old (map open_row c.actives) (groups_over (open_category x (Waiting cursor)) (numbers (x.base + 1) (newest x)))) grew
       (layout_held shape st (Waiting cursor) held old found stands opens).actives
 
   module _ (free_is : free ≡ found.sizes.extents - held - length (all_extents c)) (arranged : AreArranged (ground found.sizes entries old) new free c es) (agree : Agree (InNamed found.sizes c) old new) where

@@ -10,7 +10,7 @@ use Rattle.bd_model.specs.Sizes.{Sizes}
 use Rattle.bd_model.specs.declared.layout.CategoryRow.{CategoryRow}
 use Rattle.bd_model.specs.declared.layout.RecipeEntry.{RecipeEntry}
 use Rattle.bd_volume.specs.Growing.{AreCounted}
-use Rattle.bd_arrange.specs.Cuts.{AreStretches, Counts, IsCut, IsStretch, Joins, Puts, Sorts, Sums, bytes_in, going, is_kept, longer, more_of}
+use Rattle.bd_arrange.specs.Cuts.{AreStretches, CountsRecords, IsCutOf, IsStretch, Joins, PutsStretch, Sorts, Sums, bytes_in, going, is_kept, longer, more_of}
 use Rattle.bd_arrange.specs.declared.cut.Cut.{Cut}
 use Rattle.bd_arrange.specs.declared.cut.Stretch.{Stretch}
 use Rattle.bd_arrange.specs.declared.cut.Tally.{Tally}
@@ -108,7 +108,7 @@ module _ (cut : Cut) (items : cut.stretches.items ≡ []) (kept : cut.kept ≡ r
     bytes = ap (λ (t : Tally). t.bytes) none ∙ sym (ap (λ z. sum_by (λ (y : Stretch). y.bytes) (going way z)) items);
   }
 
-  pub cut_none : (s : Sizes) → IsCut s (row_read 0 0) cut
+  pub cut_none : (s : Sizes) → IsCutOf s (row_read 0 0) cut
   cut_none s = record {
     each = All-same (λ y. AreCounted s y.chunks y.bytes) cut.stretches.items [] items (All-nil (λ y. AreCounted s y.chunks y.bytes));
     chunks = ap (sum_by (λ (y : Stretch). y.chunks)) items;
@@ -124,7 +124,7 @@ module _ (cut : Cut) (items : cut.stretches.items ≡ []) (kept : cut.kept ≡ r
     archived = record { chunks = ap (λ (t : Tally). t.chunks) archived; bytes = ap (λ (t : Tally). t.bytes) archived };
   }
 
-pub cut_more : (s : Sizes) (chunks bytes : ℕ) (old new : Cut) (x : Stretch) → x.chunks ≡ 1 → AreCounted s x.chunks x.bytes → Puts old x new → IsCut s (row_read chunks bytes) old → IsCut s (row_read (chunks + 1) (bytes + x.bytes)) new
+pub cut_more : (s : Sizes) (chunks bytes : ℕ) (old new : Cut) (x : Stretch) → x.chunks ≡ 1 → AreCounted s x.chunks x.bytes → PutsStretch old x new → IsCutOf s (row_read chunks bytes) old → IsCutOf s (row_read (chunks + 1) (bytes + x.bytes)) new
 cut_more s chunks bytes old new x one counted puts cut =
     let xs = old.stretches.items in
     let ys = new.stretches.items in
@@ -176,18 +176,18 @@ module _ (entries : List RecipeEntry) where
       (subst (λ z. AreStretches entries z records) (sym (append-nil xs)) are))
 
   module _ (x : Stretch) (records : List Stored) (r : Stored) (one : x.chunks ≡ 1) (size : x.bytes ≡ 36 + r.length) where
-    counts_more : (test : Stored → Bool) (b : Bool) (tally now : Tally) → test r ≡ b → now ≡ (if b then more_of tally x else tally) → Counts (filter test records) tally → Counts (filter test (records ++ r ∷ [])) now
+    counts_more : (test : Stored → Bool) (b : Bool) (tally now : Tally) → test r ≡ b → now ≡ (if b then more_of tally x else tally) → CountsRecords (filter test records) tally → CountsRecords (filter test (records ++ r ∷ [])) now
     counts_more test b tally now way is counts = by b is (filter-append test records (r ∷ []) ∙ ap (λ t. filter test records ++ cond t (r ∷ []) []) way) where
-      by : (t : Bool) → now ≡ (if t then more_of tally x else tally) → filter test (records ++ r ∷ []) ≡ filter test records ++ cond t (r ∷ []) [] → Counts (filter test (records ++ r ∷ [])) now
+      by : (t : Bool) → now ≡ (if t then more_of tally x else tally) → filter test (records ++ r ∷ []) ≡ filter test records ++ cond t (r ∷ []) [] → CountsRecords (filter test (records ++ r ∷ [])) now
       by true is list = record {
         chunks =
             let count : length (filter test (records ++ r ∷ [])) ≡ length (filter test records) + 1 = ap length list ∙ length-append (filter test records) (r ∷ []) in
             ap (λ (t : Tally). t.chunks) is ∙ (λ i. counts.chunks i + one i) ∙ sym count;
         bytes = ap (λ (t : Tally). t.bytes) is ∙ (λ i. counts.bytes i + size i) ∙ sym (ap bytes_in list ∙ sum_by_push (λ (y : Stored). 36 + y.length) (filter test records) r);
       }
-      by false is list = subst (λ l. Counts l now) (sym (list ∙ append-nil (filter test records))) (subst (Counts (filter test records)) (sym is) counts)
+      by false is list = subst (λ l. CountsRecords l now) (sym (list ∙ append-nil (filter test records))) (subst (CountsRecords (filter test records)) (sym is) counts)
 
-    pub sorts_more : (old new : Cut) → is_kept entries r ≡ x.kept → Puts old x new → Sorts entries records old → Sorts entries (records ++ r ∷ []) new
+    pub sorts_more : (old new : Cut) → is_kept entries r ≡ x.kept → PutsStretch old x new → Sorts entries records old → Sorts entries (records ++ r ∷ []) new
     sorts_more old new way puts sorts =
         let alone_bytes : bytes_in (r ∷ []) ≡ x.bytes = omega (arith, sum_by-cons (λ (y : Stored). 36 + y.length) r [], size) in
         let stretch : IsStretch entries x (r ∷ []) = record {

@@ -17,7 +17,7 @@ use Rattle.bd_roll.specs.Catalogue.{OpenEntry}
 use Rattle.bd_catalog.specs.Damages.{header_holds}
 use Rattle.bd_catalog.specs.Rows.{RowPlace, open_row, records_at, row_bytes, row_end, row_spots, spots_from}
 use Rattle.bd_catalog.specs.Sound.{length_holds}
-use Rattle.bd_arrange.specs.Cuts.{AreStretches, IsWhole, archived_records, bytes_in, is_kept, kept_records, records_in}
+use Rattle.bd_arrange.specs.Cuts.{AreStretches, IsWholeCategory, archived_records, bytes_in, is_kept, kept_records, records_in}
 use Rattle.bd_arrange.specs.Moving.{bytes_if, goes, picked}
 use Rattle.bd_arrange.specs.declared.cut.Stretch.{Stretch}
 
@@ -136,7 +136,7 @@ module _ (p : Stored → Bool) where
 
 -- ---- an open category
 
-module _ (s : Sizes) (image : List ℕ) (entries : List RecipeEntry) (a : OpenEntry) (xs : List Stretch) (whole : IsWhole s image a) (are : AreStretches entries xs (records_in s image a))
+module _ (s : Sizes) (image : List ℕ) (entries : List RecipeEntry) (a : OpenEntry) (xs : List Stretch) (whole : IsWholeCategory s image a) (are : AreStretches entries xs (records_in s image a))
     (enough : a.row.bytes ≤ length (owner_bytes s a.extents image)) (bytes : All (λ b. b < 256) (take a.row.bytes (owner_bytes s a.extents image))) where
   abbrev owner : List ℕ
   owner = owner_bytes s a.extents image

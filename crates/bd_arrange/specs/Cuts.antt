@@ -46,7 +46,7 @@ bytes_in records = sum_by (λ r. 36 + r.length) records
 -- ---- a cut
 
 -- so many records, with so many bytes
-pub record Counts (records : List Stored) (tally : Tally) : Type 0 where
+pub record CountsRecords (records : List Stored) (tally : Tally) : Type 0 where
   pub chunks : tally.chunks ≡ length records
   pub bytes : tally.bytes ≡ bytes_in records
 
@@ -72,7 +72,7 @@ pub record Sums (xs : List Stretch) (tally : Tally) : Type 0 where
 
 -- A cut of a row, whatever the disk holds: its stretches may be records of these sizes, they fill the row, and so much goes
 -- each way.
-pub record IsCut (s : Sizes) (row : CategoryRow) (cut : Cut) : Type 0 where
+pub record IsCutOf (s : Sizes) (row : CategoryRow) (cut : Cut) : Type 0 where
   pub each : All (λ x. AreCounted s x.chunks x.bytes) cut.stretches.items
   pub chunks : sum_by (λ x. x.chunks) cut.stretches.items ≡ row.chunks
   pub bytes : sum_by (λ x. x.bytes) cut.stretches.items ≡ row.bytes
@@ -82,20 +82,20 @@ pub record IsCut (s : Sizes) (row : CategoryRow) (cut : Cut) : Type 0 where
 -- a cut that tells these records apart
 pub record Sorts (entries : List RecipeEntry) (records : List Stored) (cut : Cut) : Type 0 where
   pub stretches : AreStretches entries cut.stretches.items records
-  pub kept : Counts (kept_records entries records) cut.kept
-  pub archived : Counts (archived_records entries records) cut.archived
+  pub kept : CountsRecords (kept_records entries records) cut.kept
+  pub archived : CountsRecords (archived_records entries records) cut.archived
 
 -- the headers of the category hold, and its records fill it
-pub record IsWhole (s : Sizes) (image : List ℕ) (a : OpenEntry) : Type 0 where
+pub record IsWholeCategory (s : Sizes) (image : List ℕ) (a : OpenEntry) : Type 0 where
   pub headers : HasGoodHeaders s image (open_row a ∷ [])
   pub fills : bytes_in (records_in s image a) ≡ a.row.bytes
 
 -- and the cut tells those that the recipe uses from the others
 pub record TellsApart (s : Sizes) (image : List ℕ) (entries : List RecipeEntry) (a : OpenEntry) (cut : Cut) : Type 0 where
-  pub whole : IsWhole s image a
+  pub whole : IsWholeCategory s image a
   pub stretches : AreStretches entries cut.stretches.items (records_in s image a)
-  pub kept : Counts (kept_records entries (records_in s image a)) cut.kept
-  pub archived : Counts (archived_records entries (records_in s image a)) cut.archived
+  pub kept : CountsRecords (kept_records entries (records_in s image a)) cut.kept
+  pub archived : CountsRecords (archived_records entries (records_in s image a)) cut.archived
 
 -- ---- one record more
 
@@ -106,7 +106,7 @@ pub record IsRecord (s : Sizes) (row : CategoryRow) (at : ℕ) (x : Stretch) : T
   pub within : at + x.bytes ≤ row.bytes
 
 -- the header of the record at this place of the row, which holds, was read between these moments, and the record goes this way
-pub record IsFound (s : Sizes) (image : List ℕ) (entries : List RecipeEntry) (p : RowPlace) (at : ℕ) (x : Stretch) (old new : History) : Type 0 where
+pub record IsFoundAt (s : Sizes) (image : List ℕ) (entries : List RecipeEntry) (p : RowPlace) (at : ℕ) (x : Stretch) (old new : History) : Type 0 where
   pub goes : GoesOver s image p at (at + x.bytes)
   pub way : is_kept entries (spot_in s image p at).stored ≡ x.kept
   pub reads : ReadsOnly (header_places s (spot_in s image p at)) old new
@@ -130,7 +130,7 @@ abbrev pub Joins : List Stretch → Stretch → List Stretch → Type 0
 Joins xs x ys = Lengthens xs x ys ⊎ (ys ≡ xs ++ x ∷ [])
 
 -- a stretch came behind those of a cut, and was counted where it goes
-pub record Puts (old : Cut) (x : Stretch) (new : Cut) : Type 0 where
+pub record PutsStretch (old : Cut) (x : Stretch) (new : Cut) : Type 0 where
   pub stretches : Joins old.stretches.items x new.stretches.items
   pub kept : new.kept ≡ (if x.kept then more_of old.kept x else old.kept)
   pub archived : new.archived ≡ (if x.kept then old.archived else more_of old.archived x)
@@ -141,7 +141,7 @@ pub record AddsUp (cut : Cut) : Type 0 where
   pub archived : Sums (going false cut.stretches.items) cut.archived
 
 -- and with this stretch more it can be counted
-pub record HasRoom (cut : Cut) (x : Stretch) : Type 0 where
+pub record HasRoomFor (cut : Cut) (x : Stretch) : Type 0 where
   pub chunks : sum_by (λ y. y.chunks) cut.stretches.items + x.chunks < 2 ^ 64
   pub bytes : sum_by (λ y. y.bytes) cut.stretches.items + x.bytes < 2 ^ 64
 
@@ -157,9 +157,9 @@ pub record IsInside (s : Sizes) (a : OpenEntry) (at : ℕ) : Type 0 where
   pub room : a.row.bytes ≤ length a.extents * s.extent
   pub within : at ≤ a.row.bytes
 
-abbrev pub fault_of : CategoryFault → ReadFault
-fault_of RecordFault = DiskFault
-fault_of (BadRecord damage) = Damaged damage
+abbrev pub read_fault_of : CategoryFault → ReadFault
+read_fault_of RecordFault = DiskFault
+read_fault_of (BadRecord damage) = Damaged damage
 
 -- arranging reads headers, so it meets no other damage than theirs and that of a whole row
 abbrev pub IsOfHeaders : Damage → Type 0

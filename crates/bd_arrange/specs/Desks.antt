@@ -16,7 +16,7 @@ use Rattle.bd_catalog.specs.Agreement.{InFree}
 use Rattle.bd_volume.specs.Copies.{AreApart}
 use Rattle.bd_volume.specs.Filled.{Filled}
 use Rattle.bd_volume.specs.Growing.{Appends, AreCounted, NoneLater, rows_after}
-use Rattle.bd_arrange.specs.Cuts.{IsWhole, bytes_in}
+use Rattle.bd_arrange.specs.Cuts.{IsWholeCategory, bytes_in}
 use Rattle.bd_arrange.specs.Turns.{Ground, IsKeptOf, archived_on, ground, kept_on}
 
 -- the newest closed volume while it grows, and what is kept of the categories that were split
@@ -97,6 +97,6 @@ Archives d g a old new (e ∷ es) disk disk_now = Appends d g.sizes old.filling 
 pub record Turned {D : Type 0} (d : Ghosts D) (s : Sizes) (entries : List RecipeEntry) (a : OpenEntry) (free : ℕ) (old new : OnDesk) (disk disk_now : D) : Type 0 where
   pub split : List SplitEntry
   pub becomes : Becomes s a old new split
-  pub whole : d.tells → IsWhole s (contents (d.history disk)) a
+  pub whole : d.tells → IsWholeCategory s (contents (d.history disk)) a
   pub told : d.tells → Tells (ground s entries (contents (d.history disk))) (contents (d.history disk_now)) free a old split
   pub archives : Archives d (ground s entries (contents (d.history disk))) a old new split disk disk_now

@@ -44,7 +44,7 @@ rows_then f start zero bytes = f.rows
 rows_then f start (suc n) bytes = rows_after f start (suc n) bytes
 
 -- extents of what is kept, which are taken and apart from the volume's and from those of the section, with room for it
-pub record IsTarget (s : Sizes) (space : Allotment) (f : Filled) (section : Section) (target : Target) : Type 0 where
+pub record IsPlaceForKept (s : Sizes) (space : Allotment) (f : Filled) (section : Section) (target : Target) : Type 0 where
   pub extents : AreExtents s target.extents.now
   pub taken : All (IsTaken space) target.extents.now
   pub apart : AreApart target.extents.now f.numbers
@@ -113,8 +113,8 @@ pub record CanSplit (s : Sizes) (free : ℕ) (f : Filled) (latest : ℕ) (cut : 
   pub room : up s.extent (bytes_of_rows f.rows + cut.archived.bytes) + up s.extent cut.kept.bytes ≤ length f.numbers + free
 
 -- what stands in its place, in these extents
-abbrev pub kept_entries : ℕ → Tally → List ℕ → List OpenEntry
-kept_entries start kept numbers = if kept.chunks == 0 then [] else record { row = record { start = start; chunks = kept.chunks; bytes = kept.bytes }; extents = numbers } ∷ []
+abbrev pub kept_actives : ℕ → Tally → List ℕ → List OpenEntry
+kept_actives start kept numbers = if kept.chunks == 0 then [] else record { row = record { start = start; chunks = kept.chunks; bytes = kept.bytes }; extents = numbers } ∷ []
 
 -- what is kept of it: as much as the cut says, from the first byte of the extents on
 pub record IsKeptBy {D : Type 0} (d : Ghosts D) (s : Sizes) (a : OpenEntry) (cut : Cut) (disk disk_now : D) (k : OpenEntry) : Type 0 where

@@ -11,7 +11,7 @@ use Rattle.bd_category.specs.Laws.{written_records}
 use Rattle.bd_roll.specs.Catalogue.{Catalogue, OpenEntry, bytes_of_rows, oldest_in}
 use Rattle.bd_roll.specs.Splitting.{MaySplits, SplitEntry, after_split, after_splits, last_extents, last_rows}
 use Rattle.bd_catalog.specs.Standing.{BeginWith}
-use Rattle.bd_arrange.specs.Cuts.{IsWhole, archived_records, bytes_in, kept_records, records_in}
+use Rattle.bd_arrange.specs.Cuts.{IsWholeCategory, archived_records, bytes_in, kept_records, records_in}
 
 -- which open categories wait: those from the cursor up to the newest version's own
 abbrev pub is_due : ℕ → Phase → OpenEntry → Bool
@@ -46,7 +46,7 @@ pub record IsToSplit (g : Ground) (free : ℕ) (c : Catalogue) (a : OpenEntry) :
 
 -- a category that stays as it is: its records hold, and no split is to be made
 pub record IsLeft (g : Ground) (free : ℕ) (c : Catalogue) (a : OpenEntry) : Type 0 where
-  pub whole : IsWhole g.sizes g.image a
+  pub whole : IsWholeCategory g.sizes g.image a
   pub stays : IsToSplit g free c a → ⊥
 
 -- what is kept of a category: its records, from the first byte of the extents on
@@ -57,7 +57,7 @@ pub record IsKeptOf (g : Ground) (now : List ℕ) (a k : OpenEntry) : Type 0 whe
 
 -- a category that is split so, where the image is this one now
 pub record IsSplit (g : Ground) (now : List ℕ) (free : ℕ) (c : Catalogue) (a : OpenEntry) (e : SplitEntry) : Type 0 where
-  pub whole : IsWhole g.sizes g.image a
+  pub whole : IsWholeCategory g.sizes g.image a
   pub made : IsToSplit g free c a
   pub start : e.start ≡ a.row.start
   pub chunks : e.chunks ≡ length (archived_on g a)

@@ -12,7 +12,7 @@ ghost use Rattle.bd_catalog.specs.Ledger.{HasRoom};
 ghost use Rattle.bd_roll.specs.Shown.{open_entry};
 ghost use Rattle.bd_roll.specs.Splitting.{FitsArrange};
 ghost use Rattle.bd_catalog.specs.Steps.{InOtherHalf};
-ghost use Rattle.bd_recipe.specs.Reading.{IfDamaged, is_disk_fault, recipe_found};
+ghost use Rattle.bd_recipe.specs.Reading.{IfDamaged, is_disk_fault_of_read, recipe_found};
 ghost use Rattle.bd_arrange.specs.Arranged.{AnswersDue, ButDiskFault, InDue, IsAllotted, IsDamageOfDue, IsSpared, KeepsStates, LeavesFound};
 ghost use Rattle.bd_arrange.specs.Desks.{new_extents};
 ghost use Rattle.bd_arrange.specs.Opens.{IsSafeOpening};
@@ -46,7 +46,7 @@ pub fn arrange<D: Disk>(
     requires newest { D.tells → catalog.old.found.catalogue.phase ≢ Settled →
         recipe_found catalog.old.found.sizes catalog.old.found.catalogue (contents (D.history disk.old)) catalog.old.found.catalogue.newest ≡ Ok neighbour.now.entries }
     ensures disk { Works D.Disk (InDue catalog.old.found) (IsSpared catalog.old.found) disk.old disk.new }
-    ensures cause { FailsByCount is_disk_fault (D.faults disk.old) (D.faults disk.new) result }
+    ensures cause { FailsByCount is_disk_fault_of_read (D.faults disk.old) (D.faults disk.new) result }
     ensures settled { catalog.old.found.catalogue.phase ≡ Settled → IsOk result × (disk.new ≡ disk.old) × (catalog.new ≡ catalog.old) × (space.new ≡ space.old) }
     ensures found { LeavesFound catalog.old.found catalog.new.found result }
     ensures space { (extent_count space.new ≡ extent_count space.old) × KeepsHeld space.old space.new × ButDiskFault result (IsAllotted catalog.new.found space.new) }
@@ -105,7 +105,7 @@ fn arrange_all<D: Disk>(
     requires allotted { IsAllotted catalog.now.found space.old }
     requires begins { HasSplits catalog.now.found.catalogue [] desk.old }
     ensures disk { Works D.Disk (InDue catalog.now.found) (IsStaged catalog.now.found) disk.old disk.new }
-    ensures cause { FailsByCount is_disk_fault (D.faults disk.old) (D.faults disk.new) result }
+    ensures cause { FailsByCount is_disk_fault_of_read (D.faults disk.old) (D.faults disk.new) result }
     ensures taken { IsTakenFor catalog.now.found space.old space.new desk.new }
     ensures arranged { OnOk result (IsUnderway D.Disk catalog.now.found neighbour.now.entries (free_count space.old) (due catalog.now.found.catalogue) desk.new disk.old disk.new) }
     ensures damage { IfDamaged result (λ damage. D.tells → IsDamageOfDue catalog.now.found damage (D.history disk.old) (D.history disk.new)) }
@@ -132,7 +132,7 @@ fn name_all<D: Disk>(
     requires agrees { D.tells → Agrees catalog.old.found (D.history disk.old) }
     requires owners { TakenExactly space.old (all_extents catalog.old.found.catalogue ++ new_extents desk) }
     ensures disk { Writes D.Disk (InOtherHalf catalog.old.found) disk.old disk.new }
-    ensures cause { FailsByCount is_disk_fault (D.faults disk.old) (D.faults disk.new) result }
+    ensures cause { FailsByCount is_disk_fault_of_read (D.faults disk.old) (D.faults disk.new) result }
     ensures named { Names D.Disk catalog.old.found (arranged_at catalog.old.found desk) space.old catalog.new.found space.new result disk.old disk.new }
 {
     let (volume, splits) = desk.finish();

@@ -9,9 +9,9 @@ ghost use Rattle.bd_roll.specs.Catalogue.{Catalogue};
 ghost use Rattle.bd_catalog.specs.Rows.{open_row, spot_in};
 ghost use Rattle.bd_roll.specs.Rules.{active_holds};
 ghost use Rattle.bd_roll.specs.Shown.{open_entry};
-ghost use Rattle.bd_recipe.specs.Reading.{IfDamaged, is_disk_fault};
-ghost use Rattle.bd_volume.specs.Headers.{IsRefused};
-ghost use Rattle.bd_arrange.specs.Cuts.{AddsUp, HasRoom, InCategory, IsCut, IsDamageIn, IsFound, IsInside, IsRecord, Joins, Puts, TellsApart, fault_of, longer, more_of};
+ghost use Rattle.bd_recipe.specs.Reading.{IfDamaged, is_disk_fault_of_read};
+ghost use Rattle.bd_volume.specs.Headers.{IsRefusedAt};
+ghost use Rattle.bd_arrange.specs.Cuts.{AddsUp, HasRoomFor, InCategory, IsCutOf, IsDamageIn, IsFoundAt, IsInside, IsRecord, Joins, PutsStretch, TellsApart, read_fault_of, longer, more_of};
 
 use bd_catalog::ActiveCategory;
 use bd_category::{CategoryFault, read_header};
@@ -100,11 +100,11 @@ impl Cut {
         }
     }
 
-    // Puts a stretch behind the others.
+    // PutsStretch a stretch behind the others.
     fn put(&mut self, more: Stretch) -> Result<(), OutOfMemory>
         requires sums { AddsUp self.old }
-        requires room { HasRoom self.old more }
-        ensures { OnOk result (Puts self.old more self.new) }
+        requires room { HasRoomFor self.old more }
+        ensures { OnOk result (PutsStretch self.old more self.new) }
     {
         put_stretch(&mut self.stretches, more)?;
         if more.kept {
@@ -116,7 +116,7 @@ impl Cut {
     }
 }
 
-// Puts a stretch behind others: the last of them is lengthened where it goes the same way.
+// PutsStretch a stretch behind others: the last of them is lengthened where it goes the same way.
 fn put_stretch(stretches: &mut Sequence<Stretch>, more: Stretch) -> Result<(), OutOfMemory>
     requires chunks { sum_by (λ x. x.chunks) stretches.old.items + more.chunks < 2 ^ 64 }
     requires bytes { sum_by (λ x. x.bytes) stretches.old.items + more.bytes < 2 ^ 64 }
@@ -138,7 +138,7 @@ fn put_stretch(stretches: &mut Sequence<Stretch>, more: Stretch) -> Result<(), O
 
 // The fault of a header, as one of what is read.
 fn read_fault(fault: CategoryFault) -> ReadFault
-    ensures { result ≡ fault_of fault }
+    ensures { result ≡ read_fault_of fault }
 {
     match fault {
         CategoryFault::DiskFault => ReadFault::DiskFault,
@@ -157,10 +157,10 @@ fn read_record<D: Disk>(
     requires room { disk_bytes (sizes_of shape.now) ≤ D.bytes disk.old }
     requires inside { IsInside (sizes_of shape.now) (open_entry category.now) at }
     ensures disk { Reads D.Disk (InCategory (sizes_of shape.now) (open_entry category.now)) disk.old disk.new }
-    ensures cause { FailsByCount is_disk_fault (D.faults disk.old) (D.faults disk.new) result }
+    ensures cause { FailsByCount is_disk_fault_of_read (D.faults disk.old) (D.faults disk.new) result }
     ensures record { IfOk result (IsRecord (sizes_of shape.now) category.now.row at) }
-    ensures found { D.tells → IfOk result (λ x. IsFound (sizes_of shape.now) (contents (D.history disk.old)) neighbour.now.entries (open_row (open_entry category.now)) at x (D.history disk.old) (D.history disk.new)) }
-    ensures damage { IfDamaged result (λ damage. D.tells → IsRefused (sizes_of shape.now) (open_row (open_entry category.now)) (spot_in (sizes_of shape.now) (contents (D.history disk.old)) (open_row (open_entry category.now)) at) damage (D.history disk.old) (D.history disk.new)) }
+    ensures found { D.tells → IfOk result (λ x. IsFoundAt (sizes_of shape.now) (contents (D.history disk.old)) neighbour.now.entries (open_row (open_entry category.now)) at x (D.history disk.old) (D.history disk.new)) }
+    ensures damage { IfDamaged result (λ damage. D.tells → IsRefusedAt (sizes_of shape.now) (open_row (open_entry category.now)) (spot_in (sizes_of shape.now) (contents (D.history disk.old)) (open_row (open_entry category.now)) at) damage (D.history disk.old) (D.history disk.new)) }
 {
     let row = category.row;
     let who = Owner::Active(row.start);
@@ -188,8 +188,8 @@ pub(crate) fn tell_apart<D: Disk>(
     requires extents { AreExtents (sizes_of shape.now) category.now.extents.numbers }
     requires holds { IsTrue (active_holds (sizes_of shape.now) (open_entry category.now)) }
     ensures disk { Reads D.Disk (InCategory (sizes_of shape.now) (open_entry category.now)) disk.old disk.new }
-    ensures cause { FailsByCount is_disk_fault (D.faults disk.old) (D.faults disk.new) result }
-    ensures cut { IfOk result (λ cut. IsCut (sizes_of shape.now) category.now.row cut) }
+    ensures cause { FailsByCount is_disk_fault_of_read (D.faults disk.old) (D.faults disk.new) result }
+    ensures cut { IfOk result (λ cut. IsCutOf (sizes_of shape.now) category.now.row cut) }
     ensures apart { D.tells → IfOk result (λ cut. TellsApart (sizes_of shape.now) (contents (D.history disk.old)) neighbour.now.entries (open_entry category.now) cut) }
     ensures damage { IfDamaged result (λ damage. D.tells → (c : Catalogue) →
         IsDamageIn (sizes_of shape.now) c (contents (D.history disk.old)) (open_row (open_entry category.now) ∷ []) damage (D.history disk.old) (D.history disk.new)) }

@@ -9,12 +9,12 @@ ghost use Rattle.bd_space.specs.Allotment.{extent_count, free_count};
 ghost use Rattle.bd_roll.specs.Catalogue.{Catalogue, bytes_of_rows};
 ghost use Rattle.bd_catalog.specs.Rows.{open_row};
 ghost use Rattle.bd_roll.specs.Shown.{open_entry};
-ghost use Rattle.bd_roll.specs.Steps.{fresh_entries};
-ghost use Rattle.bd_recipe.specs.Reading.{IfDamaged, is_disk_fault};
-ghost use Rattle.bd_volume.specs.Growing.{CanGrow, Takes, is_disk_fault as is_append_fault};
-ghost use Rattle.bd_arrange.specs.Cuts.{InCategory, IsCut, IsDamageIn};
+ghost use Rattle.bd_roll.specs.Steps.{fresh_actives};
+ghost use Rattle.bd_recipe.specs.Reading.{IfDamaged, is_disk_fault_of_read};
+ghost use Rattle.bd_volume.specs.Growing.{CanGrow, Takes, is_disk_fault_of_append as is_append_fault};
+ghost use Rattle.bd_arrange.specs.Cuts.{InCategory, IsCutOf, IsDamageIn};
 ghost use Rattle.bd_arrange.specs.Desks.{InRoom, IsCategory, KeepsExtents, Turned};
-ghost use Rattle.bd_arrange.specs.Moving.{CanSplit, SplitsBy, as_read, kept_entries};
+ghost use Rattle.bd_arrange.specs.Moving.{CanSplit, SplitsBy, as_read, kept_actives};
 
 use crate::cut::{Cut, Tally, tell_apart};
 use crate::moving::{Errand, move_stretches};
@@ -90,7 +90,7 @@ impl Desk {
         requires category { IsCategory (sizes_of shape.now) space.old self.old (open_entry category.now) }
         requires grows { CanGrow (sizes_of shape.now) space.old self.old.filling }
         ensures disk { Works D.Disk (InCategory (sizes_of shape.now) (open_entry category.now)) (InRoom (sizes_of shape.now) space.old self.old) disk.old disk.new }
-        ensures cause { FailsByCount is_disk_fault (D.faults disk.old) (D.faults disk.new) result }
+        ensures cause { FailsByCount is_disk_fault_of_read (D.faults disk.old) (D.faults disk.new) result }
         ensures extents { KeepsExtents space.old space.new self.old self.new }
         ensures grows { OnOk result (CanGrow (sizes_of shape.now) space.new self.new.filling) }
         ensures turned { OnOk result (Turned D.Disk (sizes_of shape.now) neighbour.now.entries (open_entry category.now) (free_count space.old) self.old self.new disk.old disk.new) }
@@ -121,7 +121,7 @@ impl Desk {
         requires room { disk_bytes (sizes_of shape.now) ≤ D.bytes disk.old }
         requires category { IsCategory (sizes_of shape.now) space.old self.old (open_entry category.now) }
         requires grows { CanGrow (sizes_of shape.now) space.old self.old.filling }
-        requires cut { IsCut (sizes_of shape.now) category.now.row cut.now }
+        requires cut { IsCutOf (sizes_of shape.now) category.now.row cut.now }
         requires may { CanSplit (sizes_of shape.now) (free_count space.old) self.old.filling (max category.now.row.start self.old.filling.oldest) cut.now }
         ensures disk { Works D.Disk (InCategory (sizes_of shape.now) (open_entry category.now)) (InRoom (sizes_of shape.now) space.old self.old) disk.old disk.new }
         ensures cause { FailsByCount is_append_fault (D.faults disk.old) (D.faults disk.new) result }
@@ -204,7 +204,7 @@ fn take_extents(
 
 // What stands in place of a category of which so much is kept, in these extents.
 fn kept_category(start: u32, kept: Tally, extents: Owned) -> Option<ActiveCategory>
-    ensures { fresh_entries result ≡ kept_entries start kept extents.numbers }
+    ensures { fresh_actives result ≡ kept_actives start kept extents.numbers }
 {
     if kept.chunks == 0 {
         return None;

@@ -3,7 +3,7 @@ ghost use Rattle.std.specs.Prelude.{◌≡◌, map};
 ghost use Rattle.std.specs.List.{flat_map};
 ghost use Rattle.bd_roll.specs.Giving.{AreOwned, GivesUp};
 ghost use Rattle.bd_roll.specs.Splitting.{kept_extents};
-ghost use Rattle.bd_roll.specs.Steps.{fresh_entries, kept_entry};
+ghost use Rattle.bd_roll.specs.Steps.{fresh_actives, kept_entry};
 ghost use Rattle.bd_arrange.specs.Desks.{new_extents};
 
 use crate::desk::Desk;
@@ -20,8 +20,8 @@ fn free_extents(space: &mut Space, owner: Owned)
 
 // The extents of what is kept of a category are free.
 fn free_kept(space: &mut Space, kept: Option<ActiveCategory>)
-    requires { AreOwned space.old (flat_map (λ a. a.extents) (fresh_entries kept)) }
-    ensures { GivesUp (flat_map (λ a. a.extents) (fresh_entries kept)) space.old space.new }
+    requires { AreOwned space.old (flat_map (λ a. a.extents) (fresh_actives kept)) }
+    ensures { GivesUp (flat_map (λ a. a.extents) (fresh_actives kept)) space.old space.new }
 {
     if let Some(category) = kept {
         free_extents(space, category.extents);

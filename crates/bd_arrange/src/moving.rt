@@ -5,9 +5,9 @@ ghost use Rattle.bd_disk.specs.Runs.{Works};
 ghost use Rattle.bd_model.specs.Sizes.{sizes_of, disk_bytes};
 ghost use Rattle.bd_extio.specs.Ranges.{InOwner};
 ghost use Rattle.bd_volume.specs.Copies.{InSection};
-ghost use Rattle.bd_volume.specs.Growing.{AddsExtents, AreCounted, CanGrow, HasFree, IsSource, NoneLater, is_disk_fault};
+ghost use Rattle.bd_volume.specs.Growing.{AddsExtents, AreCounted, CanGrow, HasFreeFor, IsSource, NoneLater, is_disk_fault_of_append};
 ghost use Rattle.bd_arrange.specs.Cuts.{going};
-ghost use Rattle.bd_arrange.specs.Moving.{CanMove, InMoved, IsTarget, Moves, MovesOne, bytes_of, share};
+ghost use Rattle.bd_arrange.specs.Moving.{CanMove, InMoved, IsPlaceForKept, Moves, MovesOne, bytes_of, share};
 
 use crate::cut::Stretch;
 use bd_disk::Disk;
@@ -53,11 +53,11 @@ fn move_records<D: Disk>(
     requires order { NoneLater filling.old moved.now.start }
     requires counted { AreCounted (sizes_of shape.now) moved.now.chunks moved.now.from.bytes }
     requires source { IsSource (sizes_of shape.now) space.old filling.old moved.now.from }
-    requires target { IsTarget (sizes_of shape.now) space.old filling.old moved.now.from target.now }
-    requires free { HasFree (sizes_of shape.now) space.old filling.old (share (not target.now.kept) moved.now.from.bytes) }
+    requires target { IsPlaceForKept (sizes_of shape.now) space.old filling.old moved.now.from target.now }
+    requires free { HasFreeFor (sizes_of shape.now) space.old filling.old (share (not target.now.kept) moved.now.from.bytes) }
     requires buffer { 1 ≤ length buffer.old }
     ensures disk { Works D.Disk (InSection (sizes_of shape.now) moved.now.from) (InMoved (sizes_of shape.now) space.old filling.old target.now.extents.now target.now.at (share target.now.kept moved.now.from.bytes)) disk.old disk.new }
-    ensures cause { FailsByCount is_disk_fault (D.faults disk.old) (D.faults disk.new) result }
+    ensures cause { FailsByCount is_disk_fault_of_append (D.faults disk.old) (D.faults disk.new) result }
     ensures adds { AddsExtents space.old space.new filling.old filling.new }
     ensures moves { OnOk result (MovesOne D.Disk (sizes_of shape.now) space.new filling.old filling.new moved.now target.now disk.old disk.new) }
 {
@@ -82,10 +82,10 @@ pub(crate) fn move_stretches<D: Disk>(
     requires grows { CanGrow (sizes_of shape.now) space.old filling.old }
     requires order { NoneLater filling.old errand.now.start }
     requires errand { CanMove (sizes_of shape.now) space.old filling.old errand.now }
-    requires free { HasFree (sizes_of shape.now) space.old filling.old (bytes_of (going false errand.now.stretches.now)) }
+    requires free { HasFreeFor (sizes_of shape.now) space.old filling.old (bytes_of (going false errand.now.stretches.now)) }
     requires buffer { 1 ≤ length buffer.old }
     ensures disk { Works D.Disk (InOwner (sizes_of shape.now) errand.now.from.now 0 (bytes_of errand.now.stretches.now)) (InMoved (sizes_of shape.now) space.old filling.old errand.now.to.now 0 (bytes_of (going true errand.now.stretches.now))) disk.old disk.new }
-    ensures cause { FailsByCount is_disk_fault (D.faults disk.old) (D.faults disk.new) result }
+    ensures cause { FailsByCount is_disk_fault_of_append (D.faults disk.old) (D.faults disk.new) result }
     ensures adds { AddsExtents space.old space.new filling.old filling.new }
     ensures moves { OnOk result (Moves D.Disk (sizes_of shape.now) errand.now.start errand.now.from.now errand.now.to.now errand.now.stretches.now space.new filling.old filling.new disk.old disk.new) }
 {

@@ -1,7 +1,7 @@
 -- The formats on small values, computed.
 use Rattle.std.proofs.Common.{◌≡◌, ℕ, List, [], ◌∷◌, ◌++◌, refl, replicate, map, get_or, Some, None}
 use Rattle.std.specs.List.{range_with_len}
-use Rattle.bd_model.specs.History.{History, no_versions}
+use Rattle.bd_model.specs.History.{VersionHistory, no_versions}
 use Rattle.bd_model.specs.Sizes.{Sizes, payload_room, half_bytes, disk_bytes, extent_place}
 use Rattle.bd_model.specs.declared.layout.Phase.TheVariants.{Settled, Waiting}
 use Rattle.bd_gate.specs.Superblock.{superblock}
@@ -58,7 +58,7 @@ one_read = refl
 abbrev abc : List (List ℕ)
 abc = (65 ∷ 65 ∷ 65 ∷ 65 ∷ []) ∷ (66 ∷ 66 ∷ 66 ∷ 66 ∷ []) ∷ (67 ∷ 67 ∷ 67 ∷ 67 ∷ []) ∷ []
 
-abbrev one : History
+abbrev one : VersionHistory
 one = record (no_versions 0) { versions = abc ∷ [] }
 
 -- the 120 bytes of the recipe, then header and body of each chunk
@@ -73,7 +73,7 @@ one_bodies = refl
 abbrev acd : List (List ℕ)
 acd = (65 ∷ 65 ∷ 65 ∷ 65 ∷ []) ∷ (67 ∷ 67 ∷ 67 ∷ 67 ∷ []) ∷ (68 ∷ 68 ∷ 68 ∷ 68 ∷ []) ∷ []
 
-abbrev two : History
+abbrev two : VersionHistory
 two = record (no_versions 0) { versions = abc ∷ acd ∷ [] }
 
 abbrev two_versions : Catalogue
@@ -102,7 +102,7 @@ pub two_bodies : bodies_read two (Waiting 1) 2 ≡ acd
 two_bodies = refl
 
 -- a third version, with the chunk of 66s back
-abbrev three : History
+abbrev three : VersionHistory
 three = record (no_versions 0) { versions = abc ∷ acd ∷ ((66 ∷ 66 ∷ 66 ∷ 66 ∷ []) ∷ (65 ∷ 65 ∷ 65 ∷ 65 ∷ []) ∷ (68 ∷ 68 ∷ 68 ∷ 68 ∷ []) ∷ []) ∷ [] }
 
 abbrev firsts : List (List ℕ) → List ℕ

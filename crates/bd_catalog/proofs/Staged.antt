@@ -5,7 +5,7 @@ use Rattle.std.proofs.lemmas.List.Elements.{All-contains}
 use Rattle.bd_disk.specs.History.{History, contents}
 use Rattle.bd_disk.specs.Images.{InRange, Agree, AgreeBut}
 use Rattle.bd_disk.specs.Made.{LeavesNow, LeavesSince, WritesOnly}
-use Rattle.bd_disk.proofs.Agreeing.{agree_fewer, agree_sym}
+use Rattle.bd_disk.proofs.AgreeLemmas.{agree_fewer, agree_sym}
 use Rattle.bd_disk.proofs.Frames.{contents_now, leaves_both, leaves_by_writes, leaves_now, leaves_wider, same_contents, still_sure, sure_same}
 use Rattle.bd_model.specs.Sizes.{Sizes, sizes_of, extent_place}
 use Rattle.bd_model.specs.State.{VersionState}
@@ -22,8 +22,8 @@ use Rattle.bd_catalog.specs.Opening.{Found, opened}
 use Rattle.bd_roll.specs.Rules.{catalogue_of}
 use Rattle.bd_catalog.specs.Standing.{StandsFor, Stands}
 use Rattle.bd_catalog.specs.Steps.{HasCommitted, IsKeptOrCommitted, IsOldOrCommitted, KeepsCatalogue}
-use Rattle.bd_catalog.proofs.Agreeing.{InFront, one_extent, opens_again}
-use Rattle.bd_catalog.proofs.Standing.{InStore, found_once, halves_agree, stands_for_agrees, stands_for_opened, stands_opened}
+use Rattle.bd_catalog.proofs.AgreeLemmas.{InFront, one_extent, opens_again}
+use Rattle.bd_catalog.proofs.StandingLemmas.{InStore, found_once, halves_agree, stands_for_agrees, stands_for_opened, stands_opened}
 use Rattle.bd_catalog.proofs.StandingFound.{IsFound, opened-found}
 
 -- ---- one catalogue in two images

@@ -14,7 +14,7 @@ use Rattle.bd_model.specs.declared.layout.Phase.{Phase}
 use Rattle.bd_model.specs.declared.layout.Phase.TheVariants.{Settled}
 use Rattle.bd_model.specs.Sizes.{sizes_of}
 use Rattle.bd_model.specs.Chunks.{chunks}
-use Rattle.bd_model.specs.History.{History, newest, retained}
+use Rattle.bd_model.specs.History.{VersionHistory, newest, retained}
 use Rattle.bd_model.specs.Laws.{grown}
 use Rattle.bd_model.specs.Recipe.{recipe}
 use Rattle.bd_model.specs.Room.{fresh, need, counted}
@@ -33,7 +33,7 @@ abbrev outcome_of : FileMap → Answer × VersionState → Outcome
 outcome_of files result = record { answer = result.0; state = result.1; files = files }
 
 module _ (shape : Shape) (held : ℕ) (st : VersionState) (files : FileMap) (name : List ℕ) where
-  abbrev h : History
+  abbrev h : VersionHistory
   h = history shape st
 
   abbrev by_count : Option Outcome
@@ -98,7 +98,7 @@ pub record IsAnswered (shape : Shape) (held : ℕ) (st : VersionState) (phase : 
 
 -- a backup is answered where the new image has its catalogue and its bytes
 pub backup_answered : (shape : Shape) (held : ℕ) (st : VersionState) (files : FileMap) (name stream xs ys old new : List ℕ) (before after : Found) →
-    let h : History = history shape st in
+    let h : VersionHistory = history shape st in
     let w : List (List ℕ) = chunks (cut_of shape) stream in
     let free : ℕ = free_extents shape held st in
     StandsFor shape st Settled held old → opened old ≡ Ok before →

@@ -9,7 +9,7 @@ use Rattle.bd_model.specs.declared.layout.Phase.{Phase}
 use Rattle.bd_model.specs.declared.layout.Phase.TheVariants.{Settled, Waiting}
 use Rattle.bd_model.specs.Sizes.{Sizes, sizes_of}
 use Rattle.bd_model.specs.Chunks.{chunks}
-use Rattle.bd_model.specs.History.{History, newest, oldest, retained}
+use Rattle.bd_model.specs.History.{VersionHistory, newest, oldest, retained}
 use Rattle.bd_model.specs.Layout.{rows}
 use Rattle.bd_model.specs.Laws.{grown}
 use Rattle.bd_model.specs.Recipe.{recipe}
@@ -24,7 +24,7 @@ use Rattle.bd_roll.specs.Catalogue.{Catalogue, VersionEntry, OpenEntry, oldest_i
 use Rattle.bd_catalog.specs.Opening.{Found, opened}
 use Rattle.bd_catalog.specs.Standing.{BeginWith, HasNumbers, HasVolumes, HasActives, HasReserve, StandsFor, lines_from}
 use Rattle.bd_catalog.specs.Agreement.{InExtents}
-use Rattle.bd_catalog.proofs.Standing.{Shows, stands-shows, shows_agrees, stands_by_parts}
+use Rattle.bd_catalog.proofs.StandingLemmas.{Shows, stands-shows, shows_agrees, stands_by_parts}
 use Rattle.bd_catalog.proofs.StandingEmpty.{nothing_from, nothing-state, catalogue_from, nothing-numbers, nothing-lines, nothing-actives}
 use Rattle.bd_roll.specs.Growing.{with_entries, entry_for, empty_volume, own_category}
 use Rattle.bd_catalog.proofs.StandingGrown.{numbers-more, recipes-more, actives-more, volumes-more, lines-more}
@@ -39,13 +39,13 @@ with_version-state shape st stream state below =
     }
 
 module _ (shape : Shape) (st : VersionState) (stream : List ℕ) where
-  abbrev h : History
+  abbrev h : VersionHistory
   h = history shape st
 
   abbrev w : List (List ℕ)
   w = chunks (cut_of shape) stream
 
-  abbrev g : History
+  abbrev g : VersionHistory
   g = grown h w
 
   -- the same with the history of the state before
@@ -79,7 +79,7 @@ first_catalogue base stream parts begun xs ys = record {
 -- where nothing was retained the image after a backup stands for its one version
 pub first_version_stands : (shape : Shape) (base held : ℕ) (stream xs ys new : List ℕ) (found : Found) →
     let st : VersionState = nothing_from base in
-    let h : History = history shape st in
+    let h : VersionHistory = history shape st in
     let w : List (List ℕ) = chunks (cut_of shape) stream in
     base < last_number → need shape.extent h w + held ≤ shape.extents →
     opened new ≡ Ok found → found.sizes ≡ sizes_of shape → found.catalogue ≡ first_catalogue base stream w (fresh h w) xs ys →
@@ -88,7 +88,7 @@ pub first_version_stands : (shape : Shape) (base held : ℕ) (stream xs ys new :
 unfolding reserve_left
 first_version_stands shape base held stream xs ys new found below fits opens sizes is recipe_there records_there =
     let st : VersionState = nothing_from base in
-    let h : History = history shape st in
+    let h : VersionHistory = history shape st in
     let w : List (List ℕ) = chunks (cut_of shape) stream in
     let s : Sizes = sizes_of shape in
     let c : Catalogue = catalogue_from base in
@@ -118,7 +118,7 @@ next_catalogue c stream parts begun xs ys =
 
 -- where a version was retained the image after a backup stands for the versions with the new one, which waits to be arranged
 pub next_version_stands : (shape : Shape) (st : VersionState) (held : ℕ) (stream xs ys old new : List ℕ) (before after : Found) →
-    let h : History = history shape st in
+    let h : VersionHistory = history shape st in
     let w : List (List ℕ) = chunks (cut_of shape) stream in
     StandsFor shape st Settled held old → opened old ≡ Ok before →
     1 ≤ retained h → newest h < last_number → need shape.extent h w ≤ free_extents shape held st →
@@ -128,7 +128,7 @@ pub next_version_stands : (shape : Shape) (st : VersionState) (held : ℕ) (stre
     StandsFor shape (with_version st stream) (Waiting (st.base + 1)) held new
 unfolding reserve_left
 next_version_stands shape st held stream xs ys old new before after stands opened_old some below fits agree opens sizes is recipe_there records_there =
-    let h : History = history shape st in
+    let h : VersionHistory = history shape st in
     let w : List (List ℕ) = chunks (cut_of shape) stream in
     let s : Sizes = sizes_of shape in
     let c : Catalogue = before.catalogue in
@@ -155,7 +155,7 @@ module _ (shape : Shape) (held : ℕ) (stream xs ys new : List ℕ) (after : Fou
   -- what a first version in this state needs, and what it gives
   abbrev FirstStands : VersionState → Type 0
   FirstStands st =
-      let h : History = history shape st in
+      let h : VersionHistory = history shape st in
       let w : List (List ℕ) = chunks (cut_of shape) stream in
       st.base < last_number → need shape.extent h w + held ≤ shape.extents → after.catalogue ≡ first_catalogue st.base stream w (fresh h w) xs ys →
       BeginWith (sizes_of shape) xs (spelled_recipe (recipe (grown h w) (newest h + 1))) new → BeginWith (sizes_of shape) ys (records_of (fresh h w)) new →
@@ -163,7 +163,7 @@ module _ (shape : Shape) (held : ℕ) (stream xs ys new : List ℕ) (after : Fou
 
   first_from : (st : VersionState) → st ≡ nothing_from st.base → FirstStands st
   first_from st same =
-      let h : History = history shape (nothing_from st.base) in
+      let h : VersionHistory = history shape (nothing_from st.base) in
       let last : newest h + 1 ≡ st.base + 1 = omega arith in
       subst FirstStands (sym same)
       (λ below fits is recipe_there records_there. first_version_stands shape st.base held stream xs ys new after below fits opens sizes is
@@ -177,7 +177,7 @@ backup_catalogue c stream parts begun xs ys =
 -- The image after a backup stands for the versions with the new one, at the phase that the backup leaves. The extents `xs`
 -- begin with its recipe and `ys` with its fresh chunks, and nothing changed in the extents that were owned.
 pub backup_stands : (shape : Shape) (st : VersionState) (held : ℕ) (stream xs ys old new : List ℕ) (before after : Found) →
-    let h : History = history shape st in
+    let h : VersionHistory = history shape st in
     let w : List (List ℕ) = chunks (cut_of shape) stream in
     StandsFor shape st Settled held old → opened old ≡ Ok before →
     newest h < last_number → need shape.extent h w ≤ free_extents shape held st →
@@ -187,7 +187,7 @@ pub backup_stands : (shape : Shape) (st : VersionState) (held : ℕ) (stream xs 
     StandsFor shape (with_version st stream) (cond (nat_eq (length (with_version st stream).versions - st.expired) 1) Settled (Waiting (st.base + 1))) held new
 unfolding reserve_left
 backup_stands shape st held stream xs ys old new before after stands opened_old below fits agree opens sizes is recipe_there records_there =
-    let h : History = history shape st in
+    let h : VersionHistory = history shape st in
     let w : List (List ℕ) = chunks (cut_of shape) stream in
     let c : Catalogue = before.catalogue in
     let long : length (with_version st stream).versions ≡ length st.versions + 1 = length_push st.versions (plain stream) in

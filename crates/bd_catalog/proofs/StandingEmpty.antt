@@ -5,7 +5,7 @@ use Rattle.bd_model.specs.declared.shape.Shape.{Shape}
 use Rattle.bd_model.specs.declared.layout.Phase.{Phase}
 use Rattle.bd_model.specs.declared.layout.Phase.TheVariants.{Settled}
 use Rattle.bd_model.specs.Sizes.{sizes_of}
-use Rattle.bd_model.specs.History.{History, retained}
+use Rattle.bd_model.specs.History.{VersionHistory, retained}
 use Rattle.bd_model.specs.Layout.{open_category, rows}
 use Rattle.bd_model.specs.Room.{reserve_left}
 use Rattle.bd_model.specs.State.{VersionState, IsState, history, last_number}
@@ -16,7 +16,7 @@ use Rattle.bd_model.proofs.StepLemmas.{length-history}
 use Rattle.bd_roll.specs.Catalogue.{Catalogue, retained_in, empty_catalogue}
 use Rattle.bd_catalog.specs.Opening.{Found, opened}
 use Rattle.bd_catalog.specs.Standing.{HasNumbers, HasVersions, HasVolumes, HasActives, StandsFor}
-use Rattle.bd_catalog.proofs.Standing.{Shows, stands-shows, stands_by_parts}
+use Rattle.bd_catalog.proofs.StandingLemmas.{Shows, stands-shows, stands_by_parts}
 use Rattle.bd_model.proofs.ExpiryLemmas.{nothing_owned}
 use Rattle.bd_model.specs.State.{empty}
 
@@ -29,7 +29,7 @@ abbrev pub catalogue_from : ℕ → Catalogue
 catalogue_from base = record empty_catalogue { base = base; newest = base }
 
 module _ (shape : Shape) (base : ℕ) where
-  abbrev nothing : History
+  abbrev nothing : VersionHistory
   nothing = history shape (nothing_from base)
 
   pub nothing-numbers : HasNumbers nothing (catalogue_from base)

@@ -5,7 +5,7 @@ use Rattle.std.proofs.lemmas.Bool.{cases_lt, le-leb, leb-true, lt-leb, ne_eqb}
 use Rattle.std.proofs.lemmas.List.{length-drop}
 use Rattle.std.proofs.lemmas.List.Sorted.{length_permutation}
 use Rattle.bd_disk.specs.Images.{AgreeBut}
-use Rattle.bd_disk.proofs.Agreeing.{agree_fewer}
+use Rattle.bd_disk.proofs.AgreeLemmas.{agree_fewer}
 use Rattle.bd_model.specs.FileMap.{FileMap}
 use Rattle.bd_model.specs.declared.answer.Answer.{Answer}
 use Rattle.bd_model.specs.declared.answer.Answer.TheVariants.{Expired, NothingRetained}
@@ -15,7 +15,7 @@ use Rattle.bd_model.specs.declared.layout.Phase.{Phase}
 use Rattle.bd_model.specs.declared.layout.Phase.TheVariants.{Settled}
 use Rattle.bd_model.specs.declared.shape.Shape.{Shape}
 use Rattle.bd_model.specs.Chunks.{numbers}
-use Rattle.bd_model.specs.History.{History, newest, oldest, retained}
+use Rattle.bd_model.specs.History.{VersionHistory, newest, oldest, retained}
 use Rattle.bd_model.specs.Laws.{TakesOnlyTheFirst, given_up, rows_to}
 use Rattle.bd_model.specs.Layout.{closed_volume, rows}
 use Rattle.bd_model.specs.Recipe.{recipe}
@@ -34,10 +34,10 @@ use Rattle.bd_catalog.specs.Opening.{Found, opened}
 use Rattle.bd_roll.specs.Splitting.{FitsDrop, after_drop, begun_from, dropped_by, fewer_in}
 use Rattle.bd_catalog.specs.Standing.{BeginWith, HasNumbers, HasVersions, HasVolumes, StandsFor, lines_from}
 use Rattle.bd_catalog.specs.Steps.{HasCommitted}
-use Rattle.bd_catalog.proofs.Agreeing.{begin_with_agrees}
+use Rattle.bd_catalog.proofs.AgreeLemmas.{begin_with_agrees}
 use Rattle.bd_roll.proofs.GivenUp.{same_tail}
-use Rattle.bd_roll.proofs.Owning.{own-drop}
-use Rattle.bd_catalog.proofs.Standing.{Shows, halves_agree, stands-shows, stands_by_parts}
+use Rattle.bd_roll.proofs.OwnedByStep.{own-drop}
+use Rattle.bd_catalog.proofs.StandingLemmas.{Shows, halves_agree, stands-shows, stands_by_parts}
 use Rattle.bd_catalog.proofs.StandingAnswers.{IsAnswered}
 use Rattle.bd_catalog.proofs.StandingEmpty.{nothing_stands, catalogue_from}
 use Rattle.bd_catalog.proofs.StandingLists.{map-numbers}
@@ -111,7 +111,7 @@ module _ (d : ℕ) (shape : Shape) (st : VersionState) (phase : Phase) (held : �
   abbrev s : Sizes
   s = sizes_of shape
 
-  abbrev h : History
+  abbrev h : VersionHistory
   h = history shape st
 
   abbrev c : Catalogue
@@ -218,7 +218,7 @@ all_dropped d shape st phase held old new found after stands opens some few made
 module _ (d : ℕ) (some : 1 ≤ d) (shape : Shape) (st : VersionState) (phase : Phase) (held : ℕ) (old new : List ℕ) (found after : Found)
     (stands : StandsFor shape st phase held old) (opens : opened old ≡ Ok found) (fits : FitsDrop d found.catalogue)
     (made : HasCommitted found after old new) (sizes : after.sizes ≡ found.sizes) (catalogue : after.catalogue ≡ after_drop d found.catalogue) where
-  abbrev versions : History
+  abbrev versions : VersionHistory
   versions = history shape st
 
   found_shows : Shows shape st phase held found old
@@ -280,7 +280,7 @@ module _ (shape : Shape) (st : VersionState) (phase : Phase) (held : ℕ) (old n
     (made : HasCommitted found after old new) (sizes : after.sizes ≡ found.sizes) (catalogue : after.catalogue ≡ after_drop 1 found.catalogue) where
   pub expired_answered : (files : FileMap) → IsAnswered shape held st phase files Expire (Expired (oldest (history shape st)) (expired_extents shape.extent (history shape st))) new files
   expired_answered files =
-      let versions : History = history shape st in
+      let versions : VersionHistory = history shape st in
       let answer : Answer = Expired (oldest versions) (expired_extents shape.extent versions) in
       let outcome : Outcome = record (unchanged st files answer) { state = drop_oldest st } in
       let some : nat_eq (retained versions) 0 ≡ false = ne_eqb (retained versions) 0 (λ e. absurd (omega (arith, e, fits.some, (stands-shows stands opens).numbers.retained))) in

@@ -12,7 +12,7 @@ use Rattle.bd_model.specs.declared.layout.Phase.TheVariants.{Settled, Waiting}
 use Rattle.bd_model.specs.Sizes.{Sizes}
 use Rattle.bd_model.specs.Extents.{owner_bytes}
 use Rattle.bd_model.specs.Chunks.{chunks, numbers}
-use Rattle.bd_model.specs.History.{History, newest, oldest}
+use Rattle.bd_model.specs.History.{VersionHistory, newest, oldest}
 use Rattle.bd_model.specs.Layout.{closed_volume, open_category, row_of, rows}
 use Rattle.bd_model.specs.Laws.{grown}
 use Rattle.bd_model.specs.Recipe.{recipe}
@@ -38,7 +38,7 @@ begin_with_nothing s extents bytes image none = subst (λ b. BeginWith s extents
 begin_same : (s : Sizes) (image : List ℕ) {extents other bytes others : List ℕ} → extents ≡ other → bytes ≡ others → BeginWith s other others image → BeginWith s extents bytes image
 begin_same s image same same_bytes begins = record { front = (λ k. take (length (same_bytes k)) (owner_bytes s (same k) image)) ∙ begins.front ∙ sym same_bytes }
 
-module _ (h : History) (w : List (List ℕ)) (c : Catalogue) (kept : h.expired ≤ length h.versions) (numbered : HasNumbers h c) where
+module _ (h : VersionHistory) (w : List (List ℕ)) (c : Catalogue) (kept : h.expired ≤ length h.versions) (numbered : HasNumbers h c) where
   count : length c.versions + oldest h ≡ newest h + 1
   count = omega (arith, numbered.retained)
 
@@ -192,7 +192,7 @@ module _ (h : History) (w : List (List ℕ)) (c : Catalogue) (kept : h.expired �
 
 -- the lines of the versions and one more
 module _ (shape : Shape) (st : VersionState) (stream : List ℕ) (c : Catalogue) where
-  abbrev h : History
+  abbrev h : VersionHistory
   h = history shape st
 
   abbrev w : List (List ℕ)

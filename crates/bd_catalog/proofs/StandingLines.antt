@@ -6,7 +6,7 @@ use Rattle.std.proofs.lemmas.List.FromFn.{get_or-range_with_len, length-range_wi
 use Rattle.bd_model.specs.declared.shape.Shape.{Shape}
 use Rattle.bd_model.specs.declared.answer.VersionLine.{VersionLine}
 use Rattle.bd_model.specs.Chunks.{numbers}
-use Rattle.bd_model.specs.History.{History, newest, oldest, version}
+use Rattle.bd_model.specs.History.{VersionHistory, newest, oldest, version}
 use Rattle.bd_model.specs.State.{VersionState, history, stream_of}
 use Rattle.bd_model.specs.Step.{version_line, version_lines}
 use Rattle.bd_roll.specs.Catalogue.{Catalogue, VersionEntry, oldest_in}
@@ -26,7 +26,7 @@ lines-bytes v [] = refl
 lines-bytes v (e ∷ es) = ap (λ ns. e.length ∷ ns) (lines-bytes (v + 1) es)
 
 module _ (shape : Shape) (st : VersionState) (c : Catalogue) (image : List ℕ) (numbered : HasNumbers (history shape st) c) (versions : HasVersions shape st c image) (v : ℕ) (low : oldest (history shape st) ≤ v) (high : v ≤ newest (history shape st)) where
-  abbrev h : History
+  abbrev h : VersionHistory
   h = history shape st
 
   -- the index of a retained number

@@ -6,7 +6,7 @@ use Rattle.std.proofs.lemmas.List.{map-append}
 use Rattle.std.proofs.lemmas.List.Sums.{sum_by-cons}
 use Rattle.std.proofs.lemmas.List.Elements.{filter-append}
 use Rattle.bd_model.specs.Chunks.{numbers}
-use Rattle.bd_model.specs.History.{History, newest, oldest}
+use Rattle.bd_model.specs.History.{VersionHistory, newest, oldest}
 use Rattle.bd_model.specs.Category.{category}
 use Rattle.bd_model.specs.Layout.{closed_volume, is_closed, is_arranged, row_chunks, row_of, rows}
 use Rattle.bd_model.specs.Laws.{grown}
@@ -78,7 +78,7 @@ rows_over-none f (r ∷ starts) =
       | false ↦ λ e none. rows_over-none f starts none
     ] refl
 
-module _ (h : History) (w : List (List ℕ)) where
+module _ (h : VersionHistory) (w : List (List ℕ)) where
   row_chunks-earlier : (phase : Phase) (j r : ℕ) → r ≤ j → j < newest h → row_chunks (grown h w) phase j r ≡ row_chunks h Settled j r
   row_chunks-earlier phase j r le lt =
       let closed : nat_lt (j + 1) (newest (grown h w)) ≡ true = lt-ltb (j + 1) (newest (grown h w)) (omega (arith, newest-grown h w)) in

@@ -4,7 +4,7 @@ use Rattle.std.specs.Prelude.{Ok, IsTrue}
 use Rattle.std.specs.FinMap as map
 use Rattle.std.proofs.lemmas.Bool.{cases_lt, ne_eqb}
 use Rattle.bd_disk.specs.Images.{AgreeBut}
-use Rattle.bd_disk.proofs.Agreeing.{agree_fewer}
+use Rattle.bd_disk.proofs.AgreeLemmas.{agree_fewer}
 use Rattle.bd_model.specs.FileMap.{FileMap}
 use Rattle.bd_model.specs.declared.answer.Answer.TheVariants.{BackedUp}
 use Rattle.bd_model.specs.declared.command.Command.TheVariants.{Backup}
@@ -12,7 +12,7 @@ use Rattle.bd_model.specs.declared.layout.Phase.{Phase}
 use Rattle.bd_model.specs.declared.layout.Phase.TheVariants.{Settled}
 use Rattle.bd_model.specs.declared.shape.Shape.{Shape}
 use Rattle.bd_model.specs.Chunks.{chunks}
-use Rattle.bd_model.specs.History.{History, newest, retained}
+use Rattle.bd_model.specs.History.{VersionHistory, newest, retained}
 use Rattle.bd_model.specs.Laws.{grown}
 use Rattle.bd_model.specs.Recipe.{recipe}
 use Rattle.bd_model.specs.Records.{records_of, spelled_recipe}
@@ -28,8 +28,8 @@ use Rattle.bd_catalog.specs.Opening.{Found, opened}
 use Rattle.bd_roll.specs.Rules.{obeys}
 use Rattle.bd_catalog.specs.Standing.{BeginWith, StandsFor}
 use Rattle.bd_catalog.specs.Steps.{HasCommitted}
-use Rattle.bd_catalog.proofs.Agreeing.{begin_with_agrees}
-use Rattle.bd_catalog.proofs.Standing.{halves_agree, stands-shows}
+use Rattle.bd_catalog.proofs.AgreeLemmas.{begin_with_agrees}
+use Rattle.bd_catalog.proofs.StandingLemmas.{halves_agree, stands-shows}
 use Rattle.bd_catalog.proofs.StandingAnswers.{IsAnswered, backup_answered}
 use Rattle.bd_catalog.proofs.StandingBackup.{backup_catalogue, first_catalogue, next_catalogue}
 use Rattle.bd_catalog.proofs.StandingFound.{nothing-else, obeys-each, opened-found}
@@ -67,7 +67,7 @@ after_backup-is s c stream parts begun xs ys rules =
 -- and its fresh chunks before.
 pub backup_named : (shape : Shape) (held : ℕ) (st : VersionState) (files : FileMap) (name stream xs ys old new : List ℕ) (before after : Found) →
     let s : Sizes = sizes_of shape in
-    let h : History = history shape st in
+    let h : VersionHistory = history shape st in
     let w : List (List ℕ) = chunks (cut_of shape) stream in
     let free : ℕ = free_extents shape held st in
     StandsFor shape st Settled held old → opened old ≡ Ok before →
@@ -78,7 +78,7 @@ pub backup_named : (shape : Shape) (held : ℕ) (st : VersionState) (files : Fil
     IsAnswered shape held st Settled files (Backup name) (BackedUp (newest h + 1) (length stream) (length w) (length (fresh h w)) (need shape.extent h w)) new files
 backup_named shape held st files name stream xs ys old new before after stands opens below fewer there few recipe_there records_there made sizes catalogue =
     let s : Sizes = sizes_of shape in
-    let h : History = history shape st in
+    let h : VersionHistory = history shape st in
     let w : List (List ℕ) = chunks (cut_of shape) stream in
     let same : before.sizes ≡ s = (stands-shows stands opens).sizes in
     let halves : AgreeBut (InHalves before.sizes) old new =

@@ -10,7 +10,7 @@ use Rattle.bd_model.specs.declared.layout.CategoryRow.{CategoryRow}
 use Rattle.bd_model.specs.declared.layout.Phase.{Phase}
 use Rattle.bd_model.specs.declared.shape.Shape.{Shape}
 use Rattle.bd_model.specs.Chunks.{numbers}
-use Rattle.bd_model.specs.History.{History, newest, oldest, version}
+use Rattle.bd_model.specs.History.{VersionHistory, newest, oldest, version}
 use Rattle.bd_model.specs.Layout.{closed_volume, open_category, record_bytes, row_of, rows}
 use Rattle.bd_model.specs.Room.{owned, recipe_bytes, up}
 use Rattle.bd_model.specs.Sizes.{Sizes, sizes_of}
@@ -27,15 +27,15 @@ use Rattle.bd_roll.specs.Catalogue.{Catalogue, VersionEntry, VolumeEntry, OpenEn
 use Rattle.bd_catalog.specs.Opening.{Found, opened}
 use Rattle.bd_roll.specs.Rules.{active_holds, version_holds, volume_holds}
 use Rattle.bd_catalog.specs.Standing.{StandsFor, lines_from, line_of}
-use Rattle.bd_roll.proofs.Obeying.{bounded_of, count_in_category, count_in_volume, version_of}
-use Rattle.bd_catalog.proofs.Standing.{Shows, stands-shows}
+use Rattle.bd_roll.proofs.RuleLemmas.{bounded_of, count_in_category, count_in_volume, version_of}
+use Rattle.bd_catalog.proofs.StandingLemmas.{Shows, stands-shows}
 use Rattle.bd_catalog.proofs.StandingFound.{Obeys, obeys-each, opened-found}
 
 module _ (shape : Shape) (st : VersionState) (phase : Phase) where
   abbrev s : Sizes
   s = sizes_of shape
 
-  abbrev h : History
+  abbrev h : VersionHistory
   h = history shape st
 
   -- the recipes of the versions from this one on
@@ -114,7 +114,7 @@ pub owned-stands : {shape : Shape} {st : VersionState} {phase : Phase} {held : â
 unfolding owned
 owned-stands {shape} {st} {phase} {held} {image} {found} stands opens =
     let c : Catalogue = found.catalogue in
-    let h : History = history shape st in
+    let h : VersionHistory = history shape st in
     let shows : Shows shape st phase held found image = stands-shows stands opens in
     let holds : Obeys (sizes_of shape) c = subst (Î» s. Obeys s c) shows.sizes (obeys-each found.sizes c (opened-found image found opens).obeys) in
     omega (

@@ -17,8 +17,8 @@ use Rattle.bd_catalog.specs.Rows.{RowPlace, Spot, begun_by, open_row, records_at
 use Rattle.bd_catalog.specs.Sound.{recipe_of, entry_holds, length_holds, with_mark}
 
 -- where an entry of the recipe of version v lies, the header of a record, and a whole record
-abbrev pub entry_places : Sizes → Catalogue → ℕ → ℕ → List ℕ
-entry_places s c v index = places_at s (recipe_extents c v) (40 * index) 40
+abbrev pub entry_places_of : Sizes → Catalogue → ℕ → ℕ → List ℕ
+entry_places_of s c v index = places_at s (recipe_extents c v) (40 * index) 40
 
 abbrev pub header_places : Sizes → Spot → List ℕ
 header_places s x = places_at s x.extents x.at 36
@@ -40,9 +40,9 @@ abbrev pub is_passed : Sizes → List ℕ → RowPlace → Bool
 is_passed s image p = list_all (header_holds s p) (row_spots s image p)
 
 -- the records of an owner's rows up to the first whose header doesn't hold
-abbrev pub reached : Sizes → List ℕ → List RowPlace → List Spot
-reached s image [] = []
-reached s image (p ∷ ps) = good_front s p (row_spots s image p) ++ (if is_passed s image p then reached s image ps else [])
+abbrev pub reached_spots : Sizes → List ℕ → List RowPlace → List Spot
+reached_spots s image [] = []
+reached_spots s image (p ∷ ps) = good_front s p (row_spots s image p) ++ (if is_passed s image p then reached_spots s image ps else [])
 
 -- the rows of each owner: of the closed volumes from this one on, ascending, and then of the open categories
 abbrev pub owners_from : Catalogue → ℕ → List (List RowPlace)
@@ -50,7 +50,7 @@ owners_from c j = map (volume_rows c) (numbers j (c.newest - 1)) ++ map (λ e. o
 
 -- the records where version v looks: behind a header that doesn't hold its owner has none
 abbrev pub reached_for : Sizes → Catalogue → List ℕ → ℕ → List Spot
-reached_for s c image v = flat_map (reached s image) (map (begun_by v) (owners_from c v))
+reached_for s c image v = flat_map (reached_spots s image) (map (begun_by v) (owners_from c v))
 
 -- the row p of the owner is one of these, and has the record x at this place, behind records whose headers hold
 pub record IsRecordOf (s : Sizes) (image : List ℕ) (rows : List RowPlace) (who : Owner) (at : ℕ) (p : RowPlace) (x : Spot) : Type 0 where
@@ -89,7 +89,7 @@ unlike e spots = filter (λ x. bytes_eq x.stored.mark e.mark.0 && not (x.stored.
 abbrev pub BreaksRule : Sizes → Catalogue → List ℕ → List RowPlace → Damage → List ℕ → Type 0
 BreaksRule s c image rows (Entry v index said start) places =
     (e : RecipeEntry) × (slice_get (recipe_of s c image v) index ≡ Some e) × (e.length ≡ said) × (e.start ≡ start) × IsFalse (entry_holds s c v e)
-    × (places ≡ entry_places s c v index)
+    × (places ≡ entry_places_of s c v index)
 BreaksRule s c image rows (Sum v recorded found) places =
     IsTrue (list_all (entry_holds s c v) (recipe_of s c image v)) × (recorded ≡ slice_index_or (map (λ e. e.length) c.versions) (v - oldest_in c) 0)
     × (found ≡ sum_by (λ e. e.length) (recipe_of s c image v)) × (found ≢ recorded)
@@ -105,7 +105,7 @@ BreaksRule s c image rows (Length v m recorded found) places =
     × (slice_get (unlike e (reached_for s c image v)) 0 ≡ Some x) × (x.stored.length ≡ found) × (places ≡ record_places s x)
 BreaksRule s c image rows (Missing v index m) places =
     (e : RecipeEntry) × (slice_get (recipe_of s c image v) index ≡ Some e) × (e.mark ≡ m) × (with_mark m.0 (records_at (reached_for s c image v)) ≡ [])
-    × (places ≡ entry_places s c v index)
+    × (places ≡ entry_places_of s c v index)
 
 -- a damage of a recipe is of this version's
 abbrev pub IsOfVersion : ℕ → Damage → Type 0

@@ -24,7 +24,7 @@ pub record IsPlaced (s : Sizes) (half : Half) (log_end : ℕ) : Type 0 where
   pub ends : log_end < half_place s half.number + half_bytes s
 
 -- the catalogue has its place, and the buffer has room for a payload with what stands round it in a half
-pub record IsKept (s : Sizes) (half : Half) (log_end buffer : ℕ) : Type 0 where
+pub record HasItsPlace (s : Sizes) (half : Half) (log_end buffer : ℕ) : Type 0 where
   pub place : IsPlaced s half log_end
   pub frame : buffer ≡ payload_room s + 10
 

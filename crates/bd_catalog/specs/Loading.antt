@@ -25,14 +25,14 @@ AnswersLoad expected (Err DiskFault) = Unit {0}
 AnswersLoad expected (Err OutOfMemory) = Unit {0}
 
 -- whether it is a fault of the disk
-abbrev pub is_disk_fault : LoadFault → Bool
-is_disk_fault Halves = false
-is_disk_fault Payload = false
-is_disk_fault DiskFault = true
-is_disk_fault OutOfMemory = false
+abbrev pub is_disk_fault_of_load : LoadFault → Bool
+is_disk_fault_of_load Halves = false
+is_disk_fault_of_load Payload = false
+is_disk_fault_of_load DiskFault = true
+is_disk_fault_of_load OutOfMemory = false
 
 -- the place lies in the payload of the newest half of the image, which is no longer than may be
-pub record InNewest (s : Sizes) (image : List ℕ) (place : ℕ) : Type 0 where
+pub record InNewestHalf (s : Sizes) (image : List ℕ) (place : ℕ) : Type 0 where
   pub number : ℕ
   pub newest : newest_half s image ≡ Some number
   pub fits : (half_at s image number).length ≤ payload_room s
@@ -40,4 +40,4 @@ pub record InNewest (s : Sizes) (image : List ℕ) (place : ℕ) : Type 0 where
 
 -- the places that a load of the image reads
 abbrev pub InLoad : Sizes → List ℕ → ℕ → Type 0
-InLoad s image place = InFronts s place ⊎ InNewest s image place
+InLoad s image place = InFronts s place ⊎ InNewestHalf s image place

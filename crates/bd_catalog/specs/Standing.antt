@@ -6,7 +6,7 @@ use Rattle.bd_model.specs.declared.layout.CategoryRow.{CategoryRow}
 use Rattle.bd_model.specs.declared.answer.VersionLine.{VersionLine}
 use Rattle.bd_model.specs.Sizes.{Sizes, sizes_of}
 use Rattle.bd_model.specs.Chunks.{numbers}
-use Rattle.bd_model.specs.History.{History, newest, oldest, retained}
+use Rattle.bd_model.specs.History.{VersionHistory, newest, oldest, retained}
 use Rattle.bd_model.specs.Layout.{closed_volume, open_category, rows, row_of}
 use Rattle.bd_model.specs.Recipe.{recipe}
 use Rattle.bd_model.specs.Room.{owned, reserve_left}
@@ -22,7 +22,7 @@ pub record BeginWith (s : Sizes) (extents bytes image : List ℕ) : Type 0 where
   pub front : take (length bytes) (owner_bytes s extents image) ≡ bytes
 
 -- the catalogue has the state's numbers
-pub record HasNumbers (h : History) (c : Catalogue) : Type 0 where
+pub record HasNumbers (h : VersionHistory) (c : Catalogue) : Type 0 where
   pub base : c.base ≡ h.base
   pub newest : c.newest ≡ newest h
   pub retained : retained_in c ≡ retained h
@@ -42,21 +42,21 @@ pub record HasVersions (shape : Shape) (st : VersionState) (c : Catalogue) (imag
   pub recipes : (v : ℕ) → oldest (history shape st) ≤ v → v ≤ newest (history shape st) → BeginWith (sizes_of shape) (recipe_extents c v) (spelled_recipe (recipe (history shape st) v)) image
 
 -- each closed volume has exactly its rows, and its extents begin with its records
-pub record HasVolumes (s : Sizes) (h : History) (phase : Phase) (c : Catalogue) (image : List ℕ) : Type 0 where
+pub record HasVolumes (s : Sizes) (h : VersionHistory) (phase : Phase) (c : Catalogue) (image : List ℕ) : Type 0 where
   pub rows : map (λ e. e.rows) c.volumes ≡ map (rows h phase) (numbers (oldest h) (newest h - 1))
   pub records : (j : ℕ) → oldest h ≤ j → j < newest h → BeginWith s (volume_extents c j) (records_of (closed_volume h phase j)) image
 
 -- the open categories that aren't empty, as rows
-abbrev pub open_rows : History → Phase → List CategoryRow
+abbrev pub open_rows : VersionHistory → Phase → List CategoryRow
 open_rows h phase = filter (λ row. nat_lt 0 row.chunks) (map (λ i. row_of i (open_category h phase i)) (numbers (h.base + 1) (newest h)))
 
 -- the open categories are exactly those that aren't empty, and the extents of each begin with its records
-pub record HasActives (s : Sizes) (h : History) (phase : Phase) (c : Catalogue) (image : List ℕ) : Type 0 where
+pub record HasActives (s : Sizes) (h : VersionHistory) (phase : Phase) (c : Catalogue) (image : List ℕ) : Type 0 where
   pub rows : map (λ e. e.row) c.actives ≡ open_rows h phase
   pub records : (i : ℕ) → h.base < i → i ≤ newest h → BeginWith s (active_extents c i) (records_of (open_category h phase i)) image
 
 -- what arranging has still to take fits beside what is owned and held
-pub record HasReserve (s : Sizes) (h : History) (phase : Phase) (held : ℕ) : Type 0 where
+pub record HasReserve (s : Sizes) (h : VersionHistory) (phase : Phase) (held : ℕ) : Type 0 where
   pub fits : reserve_left s.extent h phase + owned s.extent h phase + held ≤ s.extents
 
 -- The image opens, and what is found stands for the state, with its layout at this phase. The image comes last, so that

@@ -46,7 +46,7 @@ impl Model for Catalog {
     ghost use Rattle.bd_model.specs.Sizes.{sizes_of};
     ghost use Rattle.bd_roll.specs.Shown.{catalogue_of_contents};
     ghost use Rattle.bd_roll.specs.Capacity.{room_of};
-    ghost use Rattle.bd_catalog.specs.Ledger.{Ledger, IsKept};
+    ghost use Rattle.bd_catalog.specs.Ledger.{Ledger, HasItsPlace};
 
     ghost Value = { Ledger };
 
@@ -62,7 +62,7 @@ impl Model for Catalog {
       shaped = c.shape.in_range;
     } };
 
-    ghost invariant = { λ c. IsKept (sizes_of c.shape) c.half c.log_end (length c.frame.items) };
+    ghost invariant = { λ c. HasItsPlace (sizes_of c.shape) c.half c.log_end (length c.frame.items) };
 }
 
 impl Catalog {

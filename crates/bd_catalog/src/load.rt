@@ -4,7 +4,7 @@ ghost use Rattle.bd_disk.specs.Calls.{FailsByCount};
 ghost use Rattle.bd_disk.specs.History.{contents};
 ghost use Rattle.bd_disk.specs.Runs.{Reads};
 ghost use Rattle.bd_model.specs.Sizes.{sizes_of, disk_bytes};
-ghost use Rattle.bd_catalog.specs.Loading.{is_disk_fault, AnswersLoad, InLoad};
+ghost use Rattle.bd_catalog.specs.Loading.{is_disk_fault_of_load, AnswersLoad, InLoad};
 ghost use Rattle.bd_catalog.specs.Opening.{opened_newest};
 
 use crate::catalog::Catalog;
@@ -67,7 +67,7 @@ impl Catalog {
     pub fn load<D: Disk>(alloc: Global, disk: &mut D, shape: Shape) -> Result<Catalog, LoadFault>
         requires room { disk_bytes (sizes_of shape) ≤ D.bytes disk.old }
         ensures disk { Reads D.Disk (InLoad (sizes_of shape) (contents (D.history disk.old))) disk.old disk.new }
-        ensures cause { FailsByCount is_disk_fault (D.faults disk.old) (D.faults disk.new) result }
+        ensures cause { FailsByCount is_disk_fault_of_load (D.faults disk.old) (D.faults disk.new) result }
         ensures loaded { D.tells → AnswersLoad (opened_newest (sizes_of shape) (contents (D.history disk.old))) result }
         ensures sizes { IfOk result (λ catalog. catalog.found.sizes ≡ sizes_of shape) }
     {

@@ -6,13 +6,13 @@ use Rattle.std.proofs.lemmas.List.{take-append-drop, take-take, drop-take, take_
 use Rattle.std.proofs.lemmas.List.Elements.{All-head, All-tail}
 use Rattle.std.proofs.lemmas.Nat.{from_be_bytes-to_be_bytes_4}
 use Rattle.bd_disk.specs.Images.{overwritten}
-use Rattle.bd_disk.proofs.Agreeing.{bytes_at-overwritten}
+use Rattle.bd_disk.proofs.AgreeLemmas.{bytes_at-overwritten}
 use Rattle.bd_model.specs.Records.{Stored, four, stored_at, stored_in}
 use Rattle.bd_model.specs.Sizes.{Sizes}
 use Rattle.bd_model.specs.declared.damage.Damage.TheVariants.{Header as BadHeader}
 use Rattle.bd_model.specs.declared.damage.Owner.{Owner}
 use Rattle.bd_model.specs.declared.mark.Mark.{Mark}
-use Rattle.bd_category.specs.Laws.{FitsRow, IsWhole, header_of, written_records}
+use Rattle.bd_category.specs.Laws.{FitsInRow, IsWholeRecord, header_of, written_records}
 use Rattle.bd_category.specs.Records.{body_at, header_at, header_in, record_with}
 
 -- ---- one record, and what follows it
@@ -61,7 +61,7 @@ module _ (m : Mark) (body rest : List ℕ) (marked : length m.0 ≡ 32) (small :
 
 -- ---- a record among the bytes of an owner
 
-module _ (s : Sizes) (m : Mark) (body owner : List ℕ) (at end : ℕ) (fits : FitsRow s m body at end) (inside : end ≤ length owner) where
+module _ (s : Sizes) (m : Mark) (body owner : List ℕ) (at end : ℕ) (fits : FitsInRow s m body at end) (inside : end ≤ length owner) where
   abbrev now : List ℕ
   now = overwritten owner at (record_with m body)
 
@@ -91,14 +91,14 @@ module _ (s : Sizes) (m : Mark) (body owner : List ℕ) (at end : ℕ) (fits : F
 
 -- ---- records end to end
 
-pub records-read : (records : List Stored) (rest : List ℕ) → All IsWhole records → stored_in (length records) (written_records records ++ rest) ≡ records
+pub records-read : (records : List Stored) (rest : List ℕ) → All IsWholeRecord records → stored_in (length records) (written_records records ++ rest) ≡ records
 records-read [] rest whole = refl
 records-read (r ∷ rs) rest whole =
-    let is = All-head IsWhole r rs whole in
+    let is = All-head IsWholeRecord r rs whole in
     let m : Mark = record { 0 = r.mark } in
     let behind = written_records rs ++ rest in
     let small : length r.body < 2 ^ 32 = omega (arith, is.sized, is.small) in
     ap (stored_in (length (r ∷ rs))) (append_assoc (record_with m r.body) (written_records rs) rest)
     ∙ (λ i. stored-read m r.body behind is.marked small i ∷ stored_in (length rs) (drop (36 + length-read m r.body behind is.marked small i) (record_with m r.body ++ behind)))
     ∙ (λ i. record { length = sym is.sized i; mark = r.mark; body = r.body } ∷ stored_in (length rs) (rest-read m r.body behind is.marked small i))
-    ∙ ap (λ xs. r ∷ xs) (records-read rs rest (All-tail IsWhole r rs whole))
+    ∙ ap (λ xs. r ∷ xs) (records-read rs rest (All-tail IsWholeRecord r rs whole))

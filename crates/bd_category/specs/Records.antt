@@ -49,6 +49,6 @@ AnswersBody who header body given (Err (Damaged damage)) =
     (damage ≡ BadBody who header.at header.mark (record { 0 = mark body })) × (mark body ≡ header.mark.0 → ⊥)
 AnswersBody who header body given (Err DiskFault) = Unit {0}
 
-abbrev pub is_disk_fault : CategoryFault → Bool
-is_disk_fault DiskFault = true
-is_disk_fault (Damaged damage) = false
+abbrev pub is_disk_fault_of_record : CategoryFault → Bool
+is_disk_fault_of_record DiskFault = true
+is_disk_fault_of_record (Damaged damage) = false

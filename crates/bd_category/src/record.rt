@@ -7,7 +7,7 @@ ghost use Rattle.bd_model.specs.Sizes.{sizes_of, disk_bytes};
 ghost use Rattle.bd_model.specs.Records.{four};
 ghost use Rattle.bd_extio.specs.Owned.{Overwrites, owned_on};
 ghost use Rattle.bd_extio.specs.Ranges.{AreExtents, InOwner, IsWithin};
-ghost use Rattle.bd_category.specs.Records.{AnswersBody, AnswersHeader, body_at, header_at, header_in, is_disk_fault, record_with};
+ghost use Rattle.bd_category.specs.Records.{AnswersBody, AnswersHeader, body_at, header_at, header_in, is_disk_fault_of_record, record_with};
 ghost use Rattle.bd_category.specs.Places.{InBody, InHeader, ReadsBody, ReadsHeader};
 
 use crate::fault::{CategoryFault, Header};
@@ -59,7 +59,7 @@ pub fn read_header<D: Disk>(
     requires from { at ≤ end }
     requires to { end ≤ length extents.now * shape.now.extent }
     ensures disk { Reads D.Disk (InHeader (sizes_of shape.now) extents.now at end) disk.old disk.new }
-    ensures cause { FailsByCount is_disk_fault (D.faults disk.old) (D.faults disk.new) result }
+    ensures cause { FailsByCount is_disk_fault_of_record (D.faults disk.old) (D.faults disk.new) result }
     ensures header { D.tells → AnswersHeader (header_at (sizes_of shape.now) who at end (owned_on D.Disk (sizes_of shape.now) extents.now disk.old)) result }
     ensures some { IfOk result (λ header. 1 ≤ header.length) }
     ensures short { IfOk result (λ header. header.length ≤ shape.now.max) }
@@ -102,7 +102,7 @@ pub fn read_body<D: Disk>(
     requires within { IsWithin (sizes_of shape.now) extents.now header.now.at (36 + header.now.length) }
     requires sized { length into.old ≡ header.now.length }
     ensures disk { Reads D.Disk (InBody (sizes_of shape.now) extents.now header.now) disk.old disk.new }
-    ensures cause { FailsByCount is_disk_fault (D.faults disk.old) (D.faults disk.new) result }
+    ensures cause { FailsByCount is_disk_fault_of_record (D.faults disk.old) (D.faults disk.new) result }
     ensures body { D.tells → AnswersBody who header.now (body_at header.now (owned_on D.Disk (sizes_of shape.now) extents.now disk.old)) into.new result }
     ensures places { D.tells → ReadsBody (sizes_of shape.now) extents.now header.now (D.history disk.old) (D.history disk.new) result }
 {

@@ -5,7 +5,7 @@ use Rattle.bd_disk.specs.Images.{InRange, overwritten}
 use Rattle.bd_disk.specs.History.{History, After, Put, Idle, IsFilled, Now}
 use Rattle.bd_disk.specs.Log.{skips}
 use Rattle.bd_disk.specs.declared.touch.Touch.{Touch}
-use Rattle.bd_disk.proofs.Agreeing.{in_range, length-overwritten, overwritten_elsewhere, overwritten_there}
+use Rattle.bd_disk.proofs.AgreeLemmas.{in_range, length-overwritten, overwritten_elsewhere, overwritten_there}
 
 pub filled_now : {h : History} {filler : ℕ} {image : List ℕ} → IsFilled h filler image → Now h image
 filled_now f = record { clean = record { size = f.size; each = f.clean } }

@@ -11,7 +11,7 @@ use Rattle.bd_disk.specs.declared.disk.Disk.{Ghosts}
 use Rattle.bd_disk.specs.declared.disk.Failed.{Failed}
 use Rattle.bd_disk.specs.declared.touch.Touch.TheVariants.{Read, Write, Sync}
 use Rattle.bd_disk.proofs.Frames.{made_none, made_both, made_done, made_fails, idle_kind, nothing_within, writes_wider, unchanged}
-use Rattle.bd_disk.proofs.Looking.{looks_wider, looks_from, read_looks, failed_read_looks}
+use Rattle.bd_disk.proofs.LookedPlaces.{looks_wider, looks_from, read_looks, failed_read_looks}
 use Rattle.bd_disk.proofs.FailedCalls.{failed_write_reads, failed_sync_reads}
 use Rattle.bd_disk.proofs.Traces.{reads_none, reads_both, write_reads, sync_reads}
 

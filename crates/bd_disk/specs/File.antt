@@ -3,14 +3,14 @@ use Rattle.std.specs.Prelude.{◌≡◌, ℕ, ◌-◌, ◌^◌, ◌<◌, Result,
 use Rattle.bd_disk.specs.Calls.{one_more}
 
 -- how many bytes it has, how many calls were made of it, and how many it answered with Failed
-pub record Outside : Type 0 where
+pub record OutsideOfDisk : Type 0 where
   pub bytes : ℕ
   pub clock : ℕ
   pub faults : ℕ
 
 -- The clock rises, and the count of faults rises where Failed is answered and nowhere else. At the clock's last value
 -- Failed is answered.
-pub record Counts {T E : Type 0} (old new : Outside) (result : Result T E) : Type 0 where
+pub record CountsCall {T E : Type 0} (old new : OutsideOfDisk) (result : Result T E) : Type 0 where
   pub bytes : new.bytes ≡ old.bytes
   pub clock : new.clock ≡ one_more old.clock
   pub kept : OnOk result (new.faults ≡ old.faults)

@@ -3,7 +3,7 @@ use Rattle.std.specs.Prelude.{◌≡◌, ◌⊎◌, ◌↔◌, ℕ, ◌+◌, ◌
 use Rattle.bd_disk.specs.Images.{InRange, AgreeBut}
 use Rattle.bd_disk.specs.History.{Call, Put, Flush, Idle, History, After, clock, contents, contents_at, Now, Since}
 use Rattle.bd_disk.specs.Made.{GoesOn, IsSettled, Makes, WritesOnly, WritesNothing}
-use Rattle.bd_disk.specs.Trace.{trace, Adds, IsNotWrite, StaysWithin, listed, reads_between, ReadsOnly}
+use Rattle.bd_disk.specs.Trace.{trace, AddsTouches, IsNotWrite, StaysWithin, listed, reads_between, ReadsOnly}
 use Rattle.bd_disk.specs.declared.touch.Touch.{Touch}
 
 -- the contents are one of the images that a stop may leave
@@ -62,11 +62,11 @@ ImagesChangeOnly =
 abbrev pub TraceStaysWithin : Type 0
 TraceStaysWithin =
     (places : ℕ → Bool) (a b : History) → WritesOnly (λ place. IsTrue (places place)) a b →
-    Adds (StaysWithin (λ place. IsTrue (places place))) a b
+    AddsTouches (StaysWithin (λ place. IsTrue (places place))) a b
 
 -- the trace shows no write of a run without writes
 abbrev pub TraceHasNoWrite : Type 0
-TraceHasNoWrite = (a b : History) → WritesNothing a b → Adds IsNotWrite a b
+TraceHasNoWrite = (a b : History) → WritesNothing a b → AddsTouches IsNotWrite a b
 
 -- a run without writes keeps the contents and the images
 abbrev pub NothingWritten : Type 0

@@ -27,12 +27,12 @@ skips zero h = h
 skips (suc n) h = After (skips n h) (Idle None)
 
 -- the calls that were kept, the oldest first
-abbrev pub kept_on : History → List Kept → History
-kept_on h [] = h
-kept_on h (k ∷ ks) = kept_on (After (skips k.skipped h) (call_of k.what)) ks
+abbrev pub kept_calls_on : History → List Kept → History
+kept_calls_on h [] = h
+kept_calls_on h (k ∷ ks) = kept_calls_on (After (skips k.skipped h) (call_of k.what)) ks
 
 abbrev pub history_of : List ℕ → Log → History
-history_of first log = skips log.skipped (kept_on (Begun first 0) log.kept.items)
+history_of first log = skips log.skipped (kept_calls_on (Begun first 0) log.kept.items)
 
 -- what contracts see of a disk with this first image and this log
 abbrev pub seen : List ℕ → Log → Memory

@@ -9,7 +9,7 @@ use borrow.Rule.Slice.PartMut.{put_mid}
 use Rattle.std.specs.List.{All, range_with_len}
 use Rattle.bd_disk.specs.Trace.{upward}
 use Rattle.bd_disk.specs.Images.{InRange, bytes_at, overwritten}
-use Rattle.bd_disk.proofs.Agreeing.{in_range, length-overwritten, overwritten_there, overwritten_elsewhere, length-bytes_at, get_or-bytes_at}
+use Rattle.bd_disk.proofs.AgreeLemmas.{in_range, length-overwritten, overwritten_there, overwritten_elsewhere, length-bytes_at, get_or-bytes_at}
 use Rattle.bd_model.specs.Sizes.{Sizes, disk_bytes}
 use Rattle.bd_model.specs.Extents.{owner_bytes, owner_places, places_at}
 use Rattle.bd_extio.specs.Ranges.{place_of, AreExtents, InOwner, owner_range}

@@ -22,7 +22,7 @@ abbrev pub FailsNext : CallCount → Type 0
 FailsNext calls = calls.failing ≡ Some calls.made
 
 -- one call more, and one fault more where it failed
-pub record Counts {T E : Type 0} (old new : CallCount) (result : Result T E) : Type 0 where
+pub record CountsOneCall {T E : Type 0} (old new : CallCount) (result : Result T E) : Type 0 where
   pub made : new.made ≡ one_more old.made
   pub failing : new.failing ≡ old.failing
   pub ok : OnOk result (new.faults ≡ old.faults)

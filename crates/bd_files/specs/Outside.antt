@@ -4,7 +4,7 @@ use Rattle.bd_disk.specs.Calls.{one_more}
 use Rattle.bd_files.specs.declared.identity.FileIdentity.{FileIdentity}
 
 -- how often a fetch failed, and one of the other calls, and the file that is no target
-pub record Outside : Type 0 where
+pub record OutsideOfFiles : Type 0 where
   pub sources : ℕ
   pub targets : ℕ
   pub spared : Option FileIdentity
@@ -15,11 +15,11 @@ pub record CountsFailed {T E : Type 0} (old new : ℕ) (result : Result T E) : T
   pub failed : OnErr result (new ≡ one_more old)
 
 -- the counts of sources, of targets
-pub record FailsAsSource {T E : Type 0} (old new : Outside) (result : Result T E) : Type 0 where
+pub record FailsAsSource {T E : Type 0} (old new : OutsideOfFiles) (result : Result T E) : Type 0 where
   pub sources : CountsFailed old.sources new.sources result
   pub rest : new ≡ record old { sources = new.sources }
 
-pub record FailsAsTarget {T E : Type 0} (old new : Outside) (result : Result T E) : Type 0 where
+pub record FailsAsTarget {T E : Type 0} (old new : OutsideOfFiles) (result : Result T E) : Type 0 where
   pub targets : CountsFailed old.targets new.targets result
   pub rest : new ≡ record old { targets = new.targets }
 

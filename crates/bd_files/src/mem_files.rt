@@ -4,7 +4,7 @@ ghost use Rattle.std.specs.Option.{option_map};
 ghost use Rattle.std.specs.FinMap as map;
 ghost use Rattle.bd_disk.specs.Calls.{HasCause, Rose, one_more};
 ghost use Rattle.bd_disk.specs.Images.{bytes_at, overwritten};
-ghost use Rattle.bd_files.specs.Fakes.{Counts, CountsRefused, FailsNext, no_files};
+ghost use Rattle.bd_files.specs.Fakes.{CountsOneCall, CountsRefused, FailsNext, no_files};
 ghost use Rattle.bd_files.specs.Files.{Begins, ChangesOnly, CountsStrays, Fetches, Finishes, Holds, Lacks};
 
 use crate::calls::Calls;
@@ -149,7 +149,7 @@ impl Files for MemFiles {
         ensures whole { IfOk result (λ n. (bytes : List ℕ) → Holds self.old.files name.now bytes → n ≡ min (length into.old) (length bytes - at)) }
         ensures rest { IfOk result (λ n. drop n into.new ≡ drop n into.old) }
         ensures untouched { OnErr result (into.new ≡ into.old) }
-        ensures counts { Counts self.old.fetches self.new.fetches result }
+        ensures counts { CountsOneCall self.old.fetches self.new.fetches result }
         ensures one_stray { Lacks self.old.files name.now → self.new.strays ≡ one_more self.old.strays }
         ensures stays { self.new ≡ record self.old { fetches = self.new.fetches; strays = self.new.strays } }
     {
@@ -179,7 +179,7 @@ impl Files for MemFiles {
         // It fails where it was set to, or where no room is given, and then changes no file.
         ensures fails { IsErr result ↔ (FailsNext self.old.targets ⊎ Rose self.old.refused self.new.refused) }
         ensures err { OnErr result (self.new.files ≡ self.old.files) }
-        ensures counts { Counts self.old.targets self.new.targets result }
+        ensures counts { CountsOneCall self.old.targets self.new.targets result }
         ensures refused { CountsRefused self.old.targets self.old.refused self.new.refused result }
         ensures stays { self.new ≡ record self.old { files = self.new.files; unfinished = self.new.unfinished; targets = self.new.targets; refused = self.new.refused } }
     {
@@ -215,7 +215,7 @@ impl Files for MemFiles {
         // It fails where it was set to, or where no room is given, and then changes no file.
         ensures fails { IsErr result ↔ (FailsNext self.old.targets ⊎ Rose self.old.refused self.new.refused) }
         ensures err { OnErr result (self.new.files ≡ self.old.files) }
-        ensures counts { Counts self.old.targets self.new.targets result }
+        ensures counts { CountsOneCall self.old.targets self.new.targets result }
         ensures refused { CountsRefused self.old.targets self.old.refused self.new.refused result }
         ensures stays { self.new ≡ record self.old { files = self.new.files; unfinished = self.new.unfinished; targets = self.new.targets; refused = self.new.refused } }
     {
@@ -244,7 +244,7 @@ impl Files for MemFiles {
 
         // It fails where it was set to, or where no room can be counted as refused.
         ensures fails { IsErr result ↔ (FailsNext self.old.targets ⊎ Rose self.old.refused self.new.refused) }
-        ensures counts { Counts self.old.targets self.new.targets result }
+        ensures counts { CountsOneCall self.old.targets self.new.targets result }
         ensures stays { self.new ≡ record self.old { unfinished = self.new.unfinished; targets = self.new.targets } }
     {
         if self.targets.count() || self.refused == u64::MAX {

@@ -2,7 +2,7 @@
 ghost use Rattle.std.specs.Prelude.{◌≡◌, ◌↔◌, ◌⊎◌, OnOk, OnErr, IsErr, Some};
 ghost use Rattle.bd_disk.specs.Calls.{HasCause, Rose};
 ghost use Rattle.bd_disk.specs.History.{clock};
-ghost use Rattle.bd_files.specs.Fakes.{Counts, CountsRefused, FailsNext, empty_sink};
+ghost use Rattle.bd_files.specs.Fakes.{CountsOneCall, CountsRefused, FailsNext, empty_sink};
 ghost use Rattle.bd_files.specs.Sinks.{HandsOn, HandsPart, moments_of, written_of};
 
 use crate::Sink;
@@ -86,7 +86,7 @@ impl Sink for MemSink {
         // It fails where it was set to, or where no room is given, and then takes nothing.
         ensures fails { IsErr result ↔ (FailsNext self.old.puts ⊎ Rose self.old.refused self.new.refused) }
         ensures unwritten { OnErr result (self.new.handed ≡ self.old.handed) }
-        ensures counts { Counts self.old.puts self.new.puts result }
+        ensures counts { CountsOneCall self.old.puts self.new.puts result }
         ensures refused { CountsRefused self.old.puts self.old.refused self.new.refused result }
     {
         if self.puts.count() || self.refused == u64::MAX {

@@ -32,9 +32,9 @@ pub struct RealFiles<R: Folder<File = File> + AllocGlobal + Drop> {
 }
 
 impl<R: Folder<File = File> + AllocGlobal + Drop> Model for RealFiles<R> {
-    ghost use Rattle.bd_files.specs.Outside.{Outside, SparesItsFile};
+    ghost use Rattle.bd_files.specs.Outside.{OutsideOfFiles, SparesItsFile};
 
-    ghost Value = { Outside };
+    ghost Value = { OutsideOfFiles };
 
     ghost view = { λ f. record { sources = f.source_faults; targets = f.target_faults; spared = f.spared } };
 

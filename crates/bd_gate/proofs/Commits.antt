@@ -7,7 +7,7 @@ use Rattle.bd_disk.specs.History.{Call, History, contents}
 use Rattle.bd_disk.specs.Made.{Makes, Stores}
 use Rattle.bd_disk.specs.Runs.{Writes}
 use Rattle.bd_disk.specs.declared.disk.Disk.{Ghosts}
-use Rattle.bd_disk.proofs.Agreeing.{overwritten-none}
+use Rattle.bd_disk.proofs.AgreeLemmas.{overwritten-none}
 use Rattle.bd_disk.proofs.RunLemmas.{wider_writes}
 use Rattle.bd_disk.proofs.Traces.{makes_both, makes_one}
 use Rattle.bd_model.specs.Sizes.{Sizes, half_bytes, half_place}

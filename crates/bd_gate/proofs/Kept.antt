@@ -11,7 +11,7 @@ use Rattle.bd_gate.specs.Superblock.{eight_at}
 use Rattle.bd_gate.specs.Halves.{Half, half_at, newest_half, is_open, turn_at, payload_of, InHalf, InHalves}
 use Rattle.bd_gate.specs.Standing.{behind, SameStanding, HasFrame, IsOlderHalf, next_turn}
 use Rattle.bd_gate.proofs.Newest.{place, places, other_twice}
-use Rattle.bd_gate.proofs.Standings.{same_halves, newest_of_standing, bytes_of_standing}
+use Rattle.bd_gate.proofs.StandingLemmas.{same_halves, newest_of_standing, bytes_of_standing}
 
 -- ---- where the standing stays
 

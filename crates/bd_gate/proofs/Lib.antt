@@ -3,5 +3,5 @@ pub mod Committed
 pub mod Fronts
 pub mod Kept
 pub mod Newest
-pub mod Standings
+pub mod StandingLemmas
 pub mod Stops

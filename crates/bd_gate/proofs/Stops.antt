@@ -4,14 +4,14 @@ use Rattle.std.proofs.Math.Seq.{take-length}
 use Rattle.bd_disk.specs.Images.{InRange, AgreeBut, overwritten}
 use Rattle.bd_disk.specs.History.{History, clock, contents}
 use Rattle.bd_disk.specs.Made.{LeavesNow, LeavesSince, IsSettled, Stores, WritesOnly}
-use Rattle.bd_disk.proofs.Agreeing.{overwritten_there, overwritten_elsewhere, overwrite_agrees, bytes_at-overwritten, agree_trans}
+use Rattle.bd_disk.proofs.AgreeLemmas.{overwritten_there, overwritten_elsewhere, overwrite_agrees, bytes_at-overwritten, agree_trans}
 use Rattle.bd_disk.proofs.Frames.{contents_now, now_since, later, leaves_and, leaves_by_writes, leaves_now, leaves_both, leaves_same, leaves_wider, same_contents, settled_sure}
 use Rattle.bd_model.specs.Sizes.{Sizes, half_bytes, half_place}
 use Rattle.bd_gate.specs.Superblock.{byte_at, open_gate, closed_gate}
 use Rattle.bd_gate.specs.Halves.{is_open, turn_at, newest_half, InHalf}
-use Rattle.bd_gate.specs.Standing.{behind, SameStanding, HasFrame, IsEither, IsCommitted, IsOldOrCommitted, IsOlderHalf, IsNextTurn, BeginsNextTurn}
+use Rattle.bd_gate.specs.Standing.{behind, SameStanding, HasFrame, IsEither, IsCommitted, IsOldHalfOrCommitted, IsOlderHalf, IsNextTurn, BeginsNextTurn}
 use Rattle.bd_gate.proofs.Newest.{place, opened, turn, newest_is_open, places, other_twice}
-use Rattle.bd_gate.proofs.Standings.{bytes_behind, newest_of_standing, same_halves, filling_image, closing_image, opening_image, opened_image, IsOpenWith}
+use Rattle.bd_gate.proofs.StandingLemmas.{bytes_behind, newest_of_standing, same_halves, filling_image, closing_image, opening_image, opened_image, IsOpenWith}
 
 half_is_long : (s : Sizes) → 1 < half_bytes s
 half_is_long s = omega arith
@@ -166,7 +166,7 @@ module _ (s : Sizes) (number : ℕ) (lt : number < 2) where
   pub closed_filled : (a b c : History) → LeavesSince (SameStanding s (contents a)) a b → LeavesSince (SameStanding s (contents b)) b c → LeavesSince (SameStanding s (contents a)) a c
   closed_filled a b c closing filling = leaves_both closing (same_twice closing filling)
 
-  pub as_old : (frame old : List ℕ) {a b : History} → LeavesSince (SameStanding s old) a b → LeavesSince (IsOldOrCommitted s number frame old) a b
+  pub as_old : (frame old : List ℕ) {a b : History} → LeavesSince (SameStanding s old) a b → LeavesSince (IsOldHalfOrCommitted s number frame old) a b
   as_old frame old leaves = leaves_wider _ (λ image same. inl same) leaves
 
   -- once all that was written is sure, each image is the contents but for the half
@@ -179,7 +179,7 @@ module _ (s : Sizes) (number : ℕ) (lt : number < 2) where
   module _ (frame : List ℕ) (a b c d : History) (fits : length frame + 1 ≤ half_bytes s) (room : 64 + 2 * half_bytes s ≤ length (contents b)) (stores : Stores (half_place s number + 1) frame b c)
       (before : WritesOnly (InHalf s number) a c) (writes : WritesOnly (InHalf s number) c d) where
     pub commit_stops : LeavesSince (SameStanding s (contents a)) a b → LeavesSince (SameStanding s (contents b)) b c → LeavesSince (IsEither s number (behind s (contents c) number) (contents c)) c d
-        → LeavesSince (IsOldOrCommitted s number frame (contents a)) a d
+        → LeavesSince (IsOldHalfOrCommitted s number frame (contents a)) a d
     commit_stops closing filling opening =
         let first = closed_filled a b c closing filling in
         leaves_both (as_old frame (contents a) first)

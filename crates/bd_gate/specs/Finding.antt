@@ -17,9 +17,9 @@ IsFound s image (Err (NoHalf gates turns)) =
 IsFound s image (Err DiskFault) = Unit {0}
 
 -- whether it is a fault of the disk
-abbrev pub is_disk_fault : GateFault → Bool
-is_disk_fault (NoHalf gates turns) = false
-is_disk_fault DiskFault = true
+abbrev pub is_disk_fault_of_gate : GateFault → Bool
+is_disk_fault_of_gate (NoHalf gates turns) = false
+is_disk_fault_of_gate DiskFault = true
 
 -- a fact of an answer that isn't a fault of the disk
 abbrev pub UnlessFault : Result Half GateFault → Type 0 → Type 0

@@ -38,8 +38,8 @@ pub record IsCommitted (s : Sizes) (number : ℕ) (frame old image : List ℕ) :
   pub elsewhere : AgreeBut (InHalf s number) old image
 
 -- a stop within a commit leaves the newest half as it was, or the whole commit
-abbrev pub IsOldOrCommitted : Sizes → ℕ → List ℕ → List ℕ → List ℕ → Type 0
-IsOldOrCommitted s number frame old image = SameStanding s old image ⊎ IsCommitted s number frame old image
+abbrev pub IsOldHalfOrCommitted : Sizes → ℕ → List ℕ → List ℕ → List ℕ → Type 0
+IsOldHalfOrCommitted s number frame old image = SameStanding s old image ⊎ IsCommitted s number frame old image
 
 -- a stop at any moment since old leaves the newest half as it was
 abbrev pub KeepsStanding : Sizes → History → History → Type 0
@@ -55,7 +55,7 @@ LeavesOpened s number old new = LeavesNow (HasFrame s number (behind s (contents
 
 -- a stop at any moment since old leaves the newest half as it was, or the whole commit
 abbrev pub KeepsOrCommits : Sizes → ℕ → List ℕ → History → History → Type 0
-KeepsOrCommits s number frame old new = LeavesSince (IsOldOrCommitted s number frame (contents old)) old new
+KeepsOrCommits s number frame old new = LeavesSince (IsOldHalfOrCommitted s number frame (contents old)) old new
 
 -- a stop now leaves the whole commit
 abbrev pub LeavesCommitted : Sizes → ℕ → List ℕ → History → History → Type 0

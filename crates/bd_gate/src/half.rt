@@ -5,7 +5,7 @@ ghost use Rattle.bd_disk.specs.History.{contents};
 ghost use Rattle.bd_disk.specs.Runs.{Reads};
 ghost use Rattle.bd_disk.specs.Trace.{ReadsOnly, upward};
 ghost use Rattle.bd_model.specs.Sizes.{sizes_of, disk_bytes, half_bytes, half_place, payload_room};
-ghost use Rattle.bd_gate.specs.Finding.{is_disk_fault, front_places, IsFound, UnlessFault};
+ghost use Rattle.bd_gate.specs.Finding.{is_disk_fault_of_gate, front_places, IsFound, UnlessFault};
 ghost use Rattle.bd_gate.specs.Halves.{newer, newest_by, payload_of, InFronts, InPayload};
 ghost use Rattle.bd_gate.specs.Superblock.{open_gate, byte_at, eight_at};
 
@@ -148,7 +148,7 @@ fn newest_of(first: Front, second: Front) -> Option<u8>
 pub fn newest_half<D: Disk>(disk: &mut D, shape: &Shape) -> Result<Half, GateFault>
     requires room { disk_bytes (sizes_of shape.now) ≤ D.bytes disk.old }
     ensures disk { Reads D.Disk (InFronts (sizes_of shape.now)) disk.old disk.new }
-    ensures cause { FailsByCount is_disk_fault (D.faults disk.old) (D.faults disk.new) result }
+    ensures cause { FailsByCount is_disk_fault_of_gate (D.faults disk.old) (D.faults disk.new) result }
     ensures found { D.tells → IsFound (sizes_of shape.now) (contents (D.history disk.old)) result }
     ensures range { IfOk result (λ half. (half.number ≤ 1) × (half.turn ≤ 2)) }
     ensures places { UnlessFault result (D.tells →

@@ -11,7 +11,7 @@ use Rattle.bd_model.specs.Laws.{IsCut, rolled}
 use Rattle.bd_model.proofs.HashLemmas.{the_hash_rolls}
 use Rattle.bd_model.proofs.ChunkLemmas.{is_candidate-append, chunks_after-step, chunks_after-end, AreFirstChunks, AreFirstChunks-feed, AreFirstChunks-advance}
 use Rattle.bd_gear.specs.Rolling.{rolled_over, rolled_on, ScansTo}
-use Rattle.bd_gear.specs.Chunking.{Chunking, given, next_len}
+use Rattle.bd_gear.specs.Chunking.{Chunking, next_given, next_len}
 use Rattle.bd_gear.specs.Feeding.{HasFed, place_after}
 use Rattle.bd_gear.specs.Laws.{TheTakenAreAFront, PiecesMakeNoDifference}
 use Rattle.bd_gear.specs.Seeking.{Seeks, LooksOn}
@@ -205,7 +205,7 @@ HasFed-feed {cut} {s} {taken} {c} t going h =
     }
 
 -- a chunk is taken
-pub HasFed-advance : {cut : Cut} {s : List ℕ} {taken : List (List ℕ)} {c : Chunking} (n : ℕ) → given c ≡ Some n → HasFed cut s taken c →
+pub HasFed-advance : {cut : Cut} {s : List ℕ} {taken : List (List ℕ)} {c : Chunking} (n : ℕ) → next_given c ≡ Some n → HasFed cut s taken c →
     HasFed cut s (taken ++ take n c.held ∷ []) (record c { held = drop n c.held; scanned = 0; found = false })
 HasFed-advance {cut} {s} {taken} {c} n is_given h =
     let start = place_after taken in

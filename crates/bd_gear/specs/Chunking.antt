@@ -19,9 +19,9 @@ pub record Chunking : Type 0 where
   -- whether no input follows
   pub finished : Bool
 
--- the length of the next chunk that was given and not yet removed
-abbrev pub given : Chunking → Option ℕ
-given c = if c.found then Some c.scanned else None
+-- the length of the next chunk that was next_given and not yet removed
+abbrev pub next_given : Chunking → Option ℕ
+next_given c = if c.found then Some c.scanned else None
 
 -- the length of the chunk from `start` on, where it is decided by the bytes so far, or they are all and some are left
 abbrev pub next_len : Cut → List ℕ → ℕ → Bool → Option ℕ

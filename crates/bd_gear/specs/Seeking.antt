@@ -2,7 +2,7 @@
 use Rattle.std.specs.Prelude.{◌≡◌, ℕ, ◌≤◌, ◌<◌, Bool, ◌||◌, ◌&&◌, List, length, nat_lt, ◌==◌, IfSome, IfNone}
 use Rattle.bd_model.specs.Chunks.{Cut}
 use Rattle.bd_gear.specs.Rolling.{ScansTo}
-use Rattle.bd_gear.specs.Chunking.{Chunking, given, next_len}
+use Rattle.bd_gear.specs.Chunking.{Chunking, next_given, next_len}
 use Rattle.bd_gear.specs.Feeding.{HasFed, place_after}
 
 -- The scan went on, and the first `count` bytes are the next chunk at a candidate, at the most that a chunk may have, and at
@@ -14,10 +14,10 @@ pub record Seeks (cut : Cut) (held : List ℕ) (scanned hash : ℕ) (finished : 
 
 -- the chunker has looked for its next chunk
 pub record LooksOn (old new : Chunking) : Type 0 where
-  pub next : (cut : Cut) (s : List ℕ) (taken : List (List ℕ)) → HasFed cut s taken old → next_len cut s (place_after taken) old.finished ≡ given new
+  pub next : (cut : Cut) (s : List ℕ) (taken : List (List ℕ)) → HasFed cut s taken old → next_len cut s (place_after taken) old.finished ≡ next_given new
   pub fed : (cut : Cut) (s : List ℕ) (taken : List (List ℕ)) → HasFed cut s taken old → HasFed cut s taken new
-  pub within : IfSome (given new) (λ n. (1 ≤ n) × (n ≤ length old.held))
-  pub short : IfNone (given new) (length old.held < old.cut.most)
+  pub within : IfSome (next_given new) (λ n. (1 ≤ n) × (n ≤ length old.held))
+  pub short : IfNone (next_given new) (length old.held < old.cut.most)
   pub cut : new.cut ≡ old.cut
   pub held : new.held ≡ old.held
   pub finished : new.finished ≡ old.finished

@@ -2,7 +2,7 @@
 ghost use Rattle.std.specs.Prelude.{◌≡◌, ℕ, ◌+◌, ◌-◌, ◌^◌, ◌<◌, ◌≤◌, min, Bool, List, [], ◌∷◌, ◌++◌, length, take, drop, true, false, Option, Some, None, IfOk, IfNone, MatchOption, IsTrue, IsFalse, vec_len};
 ghost use Rattle.bd_model.specs.Chunks.{Cut, chunks};
 ghost use Rattle.bd_model.specs.State.{cut_of};
-ghost use Rattle.bd_gear.specs.Chunking.{given, next_len};
+ghost use Rattle.bd_gear.specs.Chunking.{next_given, next_len};
 ghost use Rattle.bd_gear.specs.Feeding.{HasFed, place_after};
 ghost use Rattle.bd_gear.specs.Seeking.{LooksOn};
 
@@ -103,7 +103,7 @@ impl Chunker {
             → HasFed cut s taken self.old → taken ≡ chunks cut s) }
         ensures sized { MatchOption result ((length self.old.held < self.old.cut.most) × (self.old.cut.most ≤ 65536))
             (λ n. (1 ≤ n) × (n ≤ length self.old.held)) }
-        ensures given { given self.new ≡ result }
+        ensures next_given { next_given self.new ≡ result }
         ensures cut { self.new.cut ≡ self.old.cut }
         ensures held { self.new.held ≡ self.old.held }
         ensures finished { self.new.finished ≡ self.old.finished }
@@ -141,7 +141,7 @@ impl Chunker {
 
     /// The bytes of the next chunk. Its length is the one that `next_length` gave.
     pub fn chunk(&self, len: u32) -> &[u8]
-        requires { given self.now ≡ Some len }
+        requires { next_given self.now ≡ Some len }
         ensures bytes { result.now ≡ take len self.now.held }
         ensures len { length result.now ≡ len }
     {
@@ -150,7 +150,7 @@ impl Chunker {
 
     /// Removes the next chunk. Its length is the one that `next_length` gave. The hash stays: it goes back over the cut.
     pub fn advance(&mut self, len: u32)
-        requires { given self.old ≡ Some len }
+        requires { next_given self.old ≡ Some len }
         ensures removed { self.new ≡ record self.old { held = drop len self.old.held; scanned = 0; found = false } }
         ensures taken { (cut : Cut) (s : List ℕ) (taken : List (List ℕ)) → HasFed cut s taken self.old
             → HasFed cut s (taken ++ take len self.old.held ∷ []) self.new }

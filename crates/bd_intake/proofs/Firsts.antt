@@ -8,9 +8,9 @@ use Rattle.std.proofs.lemmas.List.Elements.{filter-append}
 use Rattle.std.proofs.lemmas.List.Sums.{sum_by-append}
 use Rattle.std.proofs.lemmas.List.Folds.{list_any-append}
 use Rattle.bd_model.specs.Chunks.{numbers}
-use Rattle.bd_model.specs.History.{History, contains, distinct, newest, version}
+use Rattle.bd_model.specs.History.{VersionHistory, contains, distinct, newest, version}
 use Rattle.bd_model.specs.Layout.{record_bytes}
-use Rattle.bd_model.specs.Laws.{entries_in, start_in}
+use Rattle.bd_model.specs.Laws.{entries_of_chunks, start_in}
 use Rattle.bd_model.specs.Marks.{mark, Distinct}
 use Rattle.bd_model.specs.Recipe.{first_entries, entry_records, has_mark, recipe}
 use Rattle.bd_model.specs.Room.{up, fresh, fresh_entries, need_of, counted_of, running_of}
@@ -20,7 +20,7 @@ use Rattle.bd_model.proofs.MarkLemmas.{marks_tell_chunks_apart}
 use Rattle.bd_model.proofs.NeedLemmas.{filter-map, list_any-map, bytes_eq-mark}
 use Rattle.bd_model.proofs.RoomLemmas.{up-le}
 use Rattle.bd_gear.proofs.NextLemmas.{find-first}
-use Rattle.bd_intake.specs.Firsts.{first_by_mark, new_by_mark, is_marked, with_new, extents_of}
+use Rattle.bd_intake.specs.Firsts.{first_by_mark, new_by_mark, any_marked, with_new, extents_taken}
 
 -- ---- one chunk more
 
@@ -35,28 +35,28 @@ pub filter-cond : {X : Type 0} (p : X → Bool) (b : Bool) (xs ys : List X) → 
 filter-cond p true xs ys = refl
 filter-cond p false xs ys = refl
 
-pub first_by_mark-push : (cs : List (List ℕ)) (c : List ℕ) → first_by_mark (cs ++ c ∷ []) ≡ with_new (not (is_marked cs (mark c))) c (first_by_mark cs)
+pub first_by_mark-push : (cs : List (List ℕ)) (c : List ℕ) → first_by_mark (cs ++ c ∷ []) ≡ with_new (not (any_marked cs (mark c))) c (first_by_mark cs)
 first_by_mark-push [] c = refl
 first_by_mark-push (d ∷ cs) c =
     let other : List ℕ → Bool = λ x. not (bytes_eq (mark d) (mark x)) in
-    let t = not (is_marked cs (mark c)) in
+    let t = not (any_marked cs (mark c)) in
     let before = first_by_mark cs in
     ap (λ xs. d ∷ filter other xs) (first_by_mark-push cs c)
     ∙ ap (λ xs. d ∷ xs) (filter-cond other t (before ++ c ∷ []) before)
     ∙ ap (λ xs. d ∷ cond t xs (filter other before)) (filter-append other before (c ∷ []))
     ∙ ap (λ b. d ∷ cond t (filter other before ++ cond (not b) (c ∷ []) []) (filter other before)) (bytes_eq-sym (mark d) (mark c))
-    ∙ one_more (bytes_eq (mark c) (mark d)) (is_marked cs (mark c)) c d (filter other before)
+    ∙ one_more (bytes_eq (mark c) (mark d)) (any_marked cs (mark c)) c d (filter other before)
 
 pub new_by_mark-push : (old : List RecipeEntry) (cs : List (List ℕ)) (c : List ℕ) →
-    new_by_mark old (cs ++ c ∷ []) ≡ with_new (not (has_mark old (mark c) || is_marked cs (mark c))) c (new_by_mark old cs)
+    new_by_mark old (cs ++ c ∷ []) ≡ with_new (not (has_mark old (mark c) || any_marked cs (mark c))) c (new_by_mark old cs)
 new_by_mark-push old cs c =
     let lacks : List ℕ → Bool = λ d. not (has_mark old (mark d)) in
-    let t = not (is_marked cs (mark c)) in
+    let t = not (any_marked cs (mark c)) in
     let before = first_by_mark cs in
     ap (filter lacks) (first_by_mark-push cs c)
     ∙ filter-cond lacks t (before ++ c ∷ []) before
     ∙ ap (λ xs. cond t xs (filter lacks before)) (filter-append lacks before (c ∷ []))
-    ∙ both_lack (has_mark old (mark c)) (is_marked cs (mark c)) (filter lacks before)
+    ∙ both_lack (has_mark old (mark c)) (any_marked cs (mark c)) (filter lacks before)
   where
     both_lack : (known came : Bool) (xs : List (List ℕ)) → cond (not came) (xs ++ cond (not known) (c ∷ []) []) xs ≡ cond (not (known || came)) (xs ++ c ∷ []) xs
     both_lack true true xs = refl
@@ -64,8 +64,8 @@ new_by_mark-push old cs c =
     both_lack false true xs = refl
     both_lack false false xs = refl
 
-pub is_marked-push : (cs : List (List ℕ)) (c m : List ℕ) → is_marked (cs ++ c ∷ []) m ≡ (is_marked cs m || bytes_eq m (mark c))
-is_marked-push cs c m = list_any-append (λ d. bytes_eq m (mark d)) cs (c ∷ []) ∙ ap (λ t. is_marked cs m || t) (or-false (bytes_eq m (mark c)))
+pub is_marked-push : (cs : List (List ℕ)) (c m : List ℕ) → any_marked (cs ++ c ∷ []) m ≡ (any_marked cs m || bytes_eq m (mark c))
+is_marked-push cs c m = list_any-append (λ d. bytes_eq m (mark d)) cs (c ∷ []) ∙ ap (λ t. any_marked cs m || t) (or-false (bytes_eq m (mark c)))
   where
     or-false : (b : Bool) → (b || false) ≡ b
     or-false true = refl
@@ -79,17 +79,17 @@ with_new-grows false c cs = omega arith
 
 module _ (old : List RecipeEntry) where
   bytes-grow : (cs : List (List ℕ)) (c : List ℕ) → record_bytes (new_by_mark old cs) ≤ record_bytes (new_by_mark old (cs ++ c ∷ []))
-  bytes-grow cs c = omega (arith, ap record_bytes (new_by_mark-push old cs c), with_new-grows (not (has_mark old (mark c) || is_marked cs (mark c))) c (new_by_mark old cs))
+  bytes-grow cs c = omega (arith, ap record_bytes (new_by_mark-push old cs c), with_new-grows (not (has_mark old (mark c) || any_marked cs (mark c))) c (new_by_mark old cs))
 
   module _ (extent : ℕ) (some : 1 ≤ extent) where
-    extents_of-push : (cs : List (List ℕ)) (c : List ℕ) → extents_of extent old cs ≤ extents_of extent old (cs ++ c ∷ [])
+    extents_of-push : (cs : List (List ℕ)) (c : List ℕ) → extents_taken extent old cs ≤ extents_taken extent old (cs ++ c ∷ [])
     extents_of-push cs c =
         omega (arith, up-le extent _ _ some (bytes-grow cs c), up-le extent (40 * length cs) (40 * length (cs ++ c ∷ [])) some (omega (arith, length-append cs (c ∷ []))))
 
-    pub extents_of-more : (cs ds : List (List ℕ)) → extents_of extent old cs ≤ extents_of extent old (cs ++ ds)
-    extents_of-more cs [] = omega (arith, ap (extents_of extent old) (append-nil cs))
+    pub extents_of-more : (cs ds : List (List ℕ)) → extents_taken extent old cs ≤ extents_taken extent old (cs ++ ds)
+    extents_of-more cs [] = omega (arith, ap (extents_taken extent old) (append-nil cs))
     extents_of-more cs (d ∷ ds) =
-        omega (arith, extents_of-push cs d, extents_of-more (cs ++ d ∷ []) ds, ap (extents_of extent old) (append_assoc cs (d ∷ []) ds))
+        omega (arith, extents_of-push cs d, extents_of-more (cs ++ d ∷ []) ds, ap (extents_taken extent old) (append_assoc cs (d ∷ []) ds))
 
 -- ---- the same from entries
 
@@ -114,32 +114,32 @@ module _ (old : List RecipeEntry) (v : ℕ) where
       ∙ entry_records-map (new_by_mark old cs)
 
   -- a recipe of these chunks has the marks of these chunks
-  pub has_mark-entries : (cs : List (List ℕ)) (m : List ℕ) → has_mark (entries_in old v cs) m ≡ is_marked cs m
+  pub has_mark-entries : (cs : List (List ℕ)) (m : List ℕ) → has_mark (entries_of_chunks old v cs) m ≡ any_marked cs m
   has_mark-entries cs m = list_any-map entry (λ d. refl) (λ e. bytes_eq m e.mark.0) cs
 
   module _ (extent : ℕ) (some : 1 ≤ extent) where
-    running-is : (parts : List (List ℕ)) (n : ℕ) → running_of extent old (entries_in old v parts) n ≡ extents_of extent old (take n parts)
+    running-is : (parts : List (List ℕ)) (n : ℕ) → running_of extent old (entries_of_chunks old v parts) n ≡ extents_taken extent old (take n parts)
     running-is parts n =
         let first : take n (map entry parts) ≡ map entry (take n parts) = take-map entry n parts in
         (λ k. up extent (entry_records (fresh_entries old (first k))) + up extent (40 * length (first k)))
         ∙ (λ k. up extent (fresh-bytes (take n parts) k) + up extent (40 * length-map (take n parts) entry k))
 
     -- what the new records and the entries take is part of what the version needs
-    pub extents-in_need : (parts : List (List ℕ)) → up extent (entry_records (fresh_entries old (entries_in old v parts))) + up extent (40 * length (entries_in old v parts)) ≡ extents_of extent old parts
+    pub extents-in_need : (parts : List (List ℕ)) → up extent (entry_records (fresh_entries old (entries_of_chunks old v parts))) + up extent (40 * length (entries_of_chunks old v parts)) ≡ extents_taken extent old parts
     extents-in_need parts = (λ k. up extent (fresh-bytes parts k) + up extent (40 * length-map parts entry k))
 
-    front-le : (parts : List (List ℕ)) (n : ℕ) → extents_of extent old (take n parts) ≤ extents_of extent old parts
-    front-le parts n = omega (arith, extents_of-more old extent some (take n parts) (drop n parts), ap (extents_of extent old) (take-append-drop n parts))
+    front-le : (parts : List (List ℕ)) (n : ℕ) → extents_taken extent old (take n parts) ≤ extents_taken extent old parts
+    front-le parts n = omega (arith, extents_of-more old extent some (take n parts) (drop n parts), ap (extents_taken extent old) (take-append-drop n parts))
 
     find-none : (p : ℕ → Bool) (f : ℕ → ℕ) (ns : List ℕ) → ((n : ℕ) → p (f n) ≡ false) → find p (map f ns) ≡ None
     find-none p f [] none = refl
     find-none p f (n ∷ ns) none = (λ k. cond (none n k) (Some (f n)) (find p (map f ns))) ∙ find-none p f ns none
 
     -- where no front is too much, all that is needed is counted
-    pub counted-whole : (parts : List (List ℕ)) (free : ℕ) → extents_of extent old parts ≤ free → counted_of extent old (entries_in old v parts) free ≡ need_of extent old (entries_in old v parts)
+    pub counted-whole : (parts : List (List ℕ)) (free : ℕ) → extents_taken extent old parts ≤ free → counted_of extent old (entries_of_chunks old v parts) free ≡ need_of extent old (entries_of_chunks old v parts)
     unfolding counted_of
     counted-whole parts free fits =
-        let es = entries_in old v parts in
+        let es = entries_of_chunks old v parts in
         ap (λ o. unwrap_or o (need_of extent old es))
         (find-none (nat_lt free) (running_of extent old es) (numbers 1 (length es)) (λ n. le-ltb free (running_of extent old es n) (omega (arith, running-is parts n, front-le parts n, fits))))
 
@@ -153,22 +153,22 @@ module _ (old : List RecipeEntry) (v : ℕ) where
 
     -- the first front that is too much is what is counted
     pub counted-first : (earlier : List (List ℕ)) (last : List ℕ) (rest : List (List ℕ)) (free : ℕ) →
-        extents_of extent old earlier ≤ free → free < extents_of extent old (earlier ++ last ∷ []) →
-        counted_of extent old (entries_in old v ((earlier ++ last ∷ []) ++ rest)) free ≡ extents_of extent old (earlier ++ last ∷ [])
+        extents_taken extent old earlier ≤ free → free < extents_taken extent old (earlier ++ last ∷ []) →
+        counted_of extent old (entries_of_chunks old v ((earlier ++ last ∷ []) ++ rest)) free ≡ extents_taken extent old (earlier ++ last ∷ [])
     unfolding counted_of
     counted-first earlier last rest free fits more =
         let parts = (earlier ++ last ∷ []) ++ rest in
-        let es = entries_in old v parts in
+        let es = entries_of_chunks old v parts in
         let f = running_of extent old es in
         let k = length earlier + 1 in
         let long : length (earlier ++ last ∷ []) ≡ k = length-append earlier (last ∷ []) in
         let size : length es ≡ length parts = length-map parts entry in
         let whole : take k parts ≡ earlier ++ last ∷ [] = ap (λ n. take n parts) (sym long) ∙ take-append_seam (earlier ++ last ∷ []) rest in
-        let here : f k ≡ extents_of extent old (earlier ++ last ∷ []) = running-is parts k ∙ ap (extents_of extent old) whole in
+        let here : f k ≡ extents_taken extent old (earlier ++ last ∷ []) = running-is parts k ∙ ap (extents_taken extent old) whole in
         let split : parts ≡ earlier ++ (last ∷ rest) = append_assoc earlier (last ∷ []) rest in
         let before : (m : ℕ) → 1 ≤ m → m < k → nat_lt free (f m) ≡ false = λ m low high.
         let front : take m parts ≡ take m earlier = ap (take m) split ∙ take-append-le m earlier (last ∷ rest) (omega arith) in
-        le-ltb free (f m) (omega (arith, running-is parts m, ap (extents_of extent old) front, extents_of-more old extent some (take m earlier) (drop m earlier), ap (extents_of extent old) (take-append-drop m earlier), fits)) in
+        le-ltb free (f m) (omega (arith, running-is parts m, ap (extents_taken extent old) front, extents_of-more old extent some (take m earlier) (drop m earlier), ap (extents_taken extent old) (take-append-drop m earlier), fits)) in
         let found : find (λ n. nat_lt free (f n)) (numbers 1 (length es)) ≡ Some k =
         find-first (λ n. nat_lt free (f n)) 1 k (length es) (omega arith) (omega arith) (omega (arith, size, length-append (earlier ++ last ∷ []) rest, long)) before (lt-ltb free (f k) (omega (arith, here, more))) in
         ap (λ o. unwrap_or o (need_of extent old es)) (find-map (nat_lt free) f (numbers 1 (length es)) ∙ ap (option_map f) found) ∙ here
@@ -187,7 +187,7 @@ first_chunks (c ∷ cs) apart =
     ∙ ap (λ xs. c ∷ xs) (filter-within _ _ (distinct cs) other)
 
 -- those that the newest recipe lacks are the fresh ones
-pub new_chunks : (h : History) (cs : List (List ℕ)) → Distinct (version h (newest h) ++ cs) → new_by_mark (recipe h (newest h)) cs ≡ fresh h cs
+pub new_chunks : (h : VersionHistory) (cs : List (List ℕ)) → Distinct (version h (newest h) ++ cs) → new_by_mark (recipe h (newest h)) cs ≡ fresh h cs
 new_chunks h cs apart =
     let inside : (d : List ℕ) → contains cs d ≡ true → contains (version h (newest h) ++ cs) d ≡ true =
     λ d has. contains-append (version h (newest h)) cs d ∙ or_right (contains (version h (newest h)) d) (contains cs d) has in

@@ -14,7 +14,7 @@ use Rattle.bd_model.proofs.ChunkListLemmas.{sum_by-cond}
 use Rattle.bd_intake.specs.declared.tally.Share.{Share}
 use Rattle.bd_intake.specs.declared.tally.Tally.{Tally}
 use Rattle.bd_intake.specs.Given.{FitsSums}
-use Rattle.bd_intake.specs.Tallies.{Counts, moved_of, share_at, share_of}
+use Rattle.bd_intake.specs.Tallies.{CountsNeighbour, moved_of, share_at, share_of}
 
 -- ---- parts of a list have no more bytes
 
@@ -146,7 +146,7 @@ up-le_bytes extent bytes some =
 abbrev pub taken_for : ℕ → Tally → ℕ → ℕ
 taken_for extent tally i = cond (share_at tally i).goes (up extent (share_at tally i).kept) 0
 
-module _ (extent : ℕ) (some : 1 ≤ extent) (tally : Tally) (old new : List RecipeEntry) (fits : FitsSums old) (counts : Counts old new tally) where
+module _ (extent : ℕ) (some : 1 ≤ extent) (tally : Tally) (old new : List RecipeEntry) (fits : FitsSums old) (counts : CountsNeighbour old new tally) where
   taken-le : sum_by (taken_for extent tally) tally.starts.items ≤ entry_records (kept_entries old new)
   taken-le = omega (
     arith,

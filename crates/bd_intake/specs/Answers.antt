@@ -5,7 +5,7 @@ use Rattle.bd_disk.specs.declared.disk.Disk.{Ghosts}
 use Rattle.bd_files.specs.Files.{Holds}
 use Rattle.bd_files.specs.declared.files.Files.{Ghosts as FileGhosts}
 use Rattle.bd_model.specs.Chunks.{chunks}
-use Rattle.bd_model.specs.Laws.{entries_in}
+use Rattle.bd_model.specs.Laws.{entries_of_chunks}
 use Rattle.bd_model.specs.Records.{records_of, spelled_recipe}
 use Rattle.bd_model.specs.Room.{need_of, counted_of}
 use Rattle.bd_model.specs.Sizes.{Sizes}
@@ -18,7 +18,7 @@ use Rattle.bd_roll.specs.declared.step.Step.TheVariants.{Backup}
 use Rattle.bd_roll.specs.Growing.{entry_for, own_category}
 use Rattle.bd_roll.specs.Shown.{version_entry}
 use Rattle.bd_catalog.specs.Standing.{BeginWith}
-use Rattle.bd_roll.specs.Steps.{Fits, brought, fresh_entries}
+use Rattle.bd_roll.specs.Steps.{Fits, brought, fresh_actives}
 use Rattle.bd_intake.specs.declared.fault.IntakeFault.{IntakeFault}
 use Rattle.bd_intake.specs.declared.fault.IntakeFault.TheVariants.{Full, SourceFault, DiskFault, OutOfMemory}
 use Rattle.bd_intake.specs.declared.staged.Staged.{Staged}
@@ -33,7 +33,7 @@ RefusesRoom counted free held OutOfMemory = Unit {0}
 
 -- a refusal of the version v of these chunks, where the version before has the recipe `old`
 abbrev pub RefusesVersion : Sizes → List RecipeEntry → ℕ → List (List ℕ) → ℕ → ℕ → IntakeFault → Type 0
-RefusesVersion s old v parts free held fault = RefusesRoom (counted_of s.extent old (entries_in old v parts) free) free held fault
+RefusesVersion s old v parts free held fault = RefusesRoom (counted_of s.extent old (entries_of_chunks old v parts) free) free held fault
 
 -- the extents of the fresh chunks
 abbrev pub fresh_extents : Option ActiveCategory → List ℕ
@@ -42,10 +42,10 @@ fresh_extents (Some category) = category.extents.numbers
 
 -- the version v of this stream and these chunks
 pub record IsVersion (s : Sizes) (old : List RecipeEntry) (v : ℕ) (stream : List ℕ) (parts : List (List ℕ)) (free : ℕ) (staged : Staged) : Type 0 where
-  pub counted : counted_of s.extent old (entries_in old v parts) free ≤ free
-  pub needed : staged.need ≡ need_of s.extent old (entries_in old v parts)
+  pub counted : counted_of s.extent old (entries_of_chunks old v parts) free ≤ free
+  pub needed : staged.need ≡ need_of s.extent old (entries_of_chunks old v parts)
   pub version : version_entry staged.version ≡ entry_for stream parts (new_by_mark old parts) staged.version.recipe.numbers
-  pub fresh : fresh_entries staged.fresh ≡ own_category v (new_by_mark old parts) (fresh_extents staged.fresh)
+  pub fresh : fresh_actives staged.fresh ≡ own_category v (new_by_mark old parts) (fresh_extents staged.fresh)
 
 -- what an intake of this stream, cut into these chunks, answers where so much is free and held
 abbrev pub AnswersIntake : Sizes → List RecipeEntry → ℕ → List ℕ → List (List ℕ) → ℕ → ℕ → Result Staged IntakeFault → Type 0
@@ -54,7 +54,7 @@ AnswersIntake s old v stream parts free held (Err fault) = RefusesVersion s old 
 
 -- its extents begin with the entries of these chunks, and with the records of those that the version before lacks
 pub record HoldsVersion (s : Sizes) (old : List RecipeEntry) (v : ℕ) (parts : List (List ℕ)) (staged : Staged) (image : List ℕ) : Type 0 where
-  pub recipe : BeginWith s staged.version.recipe.numbers (spelled_recipe (entries_in old v parts)) image
+  pub recipe : BeginWith s staged.version.recipe.numbers (spelled_recipe (entries_of_chunks old v parts)) image
   pub fresh : BeginWith s (fresh_extents staged.fresh) (records_of (new_by_mark old parts)) image
 
 -- What is counted of the stream under the name, beside the recipe `old` of the version before: where the files tell it, the

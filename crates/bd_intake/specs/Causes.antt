@@ -5,12 +5,12 @@ use Rattle.bd_intake.specs.declared.fault.IntakeFault.{IntakeFault}
 use Rattle.bd_intake.specs.declared.fault.IntakeFault.TheVariants.{Full, SourceFault, DiskFault, OutOfMemory}
 
 -- no disk and no source failed
-abbrev pub IsQuiet : {T : Type 0} → Result T IntakeFault → Type 0
-IsQuiet (Ok value) = Unit {0}
-IsQuiet (Err (Full counted free held)) = Unit {0}
-IsQuiet (Err SourceFault) = ⊥
-IsQuiet (Err DiskFault) = ⊥
-IsQuiet (Err OutOfMemory) = Unit {0}
+abbrev pub NothingFailed : {T : Type 0} → Result T IntakeFault → Type 0
+NothingFailed (Ok value) = Unit {0}
+NothingFailed (Err (Full counted free held)) = Unit {0}
+NothingFailed (Err SourceFault) = ⊥
+NothingFailed (Err DiskFault) = ⊥
+NothingFailed (Err OutOfMemory) = Unit {0}
 
 -- memory was refused
 abbrev pub OnlyMemory : IntakeFault → Type 0
@@ -36,15 +36,15 @@ pub record FailsBySource {T : Type 0} (before now : ℕ) (result : Result T Inta
   pub cause : BySource before now result
 
 -- each fault comes only where its own count rose, and every other answer only where both stayed
-abbrev pub ByCount : {T : Type 0} → ℕ → ℕ → ℕ → ℕ → Result T IntakeFault → Type 0
-ByCount disk disk_now source source_now (Err DiskFault) = Rose disk disk_now × (source_now ≡ source)
-ByCount disk disk_now source source_now (Err SourceFault) = Rose source source_now × (disk_now ≡ disk)
-ByCount disk disk_now source source_now _ = (disk_now ≡ disk) × (source_now ≡ source)
+abbrev pub ByTheirCounts : {T : Type 0} → ℕ → ℕ → ℕ → ℕ → Result T IntakeFault → Type 0
+ByTheirCounts disk disk_now source source_now (Err DiskFault) = Rose disk disk_now × (source_now ≡ source)
+ByTheirCounts disk disk_now source source_now (Err SourceFault) = Rose source source_now × (disk_now ≡ disk)
+ByTheirCounts disk disk_now source source_now _ = (disk_now ≡ disk) × (source_now ≡ source)
 
-pub record FailsByCount {T : Type 0} (disk disk_now source source_now : ℕ) (result : Result T IntakeFault) : Type 0 where
+pub record FailsByTheirCounts {T : Type 0} (disk disk_now source source_now : ℕ) (result : Result T IntakeFault) : Type 0 where
   pub disk_later : disk ≤ disk_now
   pub source_later : source ≤ source_now
-  pub cause : ByCount disk disk_now source source_now result
+  pub cause : ByTheirCounts disk disk_now source source_now result
 
 -- the answer of an intake whose source isn't there
 abbrev pub MissesSource : {T : Type 0} → Result T IntakeFault → Type 0

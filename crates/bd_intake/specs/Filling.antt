@@ -18,7 +18,7 @@ pub record IsFront (told : Type 0) (files : FileMap) (name : List ℕ) (front : 
   pub so : told → (stream : List ℕ) → Holds files name stream → front ≡ take (length front) stream
 
 -- so many bytes came, the first of the source; the chunker was fed them, and the chunks that it gave are taken and put
-pub record Fills (t : Given) (at : ℕ) (c : Chunking) (staging : Staging) (told : Type 0) (image : List ℕ) (files_told : Type 0) (files : FileMap) (name : List ℕ) : Type 0 where
+pub record ComesIn (t : Given) (at : ℕ) (c : Chunking) (staging : Staging) (told : Type 0) (image : List ℕ) (files_told : Type 0) (files : FileMap) (name : List ℕ) : Type 0 where
   pub front : List ℕ
   pub taken : List (List ℕ)
   pub size : length front ≡ at
@@ -28,7 +28,7 @@ pub record Fills (t : Given) (at : ℕ) (c : Chunking) (staging : Staging) (told
   pub is_front : IsFront files_told files name front
 
 -- the whole source has come
-pub record Filled (t : Given) (c : Chunking) (staging : Staging) (told : Type 0) (image : List ℕ) (files_told : Type 0) (files : FileMap) (name : List ℕ) : Type 0 where
+pub record HasCome (t : Given) (c : Chunking) (staging : Staging) (told : Type 0) (image : List ℕ) (files_told : Type 0) (files : FileMap) (name : List ℕ) : Type 0 where
   pub stream : List ℕ
   pub taken : List (List ℕ)
   pub fed : HasFed (cut_in t.sizes) stream taken c

@@ -24,16 +24,16 @@ abbrev pub new_by_mark : List RecipeEntry → List (List ℕ) → List (List ℕ
 new_by_mark old chunks = filter (λ c. not (has_mark old (mark c))) (first_by_mark chunks)
 
 -- whether one of the chunks has the mark
-abbrev pub is_marked : List (List ℕ) → List ℕ → Bool
-is_marked chunks m = list_any (λ d. bytes_eq m (mark d)) chunks
+abbrev pub any_marked : List (List ℕ) → List ℕ → Bool
+any_marked chunks m = list_any (λ d. bytes_eq m (mark d)) chunks
 
 -- the chunks, and one more at their end if it is new
 abbrev pub with_new : Bool → List ℕ → List (List ℕ) → List (List ℕ)
 with_new is_new c chunks = if is_new then chunks ++ c ∷ [] else chunks
 
 -- the extents that a version of these chunks takes beside that recipe: for its new records and for its entries
-abbrev pub extents_of : ℕ → List RecipeEntry → List (List ℕ) → ℕ
-extents_of extent old chunks = up extent (record_bytes (new_by_mark old chunks)) + up extent (40 * length chunks)
+abbrev pub extents_taken : ℕ → List RecipeEntry → List (List ℕ) → ℕ
+extents_taken extent old chunks = up extent (record_bytes (new_by_mark old chunks)) + up extent (40 * length chunks)
 
 -- whether one of these marks is this one
 abbrev pub knows : List (List ℕ) → List ℕ → Bool

@@ -1,4 +1,4 @@
--- What is given before a version is taken in.
+-- What is given_of before a version is taken in.
 use Rattle.std.specs.Prelude.{◌≡◌, ℕ, ◌^◌, ◌≤◌, List, [], length, All}
 use Rattle.bd_model.specs.Sizes.{Sizes, sizes_of}
 use Rattle.bd_model.specs.declared.layout.RecipeEntry.{RecipeEntry}
@@ -23,5 +23,5 @@ pub record Given : Type 0 where
   pub version : ℕ
   pub free : ℕ
 
-abbrev pub given : Terms → Given
-given t = record { sizes = sizes_of t.shape; old = t.neighbour.now.entries; version = t.version; free = t.free }
+abbrev pub given_of : Terms → Given
+given_of t = record { sizes = sizes_of t.shape; old = t.neighbour.now.entries; version = t.version; free = t.free }

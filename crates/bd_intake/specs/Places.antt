@@ -9,7 +9,7 @@ use Rattle.bd_intake.specs.Firsts.{with_new}
 use Rattle.bd_intake.specs.Putting.{Held, IsPutOn}
 
 -- two owners' extents, none of which is the other's
-pub record AreApart (s : Sizes) (recipe fresh : List ℕ) : Type 0 where
+pub record OwnersAreApart (s : Sizes) (recipe fresh : List ℕ) : Type 0 where
   pub recipe_extents : AreExtents s recipe
   pub fresh_extents : AreExtents s fresh
   pub apart : (e : ℕ) → Contains recipe e → Contains fresh e → ⊥

@@ -30,5 +30,5 @@ abbrev pub KeepsPut : {D : Type 0} → Ghosts D → Sizes → List ℕ → Held 
 KeepsPut g s extents p q old new = g.tells → (bytes : List ℕ) → IsPutOn g s extents p bytes old → IsPutOn g s extents q bytes new
 
 -- and these bytes are put behind it
-abbrev pub Puts : {D : Type 0} → Ghosts D → Sizes → List ℕ → List ℕ → Held → Held → D → D → Type 0
-Puts g s extents more p q old new = g.tells → (bytes : List ℕ) → IsPutOn g s extents p bytes old → IsPutOn g s extents q (bytes ++ more) new
+abbrev pub PutsBytes : {D : Type 0} → Ghosts D → Sizes → List ℕ → List ℕ → Held → Held → D → D → Type 0
+PutsBytes g s extents more p q old new = g.tells → (bytes : List ℕ) → IsPutOn g s extents p bytes old → IsPutOn g s extents q (bytes ++ more) new

@@ -4,7 +4,7 @@ use Rattle.std.specs.List.{concat}
 use Rattle.bd_disk.specs.History.{contents}
 use Rattle.bd_disk.specs.declared.disk.Disk.{Ghosts}
 use Rattle.bd_model.specs.Chunks.{chunks}
-use Rattle.bd_model.specs.Laws.{entries_in}
+use Rattle.bd_model.specs.Laws.{entries_of_chunks}
 use Rattle.bd_model.specs.Layout.{record_bytes}
 use Rattle.bd_model.specs.Recipe.{has_mark}
 use Rattle.bd_model.specs.Records.{records_of, spelled_recipe}
@@ -15,7 +15,7 @@ use Rattle.bd_gear.specs.Chunking.{Chunking}
 use Rattle.bd_gear.specs.Feeding.{HasFed}
 use Rattle.bd_catalog.specs.Standing.{BeginWith}
 use Rattle.bd_intake.specs.declared.staging.Staging.{Staging}
-use Rattle.bd_intake.specs.Firsts.{cut_in, new_by_mark, is_marked, knows}
+use Rattle.bd_intake.specs.Firsts.{cut_in, new_by_mark, any_marked, knows}
 use Rattle.bd_intake.specs.Given.{Given}
 use Rattle.bd_intake.specs.Putting.{IsPut, put_count}
 use Rattle.bd_intake.specs.Seen.{AreUsed}
@@ -24,15 +24,15 @@ use Rattle.bd_intake.specs.Spaces.{Owns}
 -- the numbers, the marks and the flags are those of these chunks
 pub record HasTaken (t : Given) (taken : List (List ℕ)) (staging : Staging) : Type 0 where
   pub each : All (λ c. (1 ≤ length c) × (length c ≤ t.sizes.max)) taken
-  pub known : (m : List ℕ) → knows staging.seen.marks m ≡ (is_marked taken m && not (has_mark t.old m))
-  pub used : AreUsed t.old (is_marked taken) staging.seen.used
+  pub known : (m : List ℕ) → knows staging.seen.marks m ≡ (any_marked taken m && not (has_mark t.old m))
+  pub used : AreUsed t.old (any_marked taken) staging.seen.used
   pub chunk_count : staging.chunks ≡ length taken
   pub stream_bytes : staging.length ≡ length (concat taken)
   pub fresh_count : staging.fresh_chunks ≡ length (new_by_mark t.old taken)
   pub record_bytes_is : staging.fresh_bytes ≡ record_bytes (new_by_mark t.old taken)
 
 -- each owner has the extents that its bytes take
-pub record HasExtents (s : Sizes) (staging : Staging) : Type 0 where
+pub record OwnersHaveExtents (s : Sizes) (staging : Staging) : Type 0 where
   pub recipe : length staging.recipe.numbers ≡ up s.extent (40 * staging.chunks)
   pub fresh : length staging.fresh.numbers ≡ up s.extent staging.fresh_bytes
 
@@ -45,7 +45,7 @@ pub record HasCounted (staging : Staging) : Type 0 where
 pub record IsStaging (t : Given) (space : Allotment) (staging : Staging) : Type 0 where
   pub taken : List (List ℕ)
   pub has : HasTaken t taken staging
-  pub extents : HasExtents t.sizes staging
+  pub extents : OwnersHaveExtents t.sizes staging
   pub put : HasCounted staging
   pub base : List ℕ
   pub first : Allotment
@@ -55,12 +55,12 @@ pub record IsStaging (t : Given) (space : Allotment) (staging : Staging) : Type 
 
 -- the entries of these chunks were put, and the records of those that the version before lacks
 pub record HasPut (t : Given) (taken : List (List ℕ)) (staging : Staging) (image : List ℕ) : Type 0 where
-  pub recipe : IsPut t.sizes staging.recipe.numbers staging.entries (spelled_recipe (entries_in t.old t.version taken)) image
+  pub recipe : IsPut t.sizes staging.recipe.numbers staging.entries (spelled_recipe (entries_of_chunks t.old t.version taken)) image
   pub fresh : IsPut t.sizes staging.fresh.numbers staging.records (records_of (new_by_mark t.old taken)) image
 
 -- the extents begin with the entries of these chunks, and with the records of those that the version before lacks
 pub record HasWritten (t : Given) (taken : List (List ℕ)) (staging : Staging) (image : List ℕ) : Type 0 where
-  pub recipe : BeginWith t.sizes staging.recipe.numbers (spelled_recipe (entries_in t.old t.version taken)) image
+  pub recipe : BeginWith t.sizes staging.recipe.numbers (spelled_recipe (entries_of_chunks t.old t.version taken)) image
   pub fresh : BeginWith t.sizes staging.fresh.numbers (records_of (new_by_mark t.old taken)) image
 
 -- where the disk tells and some chunks were put, this one is put behind them
@@ -91,7 +91,7 @@ pub record IsFed (s : Sizes) (c : Chunking) : Type 0 where
 
 -- The chunker was fed this stream and gave these chunks, with those before among them, and they are all taken and put.
 -- They are all chunks of the stream once it is over.
-pub record Goes (over : Type 0) (t : Given) (stream : List ℕ) (taken : List (List ℕ)) (c : Chunking) (before after : Staging) (told : Type 0) (old new : List ℕ) : Type 0 where
+pub record StagesOn (over : Type 0) (t : Given) (stream : List ℕ) (taken : List (List ℕ)) (c : Chunking) (before after : Staging) (told : Type 0) (old new : List ℕ) : Type 0 where
   pub all : List (List ℕ)
   pub fed : HasFed (cut_in t.sizes) stream all c
   pub has : HasTaken t all after

@@ -10,10 +10,10 @@ use Rattle.bd_model.specs.Chunks.{chunks}
 use Rattle.bd_intake.specs.declared.fault.IntakeFault.{IntakeFault}
 use Rattle.bd_intake.specs.declared.staging.Staging.{Staging}
 use Rattle.bd_intake.specs.Answers.{RefusesRoom}
-use Rattle.bd_intake.specs.Firsts.{cut_in, extents_of}
+use Rattle.bd_intake.specs.Firsts.{cut_in, extents_taken}
 use Rattle.bd_intake.specs.Given.{Given}
 use Rattle.bd_intake.specs.Needs.{Needs, RefusesChunks}
-use Rattle.bd_intake.specs.Staging.{Goes, HasTaken, HasWritten}
+use Rattle.bd_intake.specs.Staging.{StagesOn, HasTaken, HasWritten}
 
 -- ---- one chunk
 
@@ -24,7 +24,7 @@ TakesChunk t body before after = (taken : List (List ℕ)) → HasTaken t taken 
 -- a refusal for room counts what those before take with it
 abbrev pub RefusesChunk : {T : Type 0} → Given → List ℕ → Staging → ℕ → Result T IntakeFault → Type 0
 RefusesChunk t body before held result =
-    (taken : List (List ℕ)) → HasTaken t taken before → IfErr result (RefusesRoom (extents_of t.sizes.extent t.old (taken ++ body ∷ [])) t.free held)
+    (taken : List (List ℕ)) → HasTaken t taken before → IfErr result (RefusesRoom (extents_taken t.sizes.extent t.old (taken ++ body ∷ [])) t.free held)
 
 -- ---- the chunks of a stream
 
@@ -32,7 +32,7 @@ RefusesChunk t body before held result =
 abbrev pub TakesDecided : {D : Type 0} → Ghosts D → Type 0 → Given → Chunking → Chunking → Staging → Staging → D → D → Type 0
 TakesDecided g over t c d before after old new =
     (stream : List ℕ) (taken : List (List ℕ)) → HasFed (cut_in t.sizes) stream taken c → HasTaken t taken before →
-    Goes over t stream taken d before after g.tells (contents (g.history old)) (contents (g.history new))
+    StagesOn over t stream taken d before after g.tells (contents (g.history old)) (contents (g.history new))
 
 -- a refusal for room is one of every stream that begins with the bytes so far, and is them once it is over
 abbrev pub RefusesDecided : {T : Type 0} → Given → Chunking → Staging → ℕ → Result T IntakeFault → Type 0
@@ -44,7 +44,7 @@ RefusesDecided t c before held result =
 abbrev pub TakesPiece : {D : Type 0} → Ghosts D → Given → List ℕ → Chunking → Chunking → Staging → Staging → D → D → Type 0
 TakesPiece g t piece c d before after old new =
     (stream : List ℕ) (taken : List (List ℕ)) → HasFed (cut_in t.sizes) stream taken c → HasTaken t taken before →
-    Goes ⊥ t (stream ++ piece) taken d before after g.tells (contents (g.history old)) (contents (g.history new))
+    StagesOn ⊥ t (stream ++ piece) taken d before after g.tells (contents (g.history old)) (contents (g.history new))
 
 abbrev pub RefusesPiece : {T : Type 0} → Given → List ℕ → Chunking → Staging → ℕ → Result T IntakeFault → Type 0
 RefusesPiece t piece c before held result =

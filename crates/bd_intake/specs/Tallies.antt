@@ -45,7 +45,7 @@ abbrev pub some_from : ℕ → List RecipeEntry → Bool
 some_from i entries = list_any (λ e. nat_eq e.start i) entries
 
 -- what is counted over the first entries of the version before, where the new one has this recipe
-pub record Counts (old new : List RecipeEntry) (tally : Tally) : Type 0 where
+pub record CountsNeighbour (old new : List RecipeEntry) (tally : Tally) : Type 0 where
   pub starts : tally.starts.items ≡ starts_of old
   pub there : (i : ℕ) → is_some (lookup (nat_eq i) tally.shares.entries) ≡ some_from i old
   pub shares : (i : ℕ) → share_at tally i ≡ share_of old new i
@@ -56,4 +56,4 @@ pub record IsCounted (tally : Tally) : Type 0 where
   pub old : List RecipeEntry
   pub new : List RecipeEntry
   pub sums : FitsSums old
-  pub so : Counts old new tally
+  pub so : CountsNeighbour old new tally

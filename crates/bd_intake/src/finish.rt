@@ -1,7 +1,7 @@
 //! The ends of what is staged: a version, or nothing.
 ghost use Rattle.std.specs.Prelude.{◌≡◌, ℕ, ◌+◌, ◌<◌, ◌^◌, List, [], ◌∷◌, ◌++◌, length, nat_lt, IfOk, if◌then◌else◌};
 ghost use Rattle.bd_roll.specs.Shown.{version_entry};
-ghost use Rattle.bd_roll.specs.Steps.{fresh_entries};
+ghost use Rattle.bd_roll.specs.Steps.{fresh_actives};
 ghost use Rattle.bd_space.specs.Allotment.{extent_count, TakenExactly, KeepsHeld};
 ghost use Rattle.bd_intake.specs.Answers.{fresh_extents};
 ghost use Rattle.bd_intake.specs.Given.{Given};
@@ -41,7 +41,7 @@ pub(crate) fn nothing_staged(alloc: Global, entries: usize) -> Result<Staging, O
 // The open category that begins with this version, where it has chunks.
 fn category_of(version: u32, chunks: u64, bytes: u64, extents: Owned) -> Option<ActiveCategory>
     requires { chunks ≡ 0 → extents.numbers ≡ [] }
-    ensures entries { fresh_entries result ≡ (if nat_lt 0 chunks then record { row = record { start = version; chunks = chunks; bytes = bytes }; extents = extents.numbers } ∷ [] else []) }
+    ensures entries { fresh_actives result ≡ (if nat_lt 0 chunks then record { row = record { start = version; chunks = chunks; bytes = bytes }; extents = extents.numbers } ∷ [] else []) }
     ensures extents { fresh_extents result ≡ extents.numbers }
 {
     if chunks > 0 {
@@ -61,7 +61,7 @@ fn category_of(version: u32, chunks: u64, bytes: u64, extents: Owned) -> Option<
 pub(crate) fn finished(staging: Staging, version: u32, need: u64) -> Staged
     requires none { staging.fresh_chunks ≡ 0 → staging.fresh.numbers ≡ [] }
     ensures version { version_entry result.version ≡ record { length = staging.length; chunks = staging.chunks; fresh = staging.fresh_chunks; extents = staging.recipe.numbers } }
-    ensures entries { fresh_entries result.fresh ≡ (if nat_lt 0 staging.fresh_chunks
+    ensures entries { fresh_actives result.fresh ≡ (if nat_lt 0 staging.fresh_chunks
         then record { row = record { start = version; chunks = staging.fresh_chunks; bytes = staging.fresh_bytes }; extents = staging.fresh.numbers } ∷ [] else []) }
     ensures extents { fresh_extents result.fresh ≡ staging.fresh.numbers }
     ensures need { result.need ≡ need }

@@ -2,8 +2,8 @@
 ghost use Rattle.std.specs.Prelude.{◌≡◌, ℕ, ◌≤◌, List, IfOk, IfErr};
 ghost use Rattle.bd_space.specs.Allotment.{held_count};
 ghost use Rattle.bd_intake.specs.Answers.{RefusesRoom};
-ghost use Rattle.bd_intake.specs.Causes.{IsQuiet};
-ghost use Rattle.bd_intake.specs.Given.{FitsSums, given};
+ghost use Rattle.bd_intake.specs.Causes.{NothingFailed};
+ghost use Rattle.bd_intake.specs.Given.{FitsSums, given_of};
 ghost use Rattle.bd_intake.specs.Needs.{Needs, need_in};
 ghost use Rattle.bd_intake.specs.Staging.{HasTaken, IsStaging};
 
@@ -23,11 +23,11 @@ pub(crate) fn whole_need(
     space: &Space,
     terms: &Terms<'_>,
 ) -> Result<u64, IntakeFault>
-    requires staging { IsStaging (given terms.now) space.now staging.now }
+    requires staging { IsStaging (given_of terms.now) space.now staging.now }
     requires sums { FitsSums terms.now.neighbour.now.entries }
-    ensures quiet { IsQuiet result }
-    ensures need { IfOk result (λ need. (taken : List (List ℕ)) → HasTaken (given terms.now) taken staging.now → Needs (given terms.now) taken need) }
-    ensures refused { (taken : List (List ℕ)) → HasTaken (given terms.now) taken staging.now → IfErr result (RefusesRoom (need_in (given terms.now) taken) terms.now.free (held_count space.now)) }
+    ensures quiet { NothingFailed result }
+    ensures need { IfOk result (λ need. (taken : List (List ℕ)) → HasTaken (given_of terms.now) taken staging.now → Needs (given_of terms.now) taken need) }
+    ensures refused { (taken : List (List ℕ)) → HasTaken (given_of terms.now) taken staging.now → IfErr result (RefusesRoom (need_in (given_of terms.now) taken) terms.now.free (held_count space.now)) }
 {
     let moved = moved_extents(alloc, &terms.shape, terms.neighbour, staging.seen.used())?;
     let staged = staging.fresh.len() as u64 + staging.recipe.len() as u64;

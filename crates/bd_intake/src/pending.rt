@@ -5,7 +5,7 @@ ghost use Rattle.bd_disk.specs.Runs.{Writes};
 ghost use Rattle.bd_model.specs.Sizes.{sizes_of, disk_bytes};
 ghost use Rattle.bd_extio.specs.Ranges.{AreExtents, IsWithin};
 ghost use Rattle.bd_catalog.specs.Agreement.{InExtents};
-ghost use Rattle.bd_intake.specs.Putting.{KeepsPut, Puts, put_count};
+ghost use Rattle.bd_intake.specs.Putting.{KeepsPut, PutsBytes, put_count};
 
 use bd_disk::{Disk, Failed};
 use bd_extio::write_at;
@@ -47,7 +47,7 @@ impl Pending {
         })
     }
 
-    /// Puts these bytes behind the others. What is held is written before, where they don't fit beside it.
+    /// PutsBytes these bytes behind the others. What is held is written before, where they don't fit beside it.
     pub(crate) fn put<D: Disk>(
         &mut self,
         disk: &mut D,
@@ -62,7 +62,7 @@ impl Pending {
         ensures disk { Writes D.Disk (InExtents (sizes_of shape.now) extents.now) disk.old disk.new }
         ensures cause { HasCause (D.faults disk.old) (D.faults disk.new) result }
         ensures count { OnOk result (put_count self.new ≡ put_count self.old + length bytes.now) }
-        ensures put { OnOk result (Puts D.Disk (sizes_of shape.now) extents.now bytes.now self.old self.new disk.old disk.new) }
+        ensures put { OnOk result (PutsBytes D.Disk (sizes_of shape.now) extents.now bytes.now self.old self.new disk.old disk.new) }
     {
         self.make_room(disk, shape, extents, bytes.len())?;
         let _ = self.held.extend_from_slice(bytes);

@@ -6,7 +6,7 @@ ghost use Rattle.bd_model.specs.Marks.{mark};
 ghost use Rattle.bd_model.specs.Sizes.{sizes_of, disk_bytes};
 ghost use Rattle.bd_extio.specs.Ranges.{AreExtents, IsWithin};
 ghost use Rattle.bd_catalog.specs.Agreement.{InExtents};
-ghost use Rattle.bd_intake.specs.Places.{AddsEntry, AddsRecord, AreApart};
+ghost use Rattle.bd_intake.specs.Places.{AddsEntry, AddsRecord, OwnersAreApart};
 ghost use Rattle.bd_intake.specs.Putting.{put_count};
 ghost use Rattle.bd_intake.specs.Staging.{WritesOut, staged_extents};
 
@@ -77,7 +77,7 @@ pub(crate) fn put_parts<D: Disk>(
     body: &[u8],
 ) -> Result<(), Failed>
     requires room { disk_bytes (sizes_of shape.now) ≤ D.bytes disk.old }
-    requires numbers { AreApart (sizes_of shape.now) staging.old.recipe.numbers staging.old.fresh.numbers }
+    requires numbers { OwnersAreApart (sizes_of shape.now) staging.old.recipe.numbers staging.old.fresh.numbers }
     requires record_range { IsTrue is_new → IsWithin (sizes_of shape.now) staging.old.fresh.numbers staging.old.records.written (length staging.old.records.held + (36 + length body.now)) }
     requires entry_range { IsWithin (sizes_of shape.now) staging.old.recipe.numbers staging.old.entries.written (length staging.old.entries.held) }
     requires short { length body.now ≤ 65536 }
@@ -116,7 +116,7 @@ pub(crate) fn write_out<D: Disk>(
     staging: &mut Staging,
 ) -> Result<(), Failed>
     requires room { disk_bytes (sizes_of shape.now) ≤ D.bytes disk.old }
-    requires numbers { AreApart (sizes_of shape.now) staging.old.recipe.numbers staging.old.fresh.numbers }
+    requires numbers { OwnersAreApart (sizes_of shape.now) staging.old.recipe.numbers staging.old.fresh.numbers }
     requires record_range { IsWithin (sizes_of shape.now) staging.old.fresh.numbers staging.old.records.written (length staging.old.records.held) }
     requires entry_range { IsWithin (sizes_of shape.now) staging.old.recipe.numbers staging.old.entries.written (length staging.old.entries.held) }
     ensures disk { Writes D.Disk (InExtents (sizes_of shape.now) (staged_extents staging.old)) disk.old disk.new }

@@ -5,9 +5,9 @@ ghost use Rattle.bd_model.specs.Sizes.{sizes_of};
 ghost use Rattle.bd_space.specs.Allotment.{free_count, held_count};
 ghost use Rattle.bd_intake.specs.Answers.{RefusesRoom};
 ghost use Rattle.bd_intake.specs.declared.fault.IntakeFault.TheVariants.{Full};
-ghost use Rattle.bd_intake.specs.Causes.{IsQuiet, OnlyMemory};
+ghost use Rattle.bd_intake.specs.Causes.{NothingFailed, OnlyMemory};
 ghost use Rattle.bd_intake.specs.Spaces.{Adds};
-ghost use Rattle.bd_intake.specs.Staging.{Grows, HasExtents};
+ghost use Rattle.bd_intake.specs.Staging.{Grows, OwnersHaveExtents};
 
 use crate::extents::extents_for;
 use crate::fault::IntakeFault;
@@ -53,7 +53,7 @@ pub(crate) fn make_room(
     terms: &Terms<'_>,
     fresh_bytes: u64,
 ) -> Result<(), IntakeFault>
-    requires extents { HasExtents (sizes_of terms.now.shape) staging.old }
+    requires extents { OwnersHaveExtents (sizes_of terms.now.shape) staging.old }
     requires counted { free_count space.old + (length staging.old.recipe.numbers + length staging.old.fresh.numbers) ≡ terms.now.free }
     requires more { staging.old.fresh_bytes ≤ fresh_bytes }
     requires small { fresh_bytes < 2 ^ 63 }
@@ -62,7 +62,7 @@ pub(crate) fn make_room(
     ensures same { staging.new ≡ record staging.old { fresh = staging.new.fresh; recipe = staging.new.recipe } }
     ensures fresh { OnOk result (length staging.new.fresh.numbers ≡ up terms.now.shape.extent fresh_bytes) }
     ensures recipe { OnOk result (length staging.new.recipe.numbers ≡ up terms.now.shape.extent (40 * (staging.old.chunks + 1))) }
-    ensures quiet { IsQuiet result }
+    ensures quiet { NothingFailed result }
     ensures refused { IfErr result (RefusesRoom (up terms.now.shape.extent fresh_bytes + up terms.now.shape.extent (40 * (staging.old.chunks + 1))) terms.now.free (held_count space.old)) }
 {
     let fresh = extents_for(&terms.shape, fresh_bytes);

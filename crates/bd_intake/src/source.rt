@@ -6,9 +6,9 @@ ghost use Rattle.bd_files.specs.Files.{Fetches};
 ghost use Rattle.bd_model.specs.Sizes.{sizes_of, disk_bytes};
 ghost use Rattle.bd_space.specs.Allotment.{held_count};
 ghost use Rattle.bd_catalog.specs.Agreement.{InExtents};
-ghost use Rattle.bd_intake.specs.Causes.{FailsByCount, FailsByDisk, FailsBySource};
-ghost use Rattle.bd_intake.specs.Filling.{Filled, Fills, LeavesFiles};
-ghost use Rattle.bd_intake.specs.Given.{given};
+ghost use Rattle.bd_intake.specs.Causes.{FailsByTheirCounts, FailsByDisk, FailsBySource};
+ghost use Rattle.bd_intake.specs.Filling.{HasCome, ComesIn, LeavesFiles};
+ghost use Rattle.bd_intake.specs.Given.{given_of};
 ghost use Rattle.bd_intake.specs.Staging.{Grows, IsFed, IsStaging, staged_extents};
 ghost use Rattle.bd_intake.specs.Taking.{RefusesPiece, RefusesSource, TakesPiece};
 
@@ -53,7 +53,7 @@ fn take_piece<D: Disk>(
     piece: &[u8],
 ) -> Result<(), IntakeFault>
     requires room { disk_bytes (sizes_of terms.now.shape) ≤ D.bytes disk.old }
-    requires staging { IsStaging (given terms.now) space.old staging.old }
+    requires staging { IsStaging (given_of terms.now) space.old staging.old }
     requires fed { IsFed (sizes_of terms.now.shape) chunker.old }
     requires few { length piece.now ≤ 65536 }
     requires open { IsFalse chunker.old.finished }
@@ -61,11 +61,11 @@ fn take_piece<D: Disk>(
     ensures disk { Writes D.Disk (InExtents (sizes_of terms.now.shape) (staged_extents staging.new)) disk.old disk.new }
     ensures cause { FailsByDisk (D.faults disk.old) (D.faults disk.new) result }
     ensures grows { Grows space.old space.new staging.old staging.new }
-    ensures staging { OnOk result (IsStaging (given terms.now) space.new staging.new) }
+    ensures staging { OnOk result (IsStaging (given_of terms.now) space.new staging.new) }
     ensures open { OnOk result (IsFalse chunker.new.finished) }
     ensures short { OnOk result (length chunker.new.held < 65536) }
-    ensures taken { OnOk result (TakesPiece D.Disk (given terms.now) piece.now chunker.old chunker.new staging.old staging.new disk.old disk.new) }
-    ensures refused { RefusesPiece (given terms.now) piece.now chunker.old staging.old (held_count space.old) result }
+    ensures taken { OnOk result (TakesPiece D.Disk (given_of terms.now) piece.now chunker.old chunker.new staging.old staging.new disk.old disk.new) }
+    ensures refused { RefusesPiece (given_of terms.now) piece.now chunker.old staging.old (held_count space.old) result }
 {
     chunker.feed(piece);
     take_chunks(staging, chunker, disk, space, terms)
@@ -82,17 +82,17 @@ pub(crate) fn fill<D: Disk, F: Files>(
     name: &Name,
 ) -> Result<(), IntakeFault>
     requires room { disk_bytes (sizes_of terms.now.shape) ≤ D.bytes disk.old }
-    requires staging { IsStaging (given terms.now) space.old staging.old }
+    requires staging { IsStaging (given_of terms.now) space.old staging.old }
     requires open { IsFalse chunker.old.finished }
     requires short { length chunker.old.held < 65536 }
-    requires fills { Fills (given terms.now) 0 chunker.old staging.old D.tells (contents (D.history disk.old)) F.tells (F.files files.old) name.now }
+    requires fills { ComesIn (given_of terms.now) 0 chunker.old staging.old D.tells (contents (D.history disk.old)) F.tells (F.files files.old) name.now }
     ensures disk { Writes D.Disk (InExtents (sizes_of terms.now.shape) (staged_extents staging.new)) disk.old disk.new }
-    ensures cause { FailsByCount (D.faults disk.old) (D.faults disk.new) (F.source_faults files.old) (F.source_faults files.new) result }
+    ensures cause { FailsByTheirCounts (D.faults disk.old) (D.faults disk.new) (F.source_faults files.old) (F.source_faults files.new) result }
     ensures files { LeavesFiles F.Files name.now files.old files.new result }
     ensures grows { Grows space.old space.new staging.old staging.new }
-    ensures staging { OnOk result (IsStaging (given terms.now) space.new staging.new) }
-    ensures filled { OnOk result (Filled (given terms.now) chunker.new staging.new D.tells (contents (D.history disk.new)) F.tells (F.files files.old) name.now) }
-    ensures refused { RefusesSource F.Files name.now files.old (given terms.now) (held_count space.old) result }
+    ensures staging { OnOk result (IsStaging (given_of terms.now) space.new staging.new) }
+    ensures filled { OnOk result (HasCome (given_of terms.now) chunker.new staging.new D.tells (contents (D.history disk.new)) F.tells (F.files files.old) name.now) }
+    ensures refused { RefusesSource F.Files name.now files.old (given_of terms.now) (held_count space.old) result }
 {
     let mut buffer = [0u8; PIECE];
     let mut at = 0u64;

@@ -5,7 +5,7 @@ ghost use Rattle.bd_model.specs.Sizes.{sizes_of, disk_bytes};
 ghost use Rattle.bd_space.specs.Allotment.{held_count};
 ghost use Rattle.bd_catalog.specs.Agreement.{InExtents};
 ghost use Rattle.bd_intake.specs.Causes.{FailsByDisk};
-ghost use Rattle.bd_intake.specs.Given.{given};
+ghost use Rattle.bd_intake.specs.Given.{given_of};
 ghost use Rattle.bd_intake.specs.Staging.{Grows, IsStaging, PutsChunk, staged_extents};
 ghost use Rattle.bd_intake.specs.Taking.{RefusesChunk, TakesChunk};
 
@@ -54,16 +54,16 @@ pub(crate) fn take_chunk<D: Disk>(
     body: &[u8],
 ) -> Result<(), IntakeFault>
     requires room { disk_bytes (sizes_of terms.now.shape) ≤ D.bytes disk.old }
-    requires staging { IsStaging (given terms.now) space.old staging.old }
+    requires staging { IsStaging (given_of terms.now) space.old staging.old }
     requires some { 1 ≤ length body.now }
     requires short { length body.now ≤ terms.now.shape.max }
     ensures disk { Writes D.Disk (InExtents (sizes_of terms.now.shape) (staged_extents staging.new)) disk.old disk.new }
     ensures cause { FailsByDisk (D.faults disk.old) (D.faults disk.new) result }
     ensures grows { Grows space.old space.new staging.old staging.new }
-    ensures staging { OnOk result (IsStaging (given terms.now) space.new staging.new) }
-    ensures taken { OnOk result (TakesChunk (given terms.now) body.now staging.old staging.new) }
-    ensures put { OnOk result (PutsChunk D.Disk (given terms.now) body.now staging.old staging.new disk.old disk.new) }
-    ensures refused { RefusesChunk (given terms.now) body.now staging.old (held_count space.old) result }
+    ensures staging { OnOk result (IsStaging (given_of terms.now) space.new staging.new) }
+    ensures taken { OnOk result (TakesChunk (given_of terms.now) body.now staging.old staging.new) }
+    ensures put { OnOk result (PutsChunk D.Disk (given_of terms.now) body.now staging.old staging.new disk.old disk.new) }
+    ensures refused { RefusesChunk (given_of terms.now) body.now staging.old (held_count space.old) result }
 {
     let own = mark_of(body);
     let met = staging.seen.meet(terms.neighbour, terms.version, &own)?;

@@ -7,9 +7,9 @@ ghost use Rattle.bd_space.specs.Allotment.{extent_count, held_count, TakenExactl
 ghost use Rattle.bd_roll.specs.Catalogue.{all_extents};
 ghost use Rattle.bd_catalog.specs.Agreement.{InExtents, InFree};
 ghost use Rattle.bd_intake.specs.Answers.{CountsSource, FitsStaged, LeavesSpace, StoresSource};
-ghost use Rattle.bd_intake.specs.Causes.{FailsByCount};
+ghost use Rattle.bd_intake.specs.Causes.{FailsByTheirCounts};
 ghost use Rattle.bd_intake.specs.Filling.{LeavesFiles};
-ghost use Rattle.bd_intake.specs.Given.{FitsSums, given, IsRecipeOrNone};
+ghost use Rattle.bd_intake.specs.Given.{FitsSums, given_of, IsRecipeOrNone};
 ghost use Rattle.bd_intake.specs.Staging.{Grows, HasPut, HasTaken, IsStaging, staged_extents};
 ghost use Rattle.bd_intake.specs.Taking.{RefusesSource, StagesSource};
 
@@ -42,17 +42,17 @@ fn stage<D: Disk, F: Files>(
     name: &Name,
 ) -> Result<u64, IntakeFault>
     requires room { disk_bytes (sizes_of terms.now.shape) ≤ D.bytes disk.old }
-    requires staging { IsStaging (given terms.now) space.old staging.old }
-    requires taken { HasTaken (given terms.now) [] staging.old }
-    requires nothing { (image : List ℕ) → HasPut (given terms.now) [] staging.old image }
+    requires staging { IsStaging (given_of terms.now) space.old staging.old }
+    requires taken { HasTaken (given_of terms.now) [] staging.old }
+    requires nothing { (image : List ℕ) → HasPut (given_of terms.now) [] staging.old image }
     requires sums { FitsSums terms.now.neighbour.now.entries }
     ensures disk { Writes D.Disk (InExtents (sizes_of terms.now.shape) (staged_extents staging.new)) disk.old disk.new }
-    ensures cause { FailsByCount (D.faults disk.old) (D.faults disk.new) (F.source_faults files.old) (F.source_faults files.new) result }
+    ensures cause { FailsByTheirCounts (D.faults disk.old) (D.faults disk.new) (F.source_faults files.old) (F.source_faults files.new) result }
     ensures files { LeavesFiles F.Files name.now files.old files.new result }
     ensures grows { Grows space.old space.new staging.old staging.new }
-    ensures staging { OnOk result (IsStaging (given terms.now) space.new staging.new) }
-    ensures whole { IfOk result (StagesSource D.Disk disk.new F.Files name.now files.old (given terms.now) staging.new) }
-    ensures refused { RefusesSource F.Files name.now files.old (given terms.now) (held_count space.old) result }
+    ensures staging { OnOk result (IsStaging (given_of terms.now) space.new staging.new) }
+    ensures whole { IfOk result (StagesSource D.Disk disk.new F.Files name.now files.old (given_of terms.now) staging.new) }
+    ensures refused { RefusesSource F.Files name.now files.old (given_of terms.now) (held_count space.old) result }
 {
     let mut chunker = Chunker::new(alloc, *terms.gear, terms.shape)?;
     fill(staging, &mut chunker, disk, space, terms, files, name)?;
@@ -83,7 +83,7 @@ pub fn intake<D: Disk, F: Files>(
     requires owners { TakenExactly space.old (all_extents catalog.now.found.catalogue) }
     requires size { extent_count space.old ≡ catalog.now.found.sizes.extents }
     ensures disk { Writes D.Disk (InFree catalog.now.found.sizes space.old) disk.old disk.new }
-    ensures cause { FailsByCount (D.faults disk.old) (D.faults disk.new) (F.source_faults files.old) (F.source_faults files.new) result }
+    ensures cause { FailsByTheirCounts (D.faults disk.old) (D.faults disk.new) (F.source_faults files.old) (F.source_faults files.new) result }
     ensures files { LeavesFiles F.Files name.now files.old files.new result }
     ensures space { LeavesSpace catalog.now.found.catalogue space.old space.new result }
     ensures fits { IfOk result (FitsStaged catalog.now.found) }

@@ -5,7 +5,7 @@ ghost use Rattle.bd_model.specs.declared.layout.RecipeEntry.{RecipeEntry};
 ghost use Rattle.bd_recipe.specs.Marked.{first_from};
 ghost use Rattle.bd_intake.specs.Given.{FitsSums};
 ghost use Rattle.bd_intake.specs.Seen.{AreUsed, IsUsedBy};
-ghost use Rattle.bd_intake.specs.Tallies.{Counts, IsCounted, gone_with, moved_of, share_at, share_with};
+ghost use Rattle.bd_intake.specs.Tallies.{CountsNeighbour, IsCounted, gone_with, moved_of, share_at, share_with};
 
 use crate::extents::extents_for;
 use bd_model::{RecipeEntry, Shape};
@@ -77,7 +77,7 @@ fn bytes_gone(entry: &RecipeEntry, is_first: bool, is_used: bool) -> u64
     }
 }
 
-// Counts one entry more.
+// CountsNeighbour one entry more.
 fn count_entry(
     tally: &mut Tally,
     entry: &RecipeEntry,
@@ -86,8 +86,8 @@ fn count_entry(
 ) -> Result<(), OutOfMemory>
     requires kept { (share_at tally.old entry.now.start).kept ≤ 2 ^ 62 }
     requires archived { tally.old.archived ≤ 2 ^ 62 }
-    ensures counted { OnOk result ((old new : List RecipeEntry) → Counts old new tally.old → is_first ≡ not (has_mark old entry.now.mark.0) →
-        (IsTrue is_first → is_used ≡ has_mark new entry.now.mark.0) → Counts (old ++ entry.now ∷ []) new tally.new) }
+    ensures counted { OnOk result ((old new : List RecipeEntry) → CountsNeighbour old new tally.old → is_first ≡ not (has_mark old entry.now.mark.0) →
+        (IsTrue is_first → is_used ≡ has_mark new entry.now.mark.0) → CountsNeighbour (old ++ entry.now ∷ []) new tally.new) }
 {
     let share = with_entry(told_of(tally, entry.start), entry, is_first, is_used);
     tally.archived += bytes_gone(entry, is_first, is_used);
@@ -110,11 +110,11 @@ fn is_first(neighbour: &Neighbour, index: usize, entry: &RecipeEntry) -> bool
     }
 }
 
-// Counts over all entries.
+// CountsNeighbour over all entries.
 fn tallied(alloc: Global, neighbour: &Neighbour, used: &[bool]) -> Result<Tally, OutOfMemory>
     requires sums { FitsSums neighbour.now.entries }
     requires used { IsUsedBy neighbour.now.entries used.now }
-    ensures counted { IfOk result (λ tally. (new : List RecipeEntry) → AreUsed neighbour.now.entries (has_mark new) used.now → Counts neighbour.now.entries new tally) }
+    ensures counted { IfOk result (λ tally. (new : List RecipeEntry) → AreUsed neighbour.now.entries (has_mark new) used.now → CountsNeighbour neighbour.now.entries new tally) }
 {
     let mut tally = Tally {
         starts: Vec::new(alloc),
@@ -133,7 +133,7 @@ fn tallied(alloc: Global, neighbour: &Neighbour, used: &[bool]) -> Result<Tally,
 // The extents that arranging takes.
 fn total_of(tally: &Tally, shape: &Shape) -> u64
     requires { IsCounted tally.now }
-    ensures moved { (old new : List RecipeEntry) → FitsSums old → Counts old new tally.now → result ≡ moved_of shape.now.extent old new }
+    ensures moved { (old new : List RecipeEntry) → FitsSums old → CountsNeighbour old new tally.now → result ≡ moved_of shape.now.extent old new }
     ensures small { result < 2 ^ 63 }
 {
     let mut extents = extents_for(shape, tally.archived);

@@ -4,7 +4,7 @@ use Rattle.std.proofs.lemmas.Bool.{ne_eqb, cases_lt, eqb-true, eqb-false}
 use Rattle.std.proofs.lemmas.List.{append-nil}
 use Rattle.std.specs.List.{flat_map, range_with_len}
 use Rattle.bd_model.specs.Chunks.{numbers}
-use Rattle.bd_model.specs.History.{History, newest, oldest, contains}
+use Rattle.bd_model.specs.History.{VersionHistory, newest, oldest, contains}
 use Rattle.bd_model.specs.Category.{category, living}
 use Rattle.bd_model.specs.declared.layout.Phase.{Phase}
 use Rattle.bd_model.specs.declared.layout.Phase.TheVariants.{Settled, Waiting}
@@ -39,8 +39,8 @@ find_none p a (suc n) =
       | false ↦ λ e f j low high. ⊎_elim (λ less. find_none p (a + 1) n f j (omega arith) (omega arith)) (λ le. let same : a ≡ j = omega arith in subst (λ v. p v ≡ false) same e) (cases_lt a j)
     ] refl
 
-module _ (h : History) (w : List (List ℕ)) where
-  abbrev next : History
+module _ (h : VersionHistory) (w : List (List ℕ)) where
+  abbrev next : VersionHistory
   next = grown h w
 
   -- in which starts only the newest closed volume depends on the phase

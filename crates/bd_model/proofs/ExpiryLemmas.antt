@@ -6,7 +6,7 @@ use Rattle.std.specs.List.{flat_map}
 use Rattle.bd_model.specs.declared.layout.Phase.{Phase}
 use Rattle.bd_model.specs.declared.layout.Phase.TheVariants.{Settled, Waiting}
 use Rattle.bd_model.specs.Chunks.{numbers}
-use Rattle.bd_model.specs.History.{History, version, newest, oldest, retained, no_versions}
+use Rattle.bd_model.specs.History.{VersionHistory, version, newest, oldest, retained, no_versions}
 use Rattle.bd_model.specs.Category.{category}
 use Rattle.bd_model.specs.State.{history}
 use Rattle.bd_model.specs.Layout.{closed_volume, open_category, is_arranged, is_closed, record_bytes, rows}
@@ -21,7 +21,7 @@ use Rattle.bd_model.proofs.StepLemmas.{length-history}
 sum_by-first : (f : ℕ → ℕ) (a a' b : ℕ) → a' ≡ a + 1 → a ≤ b → sum_by f (numbers a b) ≡ f a + sum_by f (numbers a' b)
 sum_by-first f a a' b next le = ap (sum_by f) (numbers-cons a b le) ∙ sum_by-cons f a (numbers (a + 1) b) ∙ ap (λ n. f a + sum_by f (numbers n b)) (sym next)
 
-owned-given_up : (extent : ℕ) (h : History) (phase : Phase) → 2 ≤ retained h → closed_volume h phase (oldest h) ≡ closed_volume h Settled (oldest h) →
+owned-given_up : (extent : ℕ) (h : VersionHistory) (phase : Phase) → 2 ≤ retained h → closed_volume h phase (oldest h) ≡ closed_volume h Settled (oldest h) →
     owned extent h phase ≡ dropped_extents extent h (oldest h) + owned extent (given_up 1 h) phase
 unfolding owned
 owned-given_up extent h phase more same =
@@ -34,10 +34,10 @@ owned-given_up extent h phase more same =
     )
 
 -- one more
-again : (d : ℕ) (h : History) → given_up 1 (given_up d h) ≡ given_up (suc d) h
+again : (d : ℕ) (h : VersionHistory) → given_up 1 (given_up d h) ≡ given_up (suc d) h
 again d h = let more : h.expired + d + 1 ≡ h.expired + suc d = omega arith in ap (λ n. record h { expired = n }) more
 
-owned-first : (extent d : ℕ) (h : History) (phase : Phase) → d < retained h → ((e : ℕ) → e < d → closed_volume h phase (oldest h + e) ≡ closed_volume h Settled (oldest h + e)) →
+owned-first : (extent d : ℕ) (h : VersionHistory) (phase : Phase) → d < retained h → ((e : ℕ) → e < d → closed_volume h phase (oldest h + e) ≡ closed_volume h Settled (oldest h + e)) →
     owned extent h phase ≡ sum_by (dropped_extents extent h) (numbers (oldest h) (oldest h + d - 1)) + owned extent (given_up d h) phase
 owned-first extent zero h phase more same =
     let none : numbers (oldest h) (oldest h + 0 - 1) ≡ [] = numbers-none _ _ (omega arith) in
@@ -45,7 +45,7 @@ owned-first extent zero h phase more same =
     sym (zero-add (owned extent h phase)) ∙ (λ k. sum_by (dropped_extents extent h) (sym none k) + owned extent (record h { expired = as_before k }) phase)
 owned-first extent (suc d) h phase more same =
     let f : ℕ → ℕ = dropped_extents extent h in
-    let g : History = given_up d h in
+    let g : VersionHistory = given_up d h in
     let at : oldest g ≡ oldest h + d = omega arith in
     let top : oldest h + suc d - 1 ≡ oldest h + d - 1 + 1 = omega arith in
     let last : oldest h + d - 1 + 1 ≡ oldest h + d = omega arith in
@@ -57,10 +57,10 @@ owned-first extent (suc d) h phase more same =
     ap (λ b. sum_by f (numbers (oldest h) b)) top ∙ sum_by-numbers_suc f f (oldest h) (oldest h + d - 1) (omega arith) (λ v low high. refl) ∙ ap (λ v. sum_by f (numbers (oldest h) (oldest h + d - 1)) + f v) last in
     omega (arith, before, one, sums)
 
-rows-first : (d : ℕ) (h : History) (phase : Phase) (j : ℕ) → oldest h + suc d ≤ j → rows (given_up (suc d) h) phase j ≡ rows_to (oldest h + suc d) (rows h phase j)
+rows-first : (d : ℕ) (h : VersionHistory) (phase : Phase) (j : ℕ) → oldest h + suc d ≤ j → rows (given_up (suc d) h) phase j ≡ rows_to (oldest h + suc d) (rows h phase j)
 rows-first zero h phase j le = rows-given_up h phase j (omega arith)
 rows-first (suc d) h phase j le =
-    let g : History = given_up (suc d) h in
+    let g : VersionHistory = given_up (suc d) h in
     let at : oldest g + 1 ≡ oldest h + suc (suc d) = omega arith in
     ap (λ t. rows t phase j) (sym (again (suc d) h))
     ∙ rows-given_up g phase j (omega arith)
@@ -69,18 +69,18 @@ rows-first (suc d) h phase j le =
     ∙ rows_in_turn (oldest h + suc d) (oldest h + suc (suc d)) (omega arith) (rows h phase j)
 
 -- a volume that isn't the newest closed one is the same in every phase
-early_volume : (h : History) (phase : Phase) (j : ℕ) → j + 1 < newest h → closed_volume h phase j ≡ closed_volume h Settled j
+early_volume : (h : VersionHistory) (phase : Phase) (j : ℕ) → j + 1 < newest h → closed_volume h phase j ≡ closed_volume h Settled j
 early_volume h phase j early =
     let closed : nat_lt (j + 1) (newest h) ≡ true = lt-ltb (j + 1) (newest h) early in
     let full : (p : Phase) (i : ℕ) → is_closed h p j i ≡ true = λ p i k. closed k || (nat_eq (j + 1) (newest h) && is_arranged p i) in
     ap (flat_map (λ i. category h i j)) (filter-same (λ i. full phase i ∙ sym (full Settled i)) refl)
 
-reserve_left-given_up : (extent d : ℕ) (h : History) (phase : Phase) → reserve_left extent (given_up d h) phase ≡ reserve_left extent h phase
+reserve_left-given_up : (extent d : ℕ) (h : VersionHistory) (phase : Phase) → reserve_left extent (given_up d h) phase ≡ reserve_left extent h phase
 unfolding reserve_left
 reserve_left-given_up extent d h Settled = refl
 reserve_left-given_up extent d h (Waiting cursor) = refl
 
-takes : (d : ℕ) (h : History) (phase : Phase) → 1 ≤ d → d < retained h → ((e : ℕ) → e < d → closed_volume h phase (oldest h + e) ≡ closed_volume h Settled (oldest h + e)) → TakesOnlyTheFirst d h phase
+takes : (d : ℕ) (h : VersionHistory) (phase : Phase) → 1 ≤ d → d < retained h → ((e : ℕ) → e < d → closed_volume h phase (oldest h + e) ≡ closed_volume h Settled (oldest h + e)) → TakesOnlyTheFirst d h phase
 takes zero h phase some more same = absurd (omega (arith, some))
 takes (suc d) h phase some more same = record {
   extents = λ extent. owned-first extent (suc d) h phase more same;

@@ -7,7 +7,7 @@ use Rattle.std.specs.List.{list_any}
 use Rattle.std.specs.Str.{bytes_eq}
 use Rattle.bd_model.specs.Chunks.{numbers}
 use Rattle.bd_model.specs.Marks.{mark, Distinct}
-use Rattle.bd_model.specs.History.{History, version, newest, contains}
+use Rattle.bd_model.specs.History.{VersionHistory, version, newest, contains}
 use Rattle.bd_model.specs.declared.layout.RecipeEntry.{RecipeEntry}
 use Rattle.bd_model.specs.Recipe.{start_of, entry_of, recipe, first_entries, has_mark, entry_records, starts_of}
 use Rattle.bd_model.specs.Layout.{record_bytes}
@@ -75,7 +75,7 @@ and-within true t h = h refl
 and-within false t h = refl
 
 -- counted over the starts that occur, or over a range in which they lie
-pub need_of-over : (h : History) (w : List (List ℕ)) (extent : ℕ) (old new : List RecipeEntry) (a z : ℕ) → ((i : ℕ) → has_start old i ≡ true → (a ≤ i) × (i ≤ z)) →
+pub need_of-over : (h : VersionHistory) (w : List (List ℕ)) (extent : ℕ) (old new : List RecipeEntry) (a z : ℕ) → ((i : ℕ) → has_start old i ≡ true → (a ≤ i) × (i ≤ z)) →
     need_of extent old new ≡ need_over h w extent old new (numbers a z)
 unfolding need_of
 need_of-over h w extent old new a z range =
@@ -89,7 +89,7 @@ need_of-over h w extent old new a z range =
     ap (λ n. up extent (entry_records (fresh_entries old new)) + up extent (40 * length new) + up extent (entry_records (archived_entries old new)) + n) starts
 
 -- each start of a recipe is that of one of its chunks
-start_within : (h : History) (v : ℕ) (a z : ℕ) (cs : List (List ℕ)) → ((c : List ℕ) → contains cs c ≡ true → (a ≤ start_of h v c) × (start_of h v c ≤ z)) →
+start_within : (h : VersionHistory) (v : ℕ) (a z : ℕ) (cs : List (List ℕ)) → ((c : List ℕ) → contains cs c ≡ true → (a ≤ start_of h v c) × (start_of h v c ≤ z)) →
     (i : ℕ) → has_start (map (entry_of h v) cs) i ≡ true → (a ≤ i) × (i ≤ z)
 start_within h v a z [] range i has = absurd (false≢true has)
 start_within h v a z (c ∷ cs) range i has =
@@ -98,7 +98,7 @@ start_within h v a z (c ∷ cs) range i has =
       | inr later ↦ start_within h v a z cs (λ d there. range d (or_right (bytes_eq d c) (contains cs d) there)) i later
     ]
 
-module _ (h : History) (w : List (List ℕ)) (e : List ℕ → RecipeEntry) (is_mark : (c : List ℕ) → (e c).mark.0 ≡ mark c) (is_length : (c : List ℕ) → (e c).length ≡ length c) where
+module _ (h : VersionHistory) (w : List (List ℕ)) (e : List ℕ → RecipeEntry) (is_mark : (c : List ℕ) → (e c).mark.0 ≡ mark c) (is_length : (c : List ℕ) → (e c).length ≡ length c) where
   -- counted from recipes, a backup needs the same
   pub need_of-need : (extent : ℕ) → Distinct (version h (newest h) ++ w) → need_of extent (recipe h (newest h)) (map e w) ≡ need extent h w
   need_of-need extent apart =

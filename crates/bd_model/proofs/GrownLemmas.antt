@@ -6,19 +6,19 @@ use Rattle.std.specs.Str.{bytes_eq}
 use Rattle.bd_model.specs.declared.shape.Shape.{Shape}
 use Rattle.bd_model.specs.declared.layout.RecipeEntry.{RecipeEntry}
 use Rattle.bd_model.specs.Chunks.{chunks}
-use Rattle.bd_model.specs.History.{History, version, newest, contains, distinct}
+use Rattle.bd_model.specs.History.{VersionHistory, version, newest, contains, distinct}
 use Rattle.bd_model.specs.Marks.{mark, Distinct}
 use Rattle.bd_model.specs.Recipe.{start_of, entry_of, recipe}
 use Rattle.bd_model.specs.Room.{fresh}
 use Rattle.bd_model.specs.State.{Version, VersionState, history, streams, stream_of, cut_of, plain}
 use Rattle.bd_model.specs.Step.{with_version, version_line, emptied, fewer_by, line_for}
-use Rattle.bd_model.specs.Laws.{grown, start_in, entries_in, RecipesStay, LinesStay}
+use Rattle.bd_model.specs.Laws.{grown, start_in, entries_of_chunks, RecipesStay, LinesStay}
 use Rattle.bd_model.proofs.ChunkListLemmas.{bytes_eq-refl, bytes_eq-same, contains-append}
 use Rattle.bd_model.proofs.HistoryLemmas.{version-grown, version-newest}
 use Rattle.bd_model.proofs.NeedLemmas.{TellsApart, bytes_eq-mark}
 use Rattle.bd_model.proofs.StepLemmas.{length-history, history-grown}
 
-module _ (h : History) (w : List (List ℕ)) where
+module _ (h : VersionHistory) (w : List (List ℕ)) where
   start_of-grown : (v : ℕ) (c : List ℕ) → v ≤ newest h + 1 → start_of (grown h w) v c ≡ start_of h v c
   start_of-grown zero c le = refl
   start_of-grown (suc v) c le =
@@ -44,7 +44,7 @@ module _ (h : History) (w : List (List ℕ)) where
       either false = refl
 
 -- a recipe tells the start of each of its chunks
-start_in-recipe : (h : History) (v new : ℕ) (cs : List (List ℕ)) (c : List ℕ) → TellsApart c cs → start_in (map (entry_of h v) cs) (mark c) new ≡ cond (contains cs c) (start_of h v c) new
+start_in-recipe : (h : VersionHistory) (v new : ℕ) (cs : List (List ℕ)) (c : List ℕ) → TellsApart c cs → start_in (map (entry_of h v) cs) (mark c) new ≡ cond (contains cs c) (start_of h v c) new
 start_in-recipe h v new [] c apart = refl
 start_in-recipe h v new (d ∷ cs) c apart =
     let here : bytes_eq (mark c) (mark d) ≡ bytes_eq c d = bytes_eq-mark c d (apart d (or_left (bytes_eq d d) (contains cs d) (bytes_eq-refl d))) in
@@ -62,7 +62,7 @@ map-within f g (c ∷ cs) agree =
     let tail : map f cs ≡ map g cs = map-within f g cs (λ d has. agree d (or_right (bytes_eq d c) (contains cs d) has)) in
     λ k. head k ∷ tail k
 
-recipe-own : (h : History) (w : List (List ℕ)) → Distinct (version h (newest h) ++ w) → recipe (grown h w) (newest h + 1) ≡ entries_in (recipe h (newest h)) (newest h + 1) w
+recipe-own : (h : VersionHistory) (w : List (List ℕ)) → Distinct (version h (newest h) ++ w) → recipe (grown h w) (newest h + 1) ≡ entries_of_chunks (recipe h (newest h)) (newest h + 1) w
 recipe-own h w apart =
     let last = version h (newest h) in
     ap (map (entry_of (grown h w) (newest h + 1))) (version-newest h w)
@@ -78,7 +78,7 @@ streams-pushed [] v = refl
 streams-pushed (u ∷ versions) v = ap (λ ss. u.stream ∷ ss) (streams-pushed versions v)
 
 module _ (shape : Shape) (s : VersionState) (stream : List ℕ) where
-  abbrev h : History
+  abbrev h : VersionHistory
   h = history shape s
 
   abbrev parts : List (List ℕ)

@@ -7,7 +7,7 @@ use Rattle.bd_model.specs.declared.layout.Phase.{Phase}
 use Rattle.bd_model.specs.Category.{category}
 use Rattle.bd_model.proofs.ArrangeLemmas.{arranges_one, all_done}
 use Rattle.bd_model.specs.Chunks.{numbers}
-use Rattle.bd_model.specs.History.{History, version, newest, contains, oldest, no_versions}
+use Rattle.bd_model.specs.History.{VersionHistory, version, newest, contains, oldest, no_versions}
 use Rattle.bd_model.specs.declared.layout.Phase.TheVariants.{Settled, Waiting}
 use Rattle.bd_model.specs.Layout.{closed_volume, open_category, record_bytes, is_arranged}
 use Rattle.bd_model.specs.Room.{up, recipe_bytes, owned, need, fresh, kept, archived, lacks_some, reserve_left}
@@ -77,7 +77,7 @@ need-first extent base w some =
     omega (arith, recipes, opens, archived_none, kept_none, volumes)
 
 -- the part of the reserve that a start takes
-split_of : (extent : ℕ) (h : History) (w : List (List ℕ)) (i : ℕ) → 1 ≤ extent → i ≤ newest h →
+split_of : (extent : ℕ) (h : VersionHistory) (w : List (List ℕ)) (i : ℕ) → 1 ≤ extent → i ≤ newest h →
     reserve_left extent (grown h w) (Waiting i) ≡
     (up extent (record_bytes (closed_volume (grown h w) (Waiting (i + 1)) (newest h))) - up extent (record_bytes (closed_volume (grown h w) (Waiting i) (newest h))))
     + cond (lacks_some w (open_category h Settled i)) (up extent (record_bytes (kept h w i))) 0
@@ -117,14 +117,14 @@ keeps_all w (c ∷ cs) =
       | false ↦ λ none. absurd (false≢true (sym none))
     ]
 
-module _ (extent : ℕ) (h : History) (w : List (List ℕ)) where
+module _ (extent : ℕ) (h : VersionHistory) (w : List (List ℕ)) where
   -- what a step of arranging takes and gives back
   owned-step : (i : ℕ) → h.base + 1 ≤ i → i ≤ newest h → h.expired < length h.versions →
       owned extent (grown h w) (Waiting (i + 1)) + up extent (record_bytes (closed_volume (grown h w) (Waiting i) (newest h))) + up extent (record_bytes (open_category h Settled i))
       ≡ owned extent (grown h w) (Waiting i) + up extent (record_bytes (closed_volume (grown h w) (Waiting (i + 1)) (newest h))) + up extent (record_bytes (kept h w i))
   unfolding owned
   owned-step i low high some =
-      let g : History = grown h w in
+      let g : VersionHistory = grown h w in
       let step : ArrangesOne h w i = arranges_one h w i low high some in
       let last : newest g - 1 ≡ newest h = omega (arith, newest-grown h w) in
       let volume : ℕ → ℕ → ℕ = λ cursor j. up extent (record_bytes (closed_volume g (Waiting cursor) j)) in
@@ -137,7 +137,7 @@ module _ (extent : ℕ) (h : History) (w : List (List ℕ)) where
         ap (λ cs. up extent (record_bytes cs)) step.category,
       )
 
-stays_free : (extent : ℕ) (h : History) (w : List (List ℕ)) (i : ℕ) → 1 ≤ extent → h.base + 1 ≤ i → i ≤ newest h → h.expired < length h.versions →
+stays_free : (extent : ℕ) (h : VersionHistory) (w : List (List ℕ)) (i : ℕ) → 1 ≤ extent → h.base + 1 ≤ i → i ≤ newest h → h.expired < length h.versions →
     owned extent (grown h w) (Waiting (i + 1)) + reserve_left extent (grown h w) (Waiting (i + 1)) ≤ owned extent (grown h w) (Waiting i) + reserve_left extent (grown h w) (Waiting i)
 stays_free extent h w i one low high some =
     let before = closed_volume (grown h w) (Waiting i) (newest h) in
@@ -155,12 +155,12 @@ stays_free extent h w i one low high some =
     ] refl split
 
 -- from any start on
-pub from_start : (extent : ℕ) (h : History) (w : List (List ℕ)) (i k : ℕ) → 1 ≤ extent → h.base + 1 ≤ i → i + k ≡ newest h + 1 → h.expired < length h.versions →
+pub from_start : (extent : ℕ) (h : VersionHistory) (w : List (List ℕ)) (i k : ℕ) → 1 ≤ extent → h.base + 1 ≤ i → i + k ≡ newest h + 1 → h.expired < length h.versions →
     owned extent (grown h w) (Waiting (newest h + 1)) ≤ owned extent (grown h w) (Waiting i) + reserve_left extent (grown h w) (Waiting i)
 from_start extent h w i zero one low end some = let last : i ≡ newest h + 1 = omega arith in omega (arith, ap (λ n. owned extent (grown h w) (Waiting n)) last)
 from_start extent h w i (suc k) one low end some = omega (arith, from_start extent h w (i + 1) k one (omega arith) (omega arith) some, stays_free extent h w i one low (omega arith) some)
 
-pub owned-same : (extent : ℕ) (h : History) (one other : Phase) → SameLayout h one other → owned extent h one ≡ owned extent h other
+pub owned-same : (extent : ℕ) (h : VersionHistory) (one other : Phase) → SameLayout h one other → owned extent h one ≡ owned extent h other
 unfolding owned
 owned-same extent h one other same =
     omega (
@@ -169,7 +169,7 @@ owned-same extent h one other same =
       sum_by-numbers _ _ (h.base + 1) (newest h) (λ i low high. ap (λ cs. up extent (record_bytes cs)) (same.categories i high)),
     )
 
-pub owned-settled : (extent : ℕ) (h : History) (w : List (List ℕ)) → 1 ≤ extent → h.expired < length h.versions → owned extent (grown h w) Settled ≤ owned extent h Settled + need extent h w
+pub owned-settled : (extent : ℕ) (h : VersionHistory) (w : List (List ℕ)) → 1 ≤ extent → h.expired < length h.versions → owned extent (grown h w) Settled ≤ owned extent h Settled + need extent h w
 owned-settled extent h w one some =
     omega (
       arith,

@@ -3,7 +3,7 @@ use Rattle.std.proofs.Common.{◌≡◌, ℕ, ◌+◌, ◌<◌, ◌≤◌, List,
 use Rattle.std.proofs.lemmas.Bool.{cases_lt, or_left, or_right}
 use Rattle.std.proofs.lemmas.List.{append-nil}
 use Rattle.bd_model.specs.declared.layout.Phase.TheVariants.{Settled}
-use Rattle.bd_model.specs.History.{History, contains, distinct, version, newest}
+use Rattle.bd_model.specs.History.{VersionHistory, contains, distinct, version, newest}
 use Rattle.bd_model.specs.Laws.{grown, MarksTellChunksApart}
 use Rattle.bd_model.specs.Layout.{open_category}
 use Rattle.bd_model.specs.Marks.{Near, Distinct, mark}
@@ -20,7 +20,7 @@ in_first cs ds c has = contains-append cs ds c ∙ or_left (contains cs c) (cont
 in_second : (cs ds : List (List ℕ)) (c : List ℕ) → contains ds c ≡ true → contains (cs ++ ds) c ≡ true
 in_second cs ds c has = contains-append cs ds c ∙ or_right (contains cs c) (contains ds c) has
 
-module _ (h : History) (w : List (List ℕ)) where
+module _ (h : VersionHistory) (w : List (List ℕ)) where
   abbrev last : List (List ℕ)
   last = version h (newest h)
 

@@ -6,7 +6,7 @@ use Rattle.std.proofs.lemmas.Grind.{flat_map-append}
 use Rattle.std.specs.List.{list_all, range_with_len, flat_map}
 use Rattle.std.specs.Str.{bytes_eq}
 use Rattle.bd_model.specs.Chunks.{numbers}
-use Rattle.bd_model.specs.History.{History, version, newest, oldest, contains, distinct}
+use Rattle.bd_model.specs.History.{VersionHistory, version, newest, oldest, contains, distinct}
 use Rattle.bd_model.specs.Category.{category, living, begins, lasts, ends}
 use Rattle.bd_model.specs.declared.layout.Phase.{Phase}
 use Rattle.bd_model.specs.Layout.{arranged_to, is_closed, row_chunks}
@@ -35,7 +35,7 @@ not_both : (b : Bool) → b ≡ true → not b ≡ true → (X : Type 0) → X
 not_both true e f X = absurd (false≢true f)
 not_both false e f X = absurd (false≢true e)
 
-module _ (h : History) (c : List ℕ) where
+module _ (h : VersionHistory) (c : List ℕ) where
   pub lasts-at : (i j v : ℕ) → lasts h i j c ≡ true → i ≤ v → v ≤ j → contains (version h v) c ≡ true
   lasts-at i j v all low high = all_at (λ u. contains (version h u) c) i (j + 1 - i) all v low (omega arith)
 

@@ -7,7 +7,7 @@ use Rattle.std.proofs.lemmas.List.Sums.{sum_by-append, sum_by-cons}
 use Rattle.std.proofs.lemmas.Grind.{flat_map-append}
 use Rattle.std.specs.List.{All, flat_map, list_all, range_with_len}
 use Rattle.bd_model.specs.Chunks.{numbers}
-use Rattle.bd_model.specs.History.{History, newest, oldest, contains}
+use Rattle.bd_model.specs.History.{VersionHistory, newest, oldest, contains}
 use Rattle.bd_model.specs.Category.{category}
 use Rattle.bd_model.specs.declared.layout.CategoryRow.{CategoryRow}
 use Rattle.bd_model.specs.declared.layout.Phase.TheVariants.{Waiting}
@@ -139,7 +139,7 @@ numbers-one : (k : ℕ) → numbers k k ≡ k ∷ []
 numbers-one k = numbers-cons k k (omega arith) ∙ ap (λ ns. k ∷ ns) (numbers-none (k + 1) k (omega arith))
 
 -- the starts that are recorded as one are numbers up to it
-pub recorded_as-numbers : (h : History) (k : ℕ) → recorded_as h k ≡ numbers (cond (nat_eq k (oldest h)) (h.base + 1) k) k
+pub recorded_as-numbers : (h : VersionHistory) (k : ℕ) → recorded_as h k ≡ numbers (cond (nat_eq k (oldest h)) (h.base + 1) k) k
 recorded_as-numbers h k =
     elim (nat_eq k (oldest h)) as (λ t. cond t (numbers (h.base + 1) k) (k ∷ []) ≡ numbers (cond t (h.base + 1) k) k) [ true ↦ refl | false ↦ sym (numbers-one k) ]
 
@@ -263,7 +263,7 @@ rows_in_turn r q le [] = refl
 rows_in_turn r q le (row ∷ rows) = taken_on r q le row rows
 
 -- where the oldest version is given up the first two recorded starts become one row
-pub rows-given_up : (h : History) (phase : Phase) (j : ℕ) → oldest h < j → rows (given_up 1 h) phase j ≡ rows_to (oldest h + 1) (rows h phase j)
+pub rows-given_up : (h : VersionHistory) (phase : Phase) (j : ℕ) → oldest h < j → rows (given_up 1 h) phase j ≡ rows_to (oldest h + 1) (rows h phase j)
 rows-given_up h phase j lt =
     let o = oldest h in
     let f = row_chunks h phase j in
@@ -279,7 +279,7 @@ rows-given_up h phase j lt =
     (rows_over-all (λ v. nat_lt (o + 1) v) f (o + 1 + 1) (j + 1 - (o + 1 + 1)) (λ v low high. lt-ltb (o + 1) v (omega arith)))
     ∙ sym (ap (λ ns. rows_to (o + 1) (rows_over f ns)) (numbers-cons o j (omega arith) ∙ ap (λ ns. o ∷ ns) (numbers-cons (o + 1) j (omega arith))))
 
-module _ (h : History) (w : List (List ℕ)) where
+module _ (h : VersionHistory) (w : List (List ℕ)) where
   abbrev cats : ℕ → List (List ℕ)
   cats i = category (grown h w) i (newest h)
 

@@ -12,7 +12,7 @@ use Rattle.bd_model.specs.declared.answer.VersionLine.{VersionLine}
 use Rattle.bd_model.specs.declared.layout.Phase.{Phase}
 use Rattle.bd_model.specs.declared.layout.Phase.TheVariants.{Settled, Waiting}
 use Rattle.bd_model.specs.Chunks.{chunks}
-use Rattle.bd_model.specs.History.{History, newest, oldest, retained, version}
+use Rattle.bd_model.specs.History.{VersionHistory, newest, oldest, retained, version}
 use Rattle.bd_model.specs.FileMap.{FileMap}
 use Rattle.bd_model.specs.State.{VersionState, IsState, IsPhase, history, streams, cut_of, last_number, Version, plain}
 use Rattle.bd_model.specs.Layout.{open_category}
@@ -133,7 +133,7 @@ module _ (shape : Shape) where
   keeps held s files Listing is = record { state = is; phase = λ phase k. k }
 
 -- a step of arranging goes to a start that there is
-pub IsPhase-step : (h : History) (phase : Phase) → IsPhase h phase → IsPhase h (phase_after_step h phase)
+pub IsPhase-step : (h : VersionHistory) (phase : Phase) → IsPhase h phase → IsPhase h (phase_after_step h phase)
 IsPhase-step h Settled is = tt
 IsPhase-step h (Waiting cursor) is =
     let found : IfSome (next_start h cursor) (λ i. (cursor ≤ i) × (i + 1 ≤ newest h)) =

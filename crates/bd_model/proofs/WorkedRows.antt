@@ -1,6 +1,6 @@
 -- The definitions on small histories, computed.
 use Rattle.std.proofs.Common.{◌≡◌, ◌≤◌, ℕ, List, [], ◌∷◌, ◌++◌, refl, ◌∙◌, ap, map}
-use Rattle.bd_model.specs.History.{History, no_versions}
+use Rattle.bd_model.specs.History.{VersionHistory, no_versions}
 use Rattle.bd_model.specs.Category.{category}
 use Rattle.bd_model.specs.Layout.{closed_volume, open_category, rows, row_of}
 use Rattle.bd_model.specs.declared.layout.Phase.TheVariants.{Settled, Waiting}
@@ -20,7 +20,7 @@ use Rattle.bd_model.specs.Folds.{answers_of, outcomes, unheld}
 use Rattle.bd_model.specs.declared.answer.Answer.TheVariants.{BackedUp, Restored, Expired, Arranged, Scrubbed, Listed, FullNumbers, FullVersions, FullExtents, NoVersion, NothingRetained, Formatted}
 use Rattle.bd_model.specs.Sizes.{Sizes, sizes_of, payload_room, half_bytes, disk_bytes}
 use Rattle.bd_model.specs.Chunks.{chunks_from}
-use Rattle.bd_model.specs.Laws.{walk, given_up}
+use Rattle.bd_model.specs.Laws.{walked_chunks, given_up}
 use Rattle.bd_model.specs.Texts.{answer_text, texts}
 use Rattle.bd_model.specs.FileMap.{FileMap}
 use Rattle.bd_model.specs.State.{VersionState, empty, cut_of, last_number, plain}
@@ -48,26 +48,26 @@ acd = a ∷ c ∷ d ∷ []
 abbrev bad : List (List ℕ)
 bad = b ∷ a ∷ d ∷ []
 
-abbrev history_of : ℕ → List (List (List ℕ)) → History
+abbrev history_of : ℕ → List (List (List ℕ)) → VersionHistory
 history_of base versions = record (no_versions base) { versions = versions }
 
-abbrev none : History
+abbrev none : VersionHistory
 none = history_of 0 []
 
-abbrev one : History
+abbrev one : VersionHistory
 one = history_of 0 (abc ∷ [])
 
-abbrev two : History
+abbrev two : VersionHistory
 two = history_of 0 (abc ∷ acd ∷ [])
 
-abbrev three : History
+abbrev three : VersionHistory
 three = history_of 0 (abc ∷ acd ∷ bad ∷ [])
 
 -- the third volume has a chunk of the first version and one of the second
-abbrev two_starts : History
+abbrev two_starts : VersionHistory
 two_starts = history_of 0 ((a ∷ b ∷ []) ∷ (a ∷ d ∷ []) ∷ (a ∷ d ∷ []) ∷ (c ∷ []) ∷ [])
 
-abbrev three_less_one : History
+abbrev three_less_one : VersionHistory
 three_less_one = record three { expired = 1 }
 
 -- a second one
@@ -115,7 +115,7 @@ next_starts : map (phase_after_step three) (Waiting 1 ∷ Waiting 2 ∷ Waiting 
 next_starts = refl
 
 -- what a restore finds: of the first version when three are arranged, and of the second while it waits
-restore_walks : walk three Settled 1 ∷ walk two (Waiting 1) 2 ∷ [] ≡ (b ∷ c ∷ a ∷ []) ∷ (a ∷ c ∷ d ∷ []) ∷ []
+restore_walks : walked_chunks three Settled 1 ∷ walked_chunks two (Waiting 1) 2 ∷ [] ≡ (b ∷ c ∷ a ∷ []) ∷ (a ∷ c ∷ d ∷ []) ∷ []
 restore_walks = refl
 
 expiry_rows : rows three_less_one Settled 2 ≡ row_of 2 (c ∷ []) ∷ []

@@ -5,7 +5,7 @@ use Rattle.bd_model.specs.declared.command.Command.{Command}
 use Rattle.bd_model.specs.declared.layout.Phase.{Phase}
 use Rattle.bd_model.specs.FileMap.{FileMap}
 use Rattle.bd_model.specs.Folds.{HeldCommand, Point, point_of, after, answers_of, chunks_read, given}
-use Rattle.bd_model.specs.History.{History, version, newest}
+use Rattle.bd_model.specs.History.{VersionHistory, version, newest}
 use Rattle.bd_model.specs.Marks.{Distinct}
 use Rattle.bd_model.specs.State.{VersionState, IsState, IsPhase, history}
 use Rattle.bd_model.specs.Step.{Outcome, step, phase_after, phase_after_step}
@@ -38,4 +38,4 @@ pub record Keeps (shape : Shape) (s : VersionState) (o : Outcome) : Type 0 where
 pub record StatesStayLegal : Type 0 where
   pub command : (shape : Shape) (held : ℕ) (s : VersionState) (files : FileMap) (command : Command) → IsState s → IfSome (step shape held s files command) (Keeps shape s)
   pub all : (shape : Shape) (s : VersionState) (files : FileMap) (commands : List HeldCommand) (k : ℕ) (p : Point) → after shape s files commands k ≡ Some p → IsState s → IsState p.state
-  pub arranging : (h : History) (phase : Phase) → IsPhase h phase → IsPhase h (phase_after_step h phase)
+  pub arranging : (h : VersionHistory) (phase : Phase) → IsPhase h phase → IsPhase h (phase_after_step h phase)

@@ -10,7 +10,7 @@ use Rattle.bd_model.specs.declared.layout.Phase.{Phase}
 use Rattle.bd_model.specs.declared.layout.Phase.TheVariants.{Settled, Waiting}
 use Rattle.bd_model.specs.Chunks.{Cut, numbers, gear, window_hash, chunk_len, is_decided, chunks_after, chunks}
 use Rattle.bd_model.specs.FileMap.{FileMap}
-use Rattle.bd_model.specs.History.{History, version, contains, distinct, newest, oldest, retained, no_versions}
+use Rattle.bd_model.specs.History.{VersionHistory, version, contains, distinct, newest, oldest, retained, no_versions}
 use Rattle.bd_model.specs.Category.{category}
 use Rattle.bd_model.specs.Layout.{record_bytes, row_of, rows, row_chunks, closed_volume, open_category, arranged_to, is_arranged}
 use Rattle.bd_model.specs.Marks.{mark, Distinct, Near}
@@ -63,28 +63,28 @@ pub record TheHashRolls : Type 0 where
   pub whole : (stream : List ℕ) (p : ℕ) → p < length stream → window_hash stream p ≡ rolled (take (p + 1) stream)
 
 -- the history after a version of these chunks is backed up
-abbrev pub grown : History → List (List ℕ) → History
+abbrev pub grown : VersionHistory → List (List ℕ) → VersionHistory
 grown h chunks = record h { versions = h.versions ++ chunks ∷ [] }
 
 -- the history before the newest version was backed up; each one with a version is this one, grown by that version
-abbrev pub before : History → History
+abbrev pub before : VersionHistory → VersionHistory
 before h = record h { versions = take (length h.versions - 1) h.versions }
 
 -- the history after the d oldest retained versions are given up
-abbrev pub given_up : ℕ → History → History
+abbrev pub given_up : ℕ → VersionHistory → VersionHistory
 given_up d h = record h { expired = h.expired + d }
 
 -- A new version leaves the categories that ended before the newest one. Of each that lived to it, what the new one lacks
 -- ends there, and the rest lives on; what the newest lacks begins. Where nothing ends, the open category is as before.
 pub record ANewVersionSplitsTheCategories : Type 0 where
-  pub earlier : (h : History) (w : List (List ℕ)) (i j : ℕ) → i ≤ newest h → j < newest h → category (grown h w) i j ≡ category h i j
-  pub ended : (h : History) (w : List (List ℕ)) (i : ℕ) → i ≤ newest h → category (grown h w) i (newest h) ≡ archived h w i
-  pub lived_on : (h : History) (w : List (List ℕ)) (i : ℕ) → i ≤ newest h → category (grown h w) i (newest h + 1) ≡ kept h w i
-  pub begun : (h : History) (w : List (List ℕ)) → category (grown h w) (newest h + 1) (newest h + 1) ≡ fresh h w
-  pub untouched : (h : History) (w : List (List ℕ)) (i : ℕ) → archived h w i ≡ [] → kept h w i ≡ open_category h Settled i
+  pub earlier : (h : VersionHistory) (w : List (List ℕ)) (i j : ℕ) → i ≤ newest h → j < newest h → category (grown h w) i j ≡ category h i j
+  pub ended : (h : VersionHistory) (w : List (List ℕ)) (i : ℕ) → i ≤ newest h → category (grown h w) i (newest h) ≡ archived h w i
+  pub lived_on : (h : VersionHistory) (w : List (List ℕ)) (i : ℕ) → i ≤ newest h → category (grown h w) i (newest h + 1) ≡ kept h w i
+  pub begun : (h : VersionHistory) (w : List (List ℕ)) → category (grown h w) (newest h + 1) (newest h + 1) ≡ fresh h w
+  pub untouched : (h : VersionHistory) (w : List (List ℕ)) (i : ℕ) → archived h w i ≡ [] → kept h w i ≡ open_category h Settled i
 
 -- the chunk lies once in the category from its start in version v to `last`, and in no other one whose run goes through v
-pub record LiesInOneCategory (h : History) (v : ℕ) (c : List ℕ) : Type 0 where
+pub record LiesInOneCategory (h : VersionHistory) (v : ℕ) (c : List ℕ) : Type 0 where
   pub last : ℕ
   pub begun : (h.base + 1 ≤ start_of h v c) × (start_of h v c ≤ v)
   pub ended : (v ≤ last) × (last ≤ newest h)
@@ -93,7 +93,7 @@ pub record LiesInOneCategory (h : History) (v : ℕ) (c : List ℕ) : Type 0 whe
 
 -- Each chunk of a version lies in exactly one category of a run through it, and that one begins at the chunk's start.
 abbrev pub EachChunkLiesInOneCategory : Type 0
-EachChunkLiesInOneCategory = (h : History) (v : ℕ) (c : List ℕ) → IsTrue (contains (version h v) c) → LiesInOneCategory h v c
+EachChunkLiesInOneCategory = (h : VersionHistory) (v : ℕ) (c : List ℕ) → IsTrue (contains (version h v) c) → LiesInOneCategory h v c
 
 -- the start that the first entry with the mark has, or else `new`
 abbrev pub start_in : List RecipeEntry → List ℕ → ℕ → ℕ
@@ -101,23 +101,23 @@ start_in [] m new = new
 start_in (e ∷ es) m new = if bytes_eq m e.mark.0 then e.start else start_in es m new
 
 -- the entries of these chunks where a recipe tells the starts of those that it has, and the others begin at version v
-abbrev pub entries_in : List RecipeEntry → ℕ → List (List ℕ) → List RecipeEntry
-entries_in old v chunks = map (λ c. record { mark = record { 0 = mark c }; length = length c; start = start_in old (mark c) v }) chunks
+abbrev pub entries_of_chunks : List RecipeEntry → ℕ → List (List ℕ) → List RecipeEntry
+entries_of_chunks old v chunks = map (λ c. record { mark = record { 0 = mark c }; length = length c; start = start_in old (mark c) v }) chunks
 
 -- A new version leaves the recipes. Where marks tell its chunks and the newest version's apart, its own has the starts of
 -- the newest recipe, and its number for each chunk that the newest version lacks.
 pub record RecipesStay : Type 0 where
-  pub earlier : (h : History) (w : List (List ℕ)) (v : ℕ) → v ≤ newest h → recipe (grown h w) v ≡ recipe h v
-  pub own : (h : History) (w : List (List ℕ)) → Distinct (version h (newest h) ++ w) → recipe (grown h w) (newest h + 1) ≡ entries_in (recipe h (newest h)) (newest h + 1) w
+  pub earlier : (h : VersionHistory) (w : List (List ℕ)) (v : ℕ) → v ≤ newest h → recipe (grown h w) v ≡ recipe h v
+  pub own : (h : VersionHistory) (w : List (List ℕ)) → Distinct (version h (newest h) ++ w) → recipe (grown h w) (newest h + 1) ≡ entries_of_chunks (recipe h (newest h)) (newest h + 1) w
 
 -- Where marks tell the chunks of the newest version and a new one apart, the newest recipe tells which of the new chunks
 -- are fresh, and the new recipe which chunks of an open category are used on. Marks that tell neighbouring versions apart
 -- did so before the newest one came.
 pub record MarksTellChunksApart : Type 0 where
-  pub is_fresh : (h : History) (w : List (List ℕ)) → Distinct (version h (newest h) ++ w) → filter (λ c. not (has_mark (recipe h (newest h)) (mark c))) (distinct w) ≡ fresh h w
-  pub is_used : (h : History) (w : List (List ℕ)) (i : ℕ) (c : List ℕ) → i ≤ newest h → Distinct (version h (newest h) ++ w) → IsTrue (contains (open_category h Settled i) c) →
+  pub is_fresh : (h : VersionHistory) (w : List (List ℕ)) → Distinct (version h (newest h) ++ w) → filter (λ c. not (has_mark (recipe h (newest h)) (mark c))) (distinct w) ≡ fresh h w
+  pub is_used : (h : VersionHistory) (w : List (List ℕ)) (i : ℕ) (c : List ℕ) → i ≤ newest h → Distinct (version h (newest h) ++ w) → IsTrue (contains (open_category h Settled i) c) →
       has_mark (recipe (grown h w) (newest h + 1)) (mark c) ≡ contains w c
-  pub before : (h : History) (w : List (List ℕ)) → Near (grown h w) → Near h
+  pub before : (h : VersionHistory) (w : List (List ℕ)) → Near (grown h w) → Near h
 
 -- The line of a version in a list stays at a backup and where older ones are given up, and that of a new version has what
 -- the backup answers.
@@ -134,13 +134,13 @@ pub record LinesStay : Type 0 where
 -- archived of the categories that are arranged. An open category is as before while it waits, and afterwards what is kept
 -- of it; the new version's own has the fresh chunks.
 pub record ClosedVolumesGrow : Type 0 where
-  pub none : (h : History) (phase : Phase) (j : ℕ) → newest h ≤ j → closed_volume h phase j ≡ []
-  pub earlier : (h : History) (w : List (List ℕ)) (phase : Phase) (j : ℕ) → j < newest h → closed_volume (grown h w) phase j ≡ closed_volume h Settled j
-  pub newest_volume : (h : History) (w : List (List ℕ)) (phase : Phase) → closed_volume (grown h w) phase (newest h) ≡ flat_map (archived h w) (filter (is_arranged phase) (numbers (h.base + 1) (newest h)))
-  pub waiting : (h : History) (w : List (List ℕ)) (cursor i : ℕ) → cursor ≤ i → i ≤ newest h → open_category (grown h w) (Waiting cursor) i ≡ open_category h Settled i
-  pub arranged : (h : History) (w : List (List ℕ)) (cursor i : ℕ) → i < cursor → i ≤ newest h → open_category (grown h w) (Waiting cursor) i ≡ kept h w i
-  pub settled : (h : History) (w : List (List ℕ)) (i : ℕ) → i ≤ newest h → open_category (grown h w) Settled i ≡ kept h w i
-  pub own : (h : History) (w : List (List ℕ)) (phase : Phase) → open_category (grown h w) phase (newest h + 1) ≡ fresh h w
+  pub none : (h : VersionHistory) (phase : Phase) (j : ℕ) → newest h ≤ j → closed_volume h phase j ≡ []
+  pub earlier : (h : VersionHistory) (w : List (List ℕ)) (phase : Phase) (j : ℕ) → j < newest h → closed_volume (grown h w) phase j ≡ closed_volume h Settled j
+  pub newest_volume : (h : VersionHistory) (w : List (List ℕ)) (phase : Phase) → closed_volume (grown h w) phase (newest h) ≡ flat_map (archived h w) (filter (is_arranged phase) (numbers (h.base + 1) (newest h)))
+  pub waiting : (h : VersionHistory) (w : List (List ℕ)) (cursor i : ℕ) → cursor ≤ i → i ≤ newest h → open_category (grown h w) (Waiting cursor) i ≡ open_category h Settled i
+  pub arranged : (h : VersionHistory) (w : List (List ℕ)) (cursor i : ℕ) → i < cursor → i ≤ newest h → open_category (grown h w) (Waiting cursor) i ≡ kept h w i
+  pub settled : (h : VersionHistory) (w : List (List ℕ)) (i : ℕ) → i ≤ newest h → open_category (grown h w) Settled i ≡ kept h w i
+  pub own : (h : VersionHistory) (w : List (List ℕ)) (phase : Phase) → open_category (grown h w) phase (newest h + 1) ≡ fresh h w
 
 -- more of a row, by these chunks
 abbrev pub row_with : CategoryRow → List (List ℕ) → CategoryRow
@@ -166,9 +166,9 @@ rows_more r chunks bytes (row ∷ second ∷ rows) = row ∷ rows_more r chunks 
 -- The rows of a closed volume count its chunks and the bytes of its records. There is one for each recorded start that
 -- has chunks, in ascending order. Of chunks that come behind, rows have to know only how many they are and their bytes.
 pub record RowsDescribeTheVolume : Type 0 where
-  pub chunks : (h : History) (phase : Phase) (j : ℕ) → oldest h ≤ j → sum_by (λ row. row.chunks) (rows h phase j) ≡ length (closed_volume h phase j)
-  pub bytes : (h : History) (phase : Phase) (j : ℕ) → oldest h ≤ j → sum_by (λ row. row.bytes) (rows h phase j) ≡ record_bytes (closed_volume h phase j)
-  pub starts : (h : History) (phase : Phase) (j : ℕ) → map (λ row. row.start) (rows h phase j) ≡ filter (λ r. nat_lt 0 (length (row_chunks h phase j r))) (numbers (oldest h) j)
+  pub chunks : (h : VersionHistory) (phase : Phase) (j : ℕ) → oldest h ≤ j → sum_by (λ row. row.chunks) (rows h phase j) ≡ length (closed_volume h phase j)
+  pub bytes : (h : VersionHistory) (phase : Phase) (j : ℕ) → oldest h ≤ j → sum_by (λ row. row.bytes) (rows h phase j) ≡ record_bytes (closed_volume h phase j)
+  pub starts : (h : VersionHistory) (phase : Phase) (j : ℕ) → map (λ row. row.start) (rows h phase j) ≡ filter (λ r. nat_lt 0 (length (row_chunks h phase j r))) (numbers (oldest h) j)
   pub by_number : (r : ℕ) (c : List ℕ) (cs : List (List ℕ)) (rows : List CategoryRow) → rows_with r (c ∷ cs) rows ≡ rows_more r (length (c ∷ cs)) (record_bytes (c ∷ cs)) rows
 
 -- a row with what a later one has
@@ -187,7 +187,7 @@ rows_to r (row ∷ rows) = taking_in r row rows
 
 -- one step of arranging the version of the chunks w, that of start i; before it no row has a start that is both above the
 -- one before i and above the oldest
-pub record ArrangesOne (h : History) (w : List (List ℕ)) (i : ℕ) : Type 0 where
+pub record ArrangesOne (h : VersionHistory) (w : List (List ℕ)) (i : ℕ) : Type 0 where
   pub volume : closed_volume (grown h w) (Waiting (i + 1)) (newest h) ≡ closed_volume (grown h w) (Waiting i) (newest h) ++ archived h w i
   pub rows_grow : rows (grown h w) (Waiting (i + 1)) (newest h) ≡ rows_with (max i (oldest h)) (archived h w i) (rows (grown h w) (Waiting i) (newest h))
   pub rows_end : All (λ row. row.start ≤ max (i - 1) (oldest h)) (rows (grown h w) (Waiting i) (newest h))
@@ -198,7 +198,7 @@ pub record ArrangesOne (h : History) (w : List (List ℕ)) (i : ℕ) : Type 0 wh
   pub other_rows : (j : ℕ) → j ≢ newest h → rows (grown h w) (Waiting (i + 1)) j ≡ rows (grown h w) (Waiting i) j
 
 -- the layout is the same in the two phases
-pub record SameLayout (h : History) (one other : Phase) : Type 0 where
+pub record SameLayout (h : VersionHistory) (one other : Phase) : Type 0 where
   pub volumes : (j : ℕ) → closed_volume h one j ≡ closed_volume h other j
   pub categories : (i : ℕ) → i ≤ newest h → open_category h one i ≡ open_category h other i
   pub rows : (j : ℕ) → rows h one j ≡ rows h other j
@@ -207,15 +207,15 @@ pub record SameLayout (h : History) (one other : Phase) : Type 0 where
 -- recorded start, and leaves what is kept; nothing else changes. Starts before the next one change nothing, and where
 -- there is no next one the layout is the settled one.
 pub record OneStepOfArranging : Type 0 where
-  pub each : (h : History) (w : List (List ℕ)) (i : ℕ) → h.base + 1 ≤ i → i ≤ newest h → h.expired < length h.versions → ArrangesOne h w i
-  pub skipped : (h : History) (w : List (List ℕ)) (cursor i : ℕ) → h.base + 1 ≤ cursor → h.expired < length h.versions → next_start (grown h w) cursor ≡ Some i →
+  pub each : (h : VersionHistory) (w : List (List ℕ)) (i : ℕ) → h.base + 1 ≤ i → i ≤ newest h → h.expired < length h.versions → ArrangesOne h w i
+  pub skipped : (h : VersionHistory) (w : List (List ℕ)) (cursor i : ℕ) → h.base + 1 ≤ cursor → h.expired < length h.versions → next_start (grown h w) cursor ≡ Some i →
       (cursor ≤ i) × (i ≤ newest h) × SameLayout (grown h w) (Waiting cursor) (Waiting i)
-  pub done : (h : History) (w : List (List ℕ)) (cursor : ℕ) → h.base + 1 ≤ cursor → cursor ≤ newest h + 1 → h.expired < length h.versions → next_start (grown h w) cursor ≡ None →
+  pub done : (h : VersionHistory) (w : List (List ℕ)) (cursor : ℕ) → h.base + 1 ≤ cursor → cursor ≤ newest h + 1 → h.expired < length h.versions → next_start (grown h w) cursor ≡ None →
       SameLayout (grown h w) (Waiting cursor) Settled
 
 -- giving up the d oldest versions takes their recipes and their closed volumes; each other part is the same, and the rows
 -- of the recorded starts up to the one that is the oldest then become one
-pub record TakesOnlyTheFirst (d : ℕ) (h : History) (phase : Phase) : Type 0 where
+pub record TakesOnlyTheFirst (d : ℕ) (h : VersionHistory) (phase : Phase) : Type 0 where
   pub extents : (extent : ℕ) → owned extent h phase ≡ sum_by (dropped_extents extent h) (numbers (oldest h) (oldest h + d - 1)) + owned extent (given_up d h) phase
   pub reserve : (extent : ℕ) → reserve_left extent (given_up d h) phase ≡ reserve_left extent h phase
   pub oldest_next : oldest (given_up d h) ≡ oldest h + d
@@ -227,61 +227,61 @@ pub record TakesOnlyTheFirst (d : ℕ) (h : History) (phase : Phase) : Type 0 wh
 -- Giving up the oldest versions takes only their parts where others are left, in a settled store or one in which two more
 -- are left; with all versions it takes all.
 pub record GivingUpTakesOnlyTheFirst : Type 0 where
-  pub settled : (d : ℕ) (h : History) → 1 ≤ d → d < retained h → TakesOnlyTheFirst d h Settled
-  pub waiting : (d : ℕ) (h : History) (phase : Phase) → 1 ≤ d → d + 2 ≤ retained h → TakesOnlyTheFirst d h phase
+  pub settled : (d : ℕ) (h : VersionHistory) → 1 ≤ d → d < retained h → TakesOnlyTheFirst d h Settled
+  pub waiting : (d : ℕ) (h : VersionHistory) (phase : Phase) → 1 ≤ d → d + 2 ≤ retained h → TakesOnlyTheFirst d h phase
   pub state : (shape : Shape) (s : VersionState) (d : ℕ) → d < retained (history shape s) → history shape (drop_versions d s) ≡ given_up d (history shape s)
-  pub answer : (extent d : ℕ) (h : History) → d < retained h → freed_extents extent d h ≡ sum_by (dropped_extents extent h) (numbers (oldest h) (oldest h + d - 1))
-  pub last_answer : (extent d : ℕ) (h : History) → retained h ≤ d → freed_extents extent d h ≡ owned extent h Settled
+  pub answer : (extent d : ℕ) (h : VersionHistory) → d < retained h → freed_extents extent d h ≡ sum_by (dropped_extents extent h) (numbers (oldest h) (oldest h + d - 1))
+  pub last_answer : (extent d : ℕ) (h : VersionHistory) → retained h ≤ d → freed_extents extent d h ≡ owned extent h Settled
   pub last_state : (shape : Shape) (s : VersionState) (extent d : ℕ) → retained (history shape s) ≤ d → owned extent (history shape (drop_versions d s)) Settled ≡ 0
 
 -- the chunks of the closed volume j in the rows with a start up to v
-abbrev pub front_of : History → Phase → ℕ → ℕ → List (List ℕ)
+abbrev pub front_of : VersionHistory → Phase → ℕ → ℕ → List (List ℕ)
 front_of h phase j v = flat_map (row_chunks h phase j) (numbers (oldest h) v)
 
 -- In its own closed volume and the later ones a version finds the rows with a start up to it in front, and uses each
 -- chunk of them; of the open categories that begin up to it and are arranged for it or a later version it uses all.
 pub record AVersionUsesAFront : Type 0 where
-  pub front : (h : History) (phase : Phase) (v j : ℕ) → oldest h ≤ v → v ≤ j → closed_volume h phase j ≡ front_of h phase j v ++ flat_map (row_chunks h phase j) (numbers (v + 1) j)
-  pub used : (h : History) (phase : Phase) (v j : ℕ) (c : List ℕ) → oldest h ≤ v → v ≤ j → IsTrue (contains (front_of h phase j v) c) → IsTrue (contains (version h v) c)
-  pub open_used : (h : History) (phase : Phase) (v i : ℕ) (c : List ℕ) → i ≤ v → v ≤ arranged_to h phase i → IsTrue (contains (open_category h phase i) c) → IsTrue (contains (version h v) c)
+  pub front : (h : VersionHistory) (phase : Phase) (v j : ℕ) → oldest h ≤ v → v ≤ j → closed_volume h phase j ≡ front_of h phase j v ++ flat_map (row_chunks h phase j) (numbers (v + 1) j)
+  pub used : (h : VersionHistory) (phase : Phase) (v j : ℕ) (c : List ℕ) → oldest h ≤ v → v ≤ j → IsTrue (contains (front_of h phase j v) c) → IsTrue (contains (version h v) c)
+  pub open_used : (h : VersionHistory) (phase : Phase) (v i : ℕ) (c : List ℕ) → i ≤ v → v ≤ arranged_to h phase i → IsTrue (contains (open_category h phase i) c) → IsTrue (contains (version h v) c)
 
 -- what a restore of version v finds: the front of its own closed volume and of each later one, and of each open category
 -- that begins up to it what it uses
-abbrev pub walk : History → Phase → ℕ → List (List ℕ)
-walk h phase v =
+abbrev pub walked_chunks : VersionHistory → Phase → ℕ → List (List ℕ)
+walked_chunks h phase v =
     flat_map (λ j. front_of h phase j v) (numbers v (newest h - 1))
     ++ flat_map (λ i. filter (contains (version h v)) (open_category h phase i)) (numbers (h.base + 1) v)
 
 -- In every phase a restore finds each different chunk of its version once: whatever is summed over the chunks that it
 -- finds and over the version's different chunks is the same.
 abbrev pub ARestoreFindsEachChunkOnce : Type 0
-ARestoreFindsEachChunkOnce = (f : List ℕ → ℕ) (h : History) (phase : Phase) (v : ℕ) → oldest h ≤ v → v ≤ newest h → sum_by f (walk h phase v) ≡ sum_by f (distinct (version h v))
+ARestoreFindsEachChunkOnce = (f : List ℕ → ℕ) (h : VersionHistory) (phase : Phase) (v : ℕ) → oldest h ≤ v → v ≤ newest h → sum_by f (walked_chunks h phase v) ≡ sum_by f (distinct (version h v))
 
 -- A backup needs extents for its fresh chunks and its recipe, which it takes, and for the reserve, which is free
 -- afterwards and of which arranging takes its part at each start. So it stays free, and a settled store owns no more than
 -- before and the need. The first version has no reserve.
 pub record ABackupLeavesItsReserve : Type 0 where
-  pub needed : (extent : ℕ) (h : History) (w : List (List ℕ)) → 1 ≤ extent →
+  pub needed : (extent : ℕ) (h : VersionHistory) (w : List (List ℕ)) → 1 ≤ extent →
       need extent h w ≡ up extent (record_bytes (fresh h w)) + up extent (recipe_bytes w) + reserve_left extent (grown h w) (Waiting (h.base + 1))
-  pub taken : (extent : ℕ) (h : History) (w : List (List ℕ)) → 1 ≤ extent → h.expired < length h.versions →
+  pub taken : (extent : ℕ) (h : VersionHistory) (w : List (List ℕ)) → 1 ≤ extent → h.expired < length h.versions →
       owned extent (grown h w) (Waiting (h.base + 1)) ≡ owned extent h Settled + up extent (record_bytes (fresh h w)) + up extent (recipe_bytes w)
-  pub reserve : (extent extents held : ℕ) (h : History) (w : List (List ℕ)) → 1 ≤ extent → h.expired < length h.versions → need extent h w ≤ extents - owned extent h Settled - held →
+  pub reserve : (extent extents held : ℕ) (h : VersionHistory) (w : List (List ℕ)) → 1 ≤ extent → h.expired < length h.versions → need extent h w ≤ extents - owned extent h Settled - held →
       reserve_left extent (grown h w) (Waiting (h.base + 1)) ≤ extents - owned extent (grown h w) (Waiting (h.base + 1)) - held
-  pub arranging : (extent : ℕ) (h : History) (w : List (List ℕ)) (i : ℕ) → 1 ≤ extent → i ≤ newest h →
+  pub arranging : (extent : ℕ) (h : VersionHistory) (w : List (List ℕ)) (i : ℕ) → 1 ≤ extent → i ≤ newest h →
       reserve_left extent (grown h w) (Waiting i) ≡
       (up extent (record_bytes (closed_volume (grown h w) (Waiting (i + 1)) (newest h))) - up extent (record_bytes (closed_volume (grown h w) (Waiting i) (newest h))))
       + (if lacks_some w (open_category h Settled i) then up extent (record_bytes (kept h w i)) else 0)
       + reserve_left extent (grown h w) (Waiting (i + 1))
-  pub stays_free : (extent : ℕ) (h : History) (w : List (List ℕ)) (i : ℕ) → 1 ≤ extent → h.base + 1 ≤ i → i ≤ newest h → h.expired < length h.versions →
+  pub stays_free : (extent : ℕ) (h : VersionHistory) (w : List (List ℕ)) (i : ℕ) → 1 ≤ extent → h.base + 1 ≤ i → i ≤ newest h → h.expired < length h.versions →
       owned extent (grown h w) (Waiting (i + 1)) + reserve_left extent (grown h w) (Waiting (i + 1)) ≤ owned extent (grown h w) (Waiting i) + reserve_left extent (grown h w) (Waiting i)
-  pub settled : (extent : ℕ) (h : History) (w : List (List ℕ)) → 1 ≤ extent → h.expired < length h.versions → owned extent (grown h w) Settled ≤ owned extent h Settled + need extent h w
+  pub settled : (extent : ℕ) (h : VersionHistory) (w : List (List ℕ)) → 1 ≤ extent → h.expired < length h.versions → owned extent (grown h w) Settled ≤ owned extent h Settled + need extent h w
   pub first : (extent base : ℕ) (w : List (List ℕ)) → 1 ≤ extent → let h = no_versions base in need extent h w ≡ owned extent (grown h w) Settled
 
 -- The state after a backup has the history that is grown by the stream's chunks, and each history with a version is the
 -- one before, grown by that version.
 pub record BackupsGrowTheHistory : Type 0 where
   pub grows : (shape : Shape) (s : VersionState) (stream : List ℕ) → history shape (with_version s stream) ≡ grown (history shape s) (chunks (cut_of shape) stream)
-  pub grew : (h : History) → 1 ≤ length h.versions → h ≡ grown (before h) (version h (newest h))
+  pub grew : (h : VersionHistory) → 1 ≤ length h.versions → h ≡ grown (before h) (version h (newest h))
 
 -- No command makes a settled store own more extents than there are.
 abbrev pub RoomSuffices : Type 0
@@ -291,7 +291,7 @@ RoomSuffices =
 
 -- What a refusal counts is more than what is free exactly where the need is, from chunks and from any two recipes.
 pub record RefusalIsExact : Type 0 where
-  pub chunks : (extent free : ℕ) (h : History) (w : List (List ℕ)) → 1 ≤ extent → (free < counted extent h w free) ↔ (free < need extent h w)
+  pub chunks : (extent free : ℕ) (h : VersionHistory) (w : List (List ℕ)) → 1 ≤ extent → (free < counted extent h w free) ↔ (free < need extent h w)
   pub recipes : (extent free : ℕ) (old new : List RecipeEntry) → 1 ≤ extent → (free < counted_of extent old new free) ↔ (free < need_of extent old new)
 
 -- the entries have the marks and the lengths of these chunks
@@ -301,11 +301,11 @@ pub record AreEntriesOf (entries : List RecipeEntry) (chunks : List (List ℕ)) 
 
 -- Where marks tell the chunks of the newest version and the new one apart, their recipes give the need and the count.
 pub record RecipesGiveTheCounts : Type 0 where
-  pub needed : (extent : ℕ) (h : History) (w : List (List ℕ)) (new : List RecipeEntry) → AreEntriesOf new w → Distinct (version h (newest h) ++ w) →
+  pub needed : (extent : ℕ) (h : VersionHistory) (w : List (List ℕ)) (new : List RecipeEntry) → AreEntriesOf new w → Distinct (version h (newest h) ++ w) →
       need_of extent (recipe h (newest h)) new ≡ need extent h w
-  pub refused : (extent free : ℕ) (h : History) (w : List (List ℕ)) (new : List RecipeEntry) → AreEntriesOf new w → Distinct (version h (newest h) ++ w) →
+  pub refused : (extent free : ℕ) (h : VersionHistory) (w : List (List ℕ)) (new : List RecipeEntry) → AreEntriesOf new w → Distinct (version h (newest h) ++ w) →
       counted_of extent (recipe h (newest h)) new free ≡ counted extent h w free
 
 -- Where marks tell all chunks of a history apart, they tell those of each two versions in a row apart.
 abbrev pub DistinctMarksAreNear : Type 0
-DistinctMarksAreNear = (h : History) → Distinct (flat_map (λ v. v) h.versions) → Near h
+DistinctMarksAreNear = (h : VersionHistory) → Distinct (flat_map (λ v. v) h.versions) → Near h

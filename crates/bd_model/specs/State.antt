@@ -4,7 +4,7 @@ use Rattle.bd_model.specs.declared.shape.Shape.{Shape}
 use Rattle.bd_model.specs.declared.layout.Phase.{Phase}
 use Rattle.bd_model.specs.declared.layout.Phase.TheVariants.{Settled, Waiting}
 use Rattle.bd_model.specs.Chunks.{Cut, chunks}
-use Rattle.bd_model.specs.History.{History, newest, retained}
+use Rattle.bd_model.specs.History.{VersionHistory, newest, retained}
 
 -- a version as it was backed up
 pub record Version : Type 0 where
@@ -46,10 +46,10 @@ abbrev pub cut_of : Shape → Cut
 cut_of shape = record { least = shape.min; bits = shape.bits; most = shape.max }
 
 -- the same versions, each as the list of its chunks
-abbrev pub history : Shape → VersionState → History
+abbrev pub history : Shape → VersionState → VersionHistory
 history shape s = record { base = s.base; versions = map (chunks (cut_of shape)) (streams s); expired = s.expired }
 
 -- the phases of a store with these versions: it waits only where two or more are retained, for a start that there is
-abbrev pub IsPhase : History → Phase → Type 0
+abbrev pub IsPhase : VersionHistory → Phase → Type 0
 IsPhase h Settled = Unit {0}
 IsPhase h (Waiting cursor) = (2 ≤ retained h) × (h.base + 1 ≤ cursor) × (cursor ≤ newest h)

@@ -12,7 +12,7 @@ use Rattle.bd_model.specs.declared.answer.ScrubReport.{ScrubReport}
 use Rattle.bd_model.specs.declared.layout.Phase.{Phase}
 use Rattle.bd_model.specs.declared.layout.Phase.TheVariants.{Settled, Waiting}
 use Rattle.bd_model.specs.Chunks.{chunks, numbers}
-use Rattle.bd_model.specs.History.{History, version, newest, oldest, retained, distinct}
+use Rattle.bd_model.specs.History.{VersionHistory, version, newest, oldest, retained, distinct}
 use Rattle.bd_model.specs.State.{VersionState, history, cut_of, stream_of, last_number, plain}
 use Rattle.bd_model.specs.Category.{begins}
 use Rattle.bd_model.specs.Layout.{closed_volume, open_category, record_bytes}
@@ -61,14 +61,14 @@ restore s files v name =
     record (unchanged s files (Restored v (length (stream_of s v)))) { files = map.insert files name (stream_of s v) }
 
 -- the extents that dropping version v frees: those of its closed volume and of its recipe
-abbrev pub dropped_extents : ℕ → History → ℕ → ℕ
+abbrev pub dropped_extents : ℕ → VersionHistory → ℕ → ℕ
 dropped_extents extent h v = up extent (record_bytes (closed_volume h Settled v)) + up extent (recipe_bytes (version h v))
 
 -- the extents that giving up the d oldest versions frees: with all of them, all
-abbrev pub freed_extents : ℕ → ℕ → History → ℕ
+abbrev pub freed_extents : ℕ → ℕ → VersionHistory → ℕ
 freed_extents extent d h = if nat_le (retained h) d then owned extent h Settled else sum_by (dropped_extents extent h) (numbers (oldest h) (oldest h + d - 1))
 
-abbrev pub expired_extents : ℕ → History → ℕ
+abbrev pub expired_extents : ℕ → VersionHistory → ℕ
 expired_extents extent h = freed_extents extent 1 h
 
 -- the state after all versions are given up, and after the d oldest of more
@@ -86,16 +86,16 @@ abbrev pub drop_oldest : VersionState → VersionState
 drop_oldest s = drop_versions 1 s
 
 -- the number of records that a settled store keeps
-abbrev pub record_count : History → ℕ
+abbrev pub record_count : VersionHistory → ℕ
 record_count h =
     sum_by (λ j. length (closed_volume h Settled j)) (numbers (oldest h) (newest h - 1))
     + sum_by (λ i. length (open_category h Settled i)) (numbers (h.base + 1) (newest h))
 
 -- the number of recipe entries
-abbrev pub entry_count : History → ℕ
+abbrev pub entry_count : VersionHistory → ℕ
 entry_count h = sum_by (λ v. length (version h v)) (numbers (oldest h) (newest h))
 
-abbrev pub scrub_report : History → ScrubReport
+abbrev pub scrub_report : VersionHistory → ScrubReport
 scrub_report h = record {
   records = record_count h;
   entries = entry_count h;
@@ -108,10 +108,10 @@ abbrev pub line_for : ℕ → ℕ → ℕ → ℕ → VersionLine
 line_for v bytes chunks fresh = record { version = v; bytes = bytes; chunks = chunks; fresh = fresh }
 
 -- a version as a list shows it: fresh are the different chunks that the version before lacks
-abbrev pub version_line : VersionState → History → ℕ → VersionLine
+abbrev pub version_line : VersionState → VersionHistory → ℕ → VersionLine
 version_line s h v = line_for v (length (stream_of s v)) (length (version h v)) (length (filter (begins h v) (distinct (version h v))))
 
-abbrev pub version_lines : VersionState → History → List VersionLine
+abbrev pub version_lines : VersionState → VersionHistory → List VersionLine
 version_lines s h = map (version_line s h) (numbers (oldest h) (newest h))
 
 -- What a command answers and leaves, `held` extents being held for readers. A backup of a name that isn't there has no
@@ -152,10 +152,10 @@ phase_after s phase (Expired _ _) = if nat_le (length s.versions - s.expired) 1 
 phase_after s phase _ = phase
 
 -- the start that a step of arranging takes from the cursor on: the least one whose open category isn't empty
-abbrev pub next_start : History → ℕ → Option ℕ
+abbrev pub next_start : VersionHistory → ℕ → Option ℕ
 next_start h cursor = find (λ i. nat_lt 0 (length (open_category h (Waiting cursor) i))) (numbers cursor (newest h - 1))
 
 -- the phase after one step of arranging
-abbrev pub phase_after_step : History → Phase → Phase
+abbrev pub phase_after_step : VersionHistory → Phase → Phase
 phase_after_step h Settled = Settled
 phase_after_step h (Waiting cursor) = elim (next_start h cursor) [ None ↦ Settled | Some i ↦ Waiting (i + 1) ]

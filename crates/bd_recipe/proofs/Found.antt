@@ -16,7 +16,7 @@ use Rattle.bd_model.specs.declared.layout.RecipeEntry.{RecipeEntry}
 use Rattle.bd_model.specs.declared.damage.Damage.{Damage}
 use Rattle.bd_model.specs.declared.damage.Damage.TheVariants.{Entry, Sum}
 use Rattle.bd_roll.specs.Catalogue.{Catalogue, recipe_extents}
-use Rattle.bd_catalog.specs.Damages.{IsSeen, entry_places}
+use Rattle.bd_catalog.specs.Damages.{IsSeen, entry_places_of}
 use Rattle.bd_catalog.specs.Sound.{recipe_of, entry_holds}
 use Rattle.bd_recipe.specs.Entries.{first_bad, limits_for}
 use Rattle.bd_recipe.specs.Reading.{IsRecipe, ReadsTo, chunks_in, length_in, recipe_found, total, with_sum}
@@ -76,7 +76,7 @@ module _ (s : Sizes) (c : Catalogue) (v : ℕ) (image : List ℕ) where
       let there : slice_get entries bad.place ≡ Some bad.entry = ap (λ l. slice_get l bad.place) (front_of r) ∙ slice_get-front (entries_in r.count owner) more bad.place bad.entry bad.there in
       let inside : suc bad.place ≤ r.count = omega (arith, slice_get_within (entries_in r.count owner) bad.place bad.entry bad.there, length-entries_in r.count owner) in
       subst (λ d. IsSeen s c image [] d old new) (sym (bad.so ∙ ap (λ k. Entry v k bad.entry.length bad.entry.start) index)) (record {
-        places = entry_places s c v bad.place;
+        places = entry_places_of s c v bad.place;
         read = record { more = places_at s (recipe_extents c v) 0 (40 * r.count); so = r.reads.so; all = places_of_entry s (recipe_extents c v) bad.place r.count inside };
         breaks = (bad.entry, there, refl, refl, bad.fails, refl);
       })

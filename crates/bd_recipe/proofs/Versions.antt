@@ -16,7 +16,7 @@ use Rattle.bd_model.proofs.RoomLemmas.{up-enough}
 use Rattle.bd_extio.specs.Ranges.{AreExtents, IsWithin}
 use Rattle.bd_roll.specs.Catalogue.{Catalogue, VersionEntry, oldest_in, recipe_extents, all_extents}
 use Rattle.bd_roll.specs.Rules.{all_differ, obeys, version_holds, extents_hold}
-use Rattle.bd_roll.proofs.Obeying.{count_in_version, distinct_of}
+use Rattle.bd_roll.proofs.RuleLemmas.{count_in_version, distinct_of}
 use Rattle.bd_catalog.proofs.StandingFound.{obeys-each}
 use Rattle.bd_recipe.specs.Reading.{chunks_in, length_in}
 

@@ -92,7 +92,7 @@ abbrev pub HasBad : {D : Type 0} → Ghosts D → Limits → Sizes → List ℕ 
 HasBad g limits s extents index count damage disk = g.tells → first_bad (is_within limits) limits.version index (entries_on g s extents index count disk) ≡ Some damage
 
 -- a fault of the disk
-abbrev pub is_disk_fault : ReadFault → Bool
-is_disk_fault DiskFault = true
-is_disk_fault (Damaged damage) = false
-is_disk_fault OutOfMemory = false
+abbrev pub is_disk_fault_of_read : ReadFault → Bool
+is_disk_fault_of_read DiskFault = true
+is_disk_fault_of_read (Damaged damage) = false
+is_disk_fault_of_read OutOfMemory = false

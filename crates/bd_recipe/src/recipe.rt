@@ -13,7 +13,7 @@ ghost use Rattle.bd_roll.specs.Catalogue.{oldest_in};
 ghost use Rattle.bd_catalog.specs.Damages.{IsSeen};
 ghost use Rattle.bd_recipe.specs.Entries.{first_bad, is_within};
 ghost use Rattle.bd_recipe.specs.Pieces.{InEntries, entries_on, entry_places};
-ghost use Rattle.bd_recipe.specs.Reading.{AnswersRecipe, HasBad, IfDamaged, InRecipe, IsRecipe, OnRead, ReadsBad, is_disk_fault, recipe_found, recipe_places, total};
+ghost use Rattle.bd_recipe.specs.Reading.{AnswersRecipe, HasBad, IfDamaged, InRecipe, IsRecipe, OnRead, ReadsBad, is_disk_fault_of_read, recipe_found, recipe_places, total};
 
 use crate::entry::{BUFFER, ENTRY, PIECE, entry_from};
 use crate::fault::ReadFault;
@@ -40,7 +40,7 @@ pub fn read_recipe<D: Disk>(
     requires oldest { oldest_in catalog.now.found.catalogue ≤ version }
     requires newest { version ≤ catalog.now.found.catalogue.newest }
     ensures disk { Reads D.Disk (InRecipe catalog.now.found.sizes catalog.now.found.catalogue version) disk.old disk.new }
-    ensures cause { FailsByCount is_disk_fault (D.faults disk.old) (D.faults disk.new) result }
+    ensures cause { FailsByCount is_disk_fault_of_read (D.faults disk.old) (D.faults disk.new) result }
     ensures recipe { IfOk result (λ recipe. IsRecipe catalog.now.found.sizes catalog.now.found.catalogue version recipe.items) }
     ensures entries { D.tells → AnswersRecipe (recipe_found catalog.now.found.sizes catalog.now.found.catalogue (contents (D.history disk.old)) version) result }
     ensures places { OnOk result (D.tells → ReadsOnly (recipe_places catalog.now.found.sizes catalog.now.found.catalogue version) (D.history disk.old) (D.history disk.new)) }
@@ -81,7 +81,7 @@ fn read_entries<D: Disk>(
     requires numbers { AreExtents (sizes_of shape.now) extents.now }
     requires range { IsWithin (sizes_of shape.now) extents.now 0 (40 * chunks) }
     ensures disk { Reads D.Disk (InEntries (sizes_of shape.now) extents.now 0 chunks) disk.old disk.new }
-    ensures cause { FailsByCount is_disk_fault (D.faults disk.old) (D.faults disk.new) result }
+    ensures cause { FailsByCount is_disk_fault_of_read (D.faults disk.old) (D.faults disk.new) result }
     ensures count { IfOk result (λ recipe. length recipe.items ≡ chunks) }
     ensures hold { IfOk result (λ recipe. IsTrue (list_all (is_within limits.now) recipe.items)) }
     ensures items { IfOk result (λ recipe. D.tells → recipe.items ≡ entries_in chunks (owned_on D.Disk (sizes_of shape.now) extents.now disk.old)) }
@@ -116,7 +116,7 @@ fn read_piece<D: Disk>(
     requires spare { count ≤ recipe.old.spare }
     requires hold { IsTrue (list_all (is_within limits.now) recipe.old.items) }
     ensures disk { Reads D.Disk (InEntries (sizes_of shape.now) extents.now (length recipe.old.items) count) disk.old disk.new }
-    ensures cause { FailsByCount is_disk_fault (D.faults disk.old) (D.faults disk.new) result }
+    ensures cause { FailsByCount is_disk_fault_of_read (D.faults disk.old) (D.faults disk.new) result }
     ensures count { OnOk result (length recipe.new.items ≡ length recipe.old.items + count) }
     ensures hold { OnOk result (IsTrue (list_all (is_within limits.now) recipe.new.items)) }
     ensures spare { OnOk result (recipe.old.spare ≤ recipe.new.spare + count) }

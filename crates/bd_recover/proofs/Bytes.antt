@@ -1,7 +1,7 @@
 -- What the writes of a format leave.
 use Rattle.std.proofs.Common.{◌≡◌, ℕ, ◌+◌, ◌<◌, ◌≤◌, List, [], ◌∷◌, length, get_or, ◌∙◌, ap, arith, eqb}
 use Rattle.bd_disk.specs.Images.{InRange, AgreeBut, overwritten}
-use Rattle.bd_disk.proofs.Agreeing.{length-overwritten, overwritten_there, overwrite_agrees, bytes_at-overwritten, same_bytes_at}
+use Rattle.bd_disk.proofs.AgreeLemmas.{length-overwritten, overwritten_there, overwrite_agrees, bytes_at-overwritten, same_bytes_at}
 use Rattle.bd_disk.specs.Runs.{Writes}
 use Rattle.bd_disk.specs.declared.disk.Disk.{Ghosts}
 use Rattle.bd_disk.proofs.RunLemmas.{wider_writes}

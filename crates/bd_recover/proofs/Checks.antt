@@ -3,14 +3,14 @@ use Rattle.std.proofs.Common.{◌≡◌, ℕ, ◌+◌, ◌<◌, ◌≤◌, Bool,
 use Rattle.std.specs.Prelude.{bytes_eq}
 use Rattle.std.specs.Int.{w32, from_be_bytes}
 use Rattle.bd_disk.specs.Images.{bytes_at}
-use Rattle.bd_disk.proofs.Agreeing.{get_or-bytes_at, sub_bytes}
+use Rattle.bd_disk.proofs.AgreeLemmas.{get_or-bytes_at, sub_bytes}
 use Rattle.bd_model.specs.Sizes.{Sizes, is_shape, disk_bytes}
 use Rattle.bd_model.specs.declared.place.Place.{Place}
 use Rattle.bd_model.specs.declared.place.Place.TheVariants.{Short, Gate, Magic, Number, Shape, Padding, Room}
 use Rattle.bd_gate.specs.Superblock.{byte_at, four_at, open_gate, magic, sizes_at}
 use Rattle.bd_gate.specs.Halves.{newest_half}
 use Rattle.bd_catalog.specs.Opening.{Found, opened, opened_half}
-use Rattle.bd_catalog.proofs.Agreeing.{sizes_by_fields}
+use Rattle.bd_catalog.proofs.AgreeLemmas.{sizes_by_fields}
 use Rattle.bd_recover.specs.Opens.{first_failing, superblock_fault}
 
 -- the checks of an opening in their order

@@ -5,7 +5,7 @@ use Rattle.std.specs.Prelude.{bytes_eq}
 use Rattle.std.specs.Int.{w32, w64, from_be_bytes}
 use Rattle.std.proofs.lemmas.Nat.{from_be_bytes-to_be_bytes_4}
 use Rattle.bd_disk.specs.Images.{bytes_at}
-use Rattle.bd_disk.proofs.Agreeing.{get_or-bytes_at, sub_bytes}
+use Rattle.bd_disk.proofs.AgreeLemmas.{get_or-bytes_at, sub_bytes}
 use Rattle.bd_model.specs.Limits.{IsShape}
 use Rattle.bd_model.specs.Records.{four}
 use Rattle.bd_model.specs.Sizes.{Sizes, is_shape, disk_bytes, half_place, payload_room}

@@ -1,7 +1,7 @@
-mod Answering
+mod OpeningAnswers
 mod Bytes
 mod Checks
-mod Claiming
+mod ClaimedCatalogue
 mod FirstCalls
 pub mod Found
 mod Stops

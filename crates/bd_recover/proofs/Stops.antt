@@ -6,7 +6,7 @@ use Rattle.std.proofs.lemmas.Bool.Decides.{eqb_tells}
 use Rattle.bd_disk.specs.Images.{InRange, AgreeBut, bytes_at, overwritten}
 use Rattle.bd_disk.specs.History.{History, contents}
 use Rattle.bd_disk.specs.Made.{IsSettled, LeavesSince, Stores, WritesNothing, WritesOnly}
-use Rattle.bd_disk.proofs.Agreeing.{same_bytes_at, overwrite_agrees, overwritten_there}
+use Rattle.bd_disk.proofs.AgreeLemmas.{same_bytes_at, overwrite_agrees, overwritten_there}
 use Rattle.bd_disk.proofs.Frames.{leaves_both, leaves_by_writes, leaves_quiet, still_settled, unchanged, writes_wider}
 use Rattle.bd_disk.specs.Runs.{Works, WorkedAt, Writes}
 use Rattle.bd_disk.specs.declared.disk.Disk.{Ghosts}

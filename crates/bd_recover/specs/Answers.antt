@@ -30,11 +30,11 @@ MeasuresFormat s have (Err DiskFault) = Unit {0}
 MeasuresFormat s have (Err OutOfMemory) = Unit {0}
 
 -- whether it is a fault of the disk
-abbrev pub is_disk_fault : FormatFault → Bool
-is_disk_fault AlreadyAStore = false
-is_disk_fault (TooSmall need have) = false
-is_disk_fault DiskFault = true
-is_disk_fault OutOfMemory = false
+abbrev pub is_disk_fault_of_format : FormatFault → Bool
+is_disk_fault_of_format AlreadyAStore = false
+is_disk_fault_of_format (TooSmall need have) = false
+is_disk_fault_of_format DiskFault = true
+is_disk_fault_of_format OutOfMemory = false
 
 -- what is answered to a format of a disk
 pub record IsFormatAnswer {D T : Type 0} (g : Ghosts D) (s : Sizes) (old new : D) (result : Result T FormatFault) : Type 0 where

@@ -19,11 +19,11 @@ use Rattle.bd_recover.specs.declared.fault.OpenFault.TheVariants.{NotAStore, Dis
 use Rattle.bd_recover.specs.declared.opening.Opened.{Opened}
 
 -- the answer is the expected one, but for a fault of the disk and want of memory
-abbrev pub AnswersOpening : Result Found Place → Result Opened OpenFault → Type 0
-AnswersOpening expected (Ok made) = expected ≡ Ok made.catalog.found
-AnswersOpening expected (Err (NotAStore place)) = expected ≡ Err place
-AnswersOpening expected (Err DiskFault) = Unit {0}
-AnswersOpening expected (Err OutOfMemory) = Unit {0}
+abbrev pub AnswersRecovery : Result Found Place → Result Opened OpenFault → Type 0
+AnswersRecovery expected (Ok made) = expected ≡ Ok made.catalog.found
+AnswersRecovery expected (Err (NotAStore place)) = expected ≡ Err place
+AnswersRecovery expected (Err DiskFault) = Unit {0}
+AnswersRecovery expected (Err OutOfMemory) = Unit {0}
 
 -- a disk without room for a superblock opens on no account
 abbrev pub AnswersShort : {T : Type 0} → Result T OpenFault → Type 0
@@ -33,10 +33,10 @@ AnswersShort (Err DiskFault) = Unit {0}
 AnswersShort (Err OutOfMemory) = Unit {0}
 
 -- whether it is a fault of the disk
-abbrev pub is_disk_fault : OpenFault → Bool
-is_disk_fault (NotAStore place) = false
-is_disk_fault DiskFault = true
-is_disk_fault OutOfMemory = false
+abbrev pub is_disk_fault_of_opening : OpenFault → Bool
+is_disk_fault_of_opening (NotAStore place) = false
+is_disk_fault_of_opening DiskFault = true
+is_disk_fault_of_opening OutOfMemory = false
 
 -- what was opened stands on the disk, and a stop leaves the contents and nothing else
 pub record Rests (found : Found) (h : History) : Type 0 where

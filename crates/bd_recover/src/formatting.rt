@@ -10,7 +10,7 @@ ghost use Rattle.bd_gate.specs.Halves.{BeforeExtents};
 ghost use Rattle.bd_gate.specs.Superblock.{is_marked, byte_at, open_gate};
 ghost use Rattle.bd_catalog.specs.Opening.{opened};
 ghost use Rattle.bd_recover.specs.Fresh.{fresh_found, FormatStops, HoldsFresh, InParts};
-ghost use Rattle.bd_recover.specs.Answers.{format_refusal, is_disk_fault, AnswersFormat, IsFormatAnswer, MeasuresFormat, TakesNoMemory};
+ghost use Rattle.bd_recover.specs.Answers.{format_refusal, is_disk_fault_of_format, AnswersFormat, IsFormatAnswer, MeasuresFormat, TakesNoMemory};
 ghost use Rattle.bd_recover.specs.Opens.{HasSpace, Rests, SyncsFirst};
 
 use crate::fault::FormatFault;
@@ -28,7 +28,7 @@ use std::alloc::Global;
 #[tactic(auto, using(bd_disk::proofs::RunLemmas::runs))]
 pub fn format<D: Disk>(alloc: Global, disk: &mut D, shape: Shape) -> Result<Opened, FormatFault>
     ensures disk { Works D.Disk (InRange 0 64) (BeforeExtents (sizes_of shape)) disk.old disk.new }
-    ensures cause { FailsByCount is_disk_fault (D.faults disk.old) (D.faults disk.new) result }
+    ensures cause { FailsByCount is_disk_fault_of_format (D.faults disk.old) (D.faults disk.new) result }
     ensures memory { result ≡ Err FormatFault.OutOfMemory → D.tells → TouchesNothing (D.history disk.old) (D.history disk.new) }
     ensures synced { result ≢ Err FormatFault.OutOfMemory → D.tells → SyncsFirst (D.history disk.old) (D.history disk.new) }
     ensures answer { IsFormatAnswer D.Disk (sizes_of shape) disk.old disk.new result }
@@ -48,7 +48,7 @@ pub fn format<D: Disk>(alloc: Global, disk: &mut D, shape: Shape) -> Result<Open
 #[tactic(auto, using(bd_disk::proofs::RunLemmas::runs))]
 pub fn format_disk<D: Disk>(disk: &mut D, shape: &Shape) -> Result<(), FormatFault>
     ensures disk { Works D.Disk (InRange 0 64) (BeforeExtents (sizes_of shape.now)) disk.old disk.new }
-    ensures cause { FailsByCount is_disk_fault (D.faults disk.old) (D.faults disk.new) result }
+    ensures cause { FailsByCount is_disk_fault_of_format (D.faults disk.old) (D.faults disk.new) result }
     ensures memory { TakesNoMemory result }
     ensures synced { D.tells → SyncsFirst (D.history disk.old) (D.history disk.new) }
     ensures answer { IsFormatAnswer D.Disk (sizes_of shape.now) disk.old disk.new result }
@@ -66,7 +66,7 @@ pub fn format_disk<D: Disk>(disk: &mut D, shape: &Shape) -> Result<(), FormatFau
 // Closes the first gate where it is open, or tells why the disk isn't formatted.
 fn shut_gate<D: Disk>(disk: &mut D, shape: &Shape) -> Result<(), FormatFault>
     ensures disk { Works D.Disk (InRange 0 64) (InRange 0 1) disk.old disk.new }
-    ensures cause { FailsByCount is_disk_fault (D.faults disk.old) (D.faults disk.new) result }
+    ensures cause { FailsByCount is_disk_fault_of_format (D.faults disk.old) (D.faults disk.new) result }
     ensures memory { TakesNoMemory result }
     ensures synced { D.tells → SyncsFirst (D.history disk.old) (D.history disk.new) }
     ensures answer { IsFormatAnswer D.Disk (sizes_of shape.now) disk.old disk.new result }
@@ -83,7 +83,7 @@ fn shut_gate<D: Disk>(disk: &mut D, shape: &Shape) -> Result<(), FormatFault>
 // Whether the first gate has to be closed; or why the disk isn't formatted.
 fn asks_for_closing<D: Disk>(disk: &mut D, shape: &Shape) -> Result<bool, FormatFault>
     ensures disk { Reads D.Disk (InRange 0 64) disk.old disk.new }
-    ensures cause { FailsByCount is_disk_fault (D.faults disk.old) (D.faults disk.new) result }
+    ensures cause { FailsByCount is_disk_fault_of_format (D.faults disk.old) (D.faults disk.new) result }
     ensures memory { TakesNoMemory result }
     ensures synced { D.tells → SyncsFirst (D.history disk.old) (D.history disk.new) }
     ensures size { MeasuresFormat (sizes_of shape.now) (D.bytes disk.old) result }

@@ -8,7 +8,7 @@ ghost use Rattle.bd_model.specs.Sizes.{sizes_of, disk_bytes};
 ghost use Rattle.bd_gate.specs.Halves.{BeforeExtents};
 ghost use Rattle.bd_gate.specs.Superblock.{sizes_at};
 ghost use Rattle.bd_catalog.specs.Opening.{opened};
-ghost use Rattle.bd_recover.specs.Opens.{is_disk_fault, AnswersOpening, AnswersShape, AnswersShort, HasSpace, Rests, SyncsFirst};
+ghost use Rattle.bd_recover.specs.Opens.{is_disk_fault_of_opening, AnswersRecovery, AnswersShape, AnswersShort, HasSpace, Rests, SyncsFirst};
 
 use crate::claims::space_of;
 use crate::fault::OpenFault;
@@ -30,9 +30,9 @@ pub struct Opened {
 /// superblock and the halves alone.
 pub fn open_image<D: Disk>(alloc: Global, disk: &mut D) -> Result<Opened, OpenFault>
     ensures disk { Reads D.Disk (BeforeExtents (sizes_at (contents (D.history disk.old)))) disk.old disk.new }
-    ensures cause { FailsByCount is_disk_fault (D.faults disk.old) (D.faults disk.new) result }
+    ensures cause { FailsByCount is_disk_fault_of_opening (D.faults disk.old) (D.faults disk.new) result }
     ensures synced { D.tells → SyncsFirst (D.history disk.old) (D.history disk.new) }
-    ensures opened { D.tells → AnswersOpening (opened (contents (D.history disk.old))) result }
+    ensures opened { D.tells → AnswersRecovery (opened (contents (D.history disk.old))) result }
     ensures short { D.bytes disk.old < 64 → AnswersShort result }
     ensures room { IfOk result (λ made. disk_bytes made.catalog.found.sizes ≤ D.bytes disk.new) }
     ensures rests { IfOk result (λ made. D.tells → Rests made.catalog.found (D.history disk.new)) }
@@ -49,7 +49,7 @@ pub fn open_image<D: Disk>(alloc: Global, disk: &mut D) -> Result<Opened, OpenFa
 #[tactic(auto, using(bd_disk::proofs::RunLemmas::runs))]
 fn read_shape<D: Disk>(disk: &mut D) -> Result<Shape, OpenFault>
     ensures disk { Reads D.Disk (InRange 0 64) disk.old disk.new }
-    ensures cause { FailsByCount is_disk_fault (D.faults disk.old) (D.faults disk.new) result }
+    ensures cause { FailsByCount is_disk_fault_of_opening (D.faults disk.old) (D.faults disk.new) result }
     ensures shape { D.tells → AnswersShape (contents (D.history disk.old)) result }
     ensures short { D.bytes disk.old < 64 → AnswersShort result }
     ensures room { IfOk result (λ shape. disk_bytes (sizes_of shape) ≤ D.bytes disk.old) }

@@ -1,18 +1,18 @@
-mod Answering
-mod Ending
-mod Finishing
+mod FaultPassedOn
+mod WalkEnd
+mod FirstAndLast
 pub mod Frames
-mod Going
-pub mod Joining
+mod WentLemmas
+pub mod JoinedWalks
 mod Marks
-mod Meeting
-mod Owning
-mod Putting
+mod MetByRecord
+mod WalkRows
+mod PutLemmas
 mod Reached
-mod Reading
-mod Seeing
-pub mod Standing
+mod WrittenOver
+mod MetOnWalk
+pub mod StandingRestore
 pub mod StandingContent
 pub mod StandingLean
 pub mod StandingReads
-mod Walking
+mod WalkLemmas

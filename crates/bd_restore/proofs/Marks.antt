@@ -6,7 +6,7 @@ use Rattle.std.proofs.lemmas.Slice.Eq.{bytes_eq-Decides}
 use Rattle.std.proofs.lemmas.Bool.{false≢true}
 use Rattle.bd_model.specs.declared.layout.RecipeEntry.{RecipeEntry}
 use Rattle.bd_recipe.specs.Marked.{first_from, next_after}
-use Rattle.bd_recipe.proofs.Occurring.{first-marked, none-before_first, next-marked, none-between}
+use Rattle.bd_recipe.proofs.NextOccurrence.{first-marked, none-before_first, next-marked, none-between}
 use Rattle.bd_restore.specs.Target.{mark_at}
 
 abbrev pub no_entry : RecipeEntry

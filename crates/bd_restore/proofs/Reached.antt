@@ -1,4 +1,4 @@
--- The records that are reached: all of them where each header holds, and up to a record whose header holds behind others.
+-- The records that are reached_spots: all of them where each header holds, and up to a record whose header holds behind others.
 use Rattle.std.proofs.Common.{◌≡◌, ℕ, ◌-◌, true, cond, List, [], ◌∷◌, ◌++◌, map, append_assoc, refl, sym, ◌∙◌, ap}
 use Rattle.std.specs.Prelude.{flat_map, nat_le}
 use Rattle.std.specs.List.{list_all}
@@ -9,7 +9,7 @@ use Rattle.bd_model.specs.Chunks.{numbers}
 use Rattle.bd_model.specs.Sizes.{Sizes}
 use Rattle.bd_model.proofs.ListLemmas.{left_and, right_and}
 use Rattle.bd_roll.specs.Catalogue.{Catalogue, OpenEntry}
-use Rattle.bd_catalog.specs.Damages.{good_front, header_holds, is_passed, owners_from, reached, reached_for}
+use Rattle.bd_catalog.specs.Damages.{good_front, header_holds, is_passed, owners_from, reached_spots, reached_for}
 use Rattle.bd_catalog.specs.Rows.{RowPlace, Spot, begun_by, open_row, row_spots, spots_in, volume_rows, walk}
 
 abbrev together : List (List RowPlace) → List RowPlace
@@ -44,14 +44,14 @@ module _ (s : Sizes) (image : List ℕ) where
       ap (λ b. cond b (x ∷ good_front s p xs) []) (left_and (header_holds s p x) (list_all (header_holds s p) xs) good)
       ∙ ap (λ l. x ∷ l) (all_good p xs (right_and (header_holds s p x) (list_all (header_holds s p) xs) good))
 
-  owner_reached : (ps : List RowPlace) → list_all (is_passed s image) ps ≡ true → reached s image ps ≡ spots_in s image ps
+  owner_reached : (ps : List RowPlace) → list_all (is_passed s image) ps ≡ true → reached_spots s image ps ≡ spots_in s image ps
   owner_reached [] good = refl
   owner_reached (p ∷ ps) good =
       let here = left_and (is_passed s image p) (list_all (is_passed s image) ps) good in
-      (λ i. all_good p (row_spots s image p) here i ++ cond (here i) (reached s image ps) [])
+      (λ i. all_good p (row_spots s image p) here i ++ cond (here i) (reached_spots s image ps) [])
       ∙ ap (λ l. row_spots s image p ++ l) (owner_reached ps (right_and (is_passed s image p) (list_all (is_passed s image) ps) good))
 
-  owners_reached : (owners : List (List RowPlace)) → list_all (is_passed s image) (together owners) ≡ true → flat_map (reached s image) owners ≡ spots_in s image (together owners)
+  owners_reached : (owners : List (List RowPlace)) → list_all (is_passed s image) (together owners) ≡ true → flat_map (reached_spots s image) owners ≡ spots_in s image (together owners)
   owners_reached [] good = refl
   owners_reached (ps ∷ owners) good =
       let first = list_all (is_passed s image) ps in
@@ -81,13 +81,13 @@ module _ (s : Sizes) (image : List ℕ) where
     none_behind (b ∷ before) behind e = cc e
 
     owner_to : (ps : List RowPlace) (owners : List (List RowPlace)) →
-        ((before behind : List RowPlace) → together owners ≡ before ++ (p ∷ behind) → list_all (is_passed s image) before ≡ true → BeginsWith before (flat_map (reached s image) owners)) →
-        (before behind : List RowPlace) → ps ++ together owners ≡ before ++ (p ∷ behind) → list_all (is_passed s image) before ≡ true → BeginsWith before (reached s image ps ++ flat_map (reached s image) owners)
+        ((before behind : List RowPlace) → together owners ≡ before ++ (p ∷ behind) → list_all (is_passed s image) before ≡ true → BeginsWith before (flat_map (reached_spots s image) owners)) →
+        (before behind : List RowPlace) → ps ++ together owners ≡ before ++ (p ∷ behind) → list_all (is_passed s image) before ≡ true → BeginsWith before (reached_spots s image ps ++ flat_map (reached_spots s image) owners)
     owner_to [] owners rest before behind so good = rest before behind so good
     owner_to (q ∷ ps) owners rest [] behind so good =
         let same : q ≡ p = cc so in
-        let others = flat_map (reached s image) owners in
-        let next = cond (is_passed s image q) (reached s image ps) [] in
+        let others = flat_map (reached_spots s image) owners in
+        let next = cond (is_passed s image q) (reached_spots s image ps) [] in
         let front = good_front s p later in (
           (front ++ next) ++ others,
           (λ i. (good_front s (same i) (row_spots s image (same i)) ++ next) ++ others)
@@ -100,18 +100,18 @@ module _ (s : Sizes) (image : List ℕ) where
         let same : q ≡ b = cc so in
         let tails : ps ++ together owners ≡ before ++ (p ∷ behind) = cc so in
         let passed = left_and (is_passed s image b) (list_all (is_passed s image) before) good in
-        let others = flat_map (reached s image) owners in
+        let others = flat_map (reached_spots s image) owners in
         let row = row_spots s image b in
         let r = owner_to ps owners rest before behind tails (right_and (is_passed s image b) (list_all (is_passed s image) before) good) in (
           r.0,
-          (λ i. (good_front s (same i) (row_spots s image (same i)) ++ cond (is_passed s image (same i)) (reached s image ps) []) ++ others)
-              ∙ (λ i. (all_good b row passed i ++ cond (passed i) (reached s image ps) []) ++ others)
-              ∙ append_assoc row (reached s image ps) others
+          (λ i. (good_front s (same i) (row_spots s image (same i)) ++ cond (is_passed s image (same i)) (reached_spots s image ps) []) ++ others)
+              ∙ (λ i. (all_good b row passed i ++ cond (passed i) (reached_spots s image ps) []) ++ others)
+              ∙ append_assoc row (reached_spots s image ps) others
               ∙ ap (λ l. row ++ l) r.1
               ∙ sym (append_assoc row (spots_in s image before) (first ++ (x ∷ r.0))),
         )
 
-    owners_to : (owners : List (List RowPlace)) (before behind : List RowPlace) → together owners ≡ before ++ (p ∷ behind) → list_all (is_passed s image) before ≡ true → BeginsWith before (flat_map (reached s image) owners)
+    owners_to : (owners : List (List RowPlace)) (before behind : List RowPlace) → together owners ≡ before ++ (p ∷ behind) → list_all (is_passed s image) before ≡ true → BeginsWith before (flat_map (reached_spots s image) owners)
     owners_to [] before behind so good = absurd (none_behind before behind so)
     owners_to (ps ∷ owners) before behind so good = owner_to ps owners (owners_to owners) before behind so good
 

@@ -5,7 +5,7 @@ use Rattle.std.specs.Str.{bytes_eq}
 use Rattle.std.specs.List.{list_all, flat_map}
 use Rattle.std.proofs.lemmas.Bool.{or_left, or_right}
 use Rattle.std.proofs.lemmas.List.{map-append}
-use Rattle.bd_model.specs.History.{History, version, contains}
+use Rattle.bd_model.specs.History.{VersionHistory, version, contains}
 use Rattle.bd_model.specs.Marks.{mark}
 use Rattle.bd_model.specs.Recipe.{recipe, entry_of, has_mark}
 use Rattle.bd_model.specs.Records.{Stored}
@@ -18,7 +18,7 @@ use Rattle.bd_restore.specs.Walk.{joined, is_found, is_wanted}
 use Rattle.bd_restore.proofs.StandingReads.{AreTold}
 
 -- chunks among which each of the version is once, and which marks tell apart from those of the version
-module _ (h : History) (v : ℕ) (ws : List (List ℕ)) (once : (c : List ℕ) → contains (version h v) c ≡ true → times ws c ≡ 1) (apart : (c : List ℕ) → contains ws c ≡ true → TellsApart c (version h v)) where
+module _ (h : VersionHistory) (v : ℕ) (ws : List (List ℕ)) (once : (c : List ℕ) → contains (version h v) c ≡ true → times ws c ≡ 1) (apart : (c : List ℕ) → contains ws c ≡ true → TellsApart c (version h v)) where
   abbrev cs : List (List ℕ)
   cs = version h v
 

@@ -8,9 +8,9 @@ use Rattle.std.proofs.lemmas.List.{take_at}
 use Rattle.bd_model.specs.declared.layout.Phase.{Phase}
 use Rattle.bd_model.specs.declared.layout.Phase.TheVariants.{Settled, Waiting}
 use Rattle.bd_model.specs.Chunks.{numbers}
-use Rattle.bd_model.specs.History.{History, version, newest, oldest, contains, distinct}
+use Rattle.bd_model.specs.History.{VersionHistory, version, newest, oldest, contains, distinct}
 use Rattle.bd_model.specs.Layout.{arranged_to, open_category, row_chunks}
-use Rattle.bd_model.specs.Laws.{front_of, walk}
+use Rattle.bd_model.specs.Laws.{front_of, walked_chunks}
 use Rattle.bd_model.proofs.ChunkListLemmas.{filter-within}
 use Rattle.bd_model.proofs.ListLemmas.{filter-all, flat_map-numbers}
 use Rattle.bd_model.proofs.PlaceLemmas.{a_version_uses_a_front}
@@ -22,9 +22,9 @@ use Rattle.bd_volume.proofs.ChunkCounts.{EachOnce, times, same_times, times-dist
 pub used_all : (p : List ℕ → Bool) (cs : List (List ℕ)) → ((c : List ℕ) → contains cs c ≡ true → p c ≡ true) → filter p cs ≡ cs
 used_all p cs all = filter-within p (λ _. true) cs all ∙ filter-all (λ _. true) (λ _. refl) cs
 
-module _ (h : History) (phase : Phase) (v : ℕ) (low : oldest h ≤ v) (high : v ≤ newest h) where
+module _ (h : VersionHistory) (phase : Phase) (v : ℕ) (low : oldest h ≤ v) (high : v ≤ newest h) where
   -- what a restore of the version finds has each of its chunks once
-  pub found_once : EachOnce (version h v) (walk h phase v)
+  pub found_once : EachOnce (version h v) (walked_chunks h phase v)
   found_once c = a_restore_finds_each_chunk_once (λ d. cond (bytes_eq c d) 1 0) h phase v low high ∙ times-distinct (version h v) c
 
   pub front-is : (j : ℕ) → v ≤ j → front h phase v j ≡ front_of h phase j v
@@ -34,7 +34,7 @@ module _ (h : History) (phase : Phase) (v : ℕ) (low : oldest h ≤ v) (high : 
   front_used j past =
       used_all (is_used h v) (front h phase v j) (λ c has. a_version_uses_a_front.used h phase v j c low past (ap (λ cs. contains cs c) (sym (front-is j past)) ∙ has))
 
-  bodies-found : bodies_read h phase v ≡ walk h phase v
+  bodies-found : bodies_read h phase v ≡ walked_chunks h phase v
   bodies-found =
       ap (λ cs. cs ++ flat_map (λ i. filter (is_used h v) (open_category h phase i)) (numbers (h.base + 1) v))
       (flat_map-numbers _ _ v (newest h - 1) (λ j from to. front_used j from ∙ front-is j from))

@@ -7,17 +7,17 @@ use Rattle.bd_category.specs.declared.fault.CategoryFault.TheVariants.{DiskFault
 use Rattle.bd_restore.specs.declared.fault.RestoreFault.{RestoreFault}
 use Rattle.bd_restore.specs.declared.fault.RestoreFault.TheVariants.{TargetFault, DiskFault, Damaged, OutOfMemory}
 
-abbrev pub fault_of : CategoryFault → RestoreFault
-fault_of RecordFault = DiskFault
-fault_of (BadRecord damage) = Damaged damage
+abbrev pub restore_fault_of : CategoryFault → RestoreFault
+restore_fault_of RecordFault = DiskFault
+restore_fault_of (BadRecord damage) = Damaged damage
 
 -- of the damage that is answered
-abbrev pub IfDamaged : {T : Type 0} → Result T RestoreFault → (Damage → Type 0) → Type 0
-IfDamaged (Ok value) P = Unit {0}
-IfDamaged (Err TargetFault) P = Unit {0}
-IfDamaged (Err DiskFault) P = Unit {0}
-IfDamaged (Err (Damaged damage)) P = P damage
-IfDamaged (Err OutOfMemory) P = Unit {0}
+abbrev pub IfDamageMet : {T : Type 0} → Result T RestoreFault → (Damage → Type 0) → Type 0
+IfDamageMet (Ok value) P = Unit {0}
+IfDamageMet (Err TargetFault) P = Unit {0}
+IfDamageMet (Err DiskFault) P = Unit {0}
+IfDamageMet (Err (Damaged damage)) P = P damage
+IfDamageMet (Err OutOfMemory) P = Unit {0}
 
 -- a fault of the disk or of the target comes only where its count rose; each count stays at every other answer
 abbrev pub DiskByCount : {T : Type 0} → ℕ → ℕ → Result T RestoreFault → Type 0
@@ -28,7 +28,7 @@ abbrev pub TargetByCount : {T : Type 0} → ℕ → ℕ → Result T RestoreFaul
 TargetByCount before now (Err TargetFault) = Rose before now
 TargetByCount before now _ = now ≡ before
 
-pub record FailsByDisk {T : Type 0} (before now : ℕ) (result : Result T RestoreFault) : Type 0 where
+pub record FailsByDiskCount {T : Type 0} (before now : ℕ) (result : Result T RestoreFault) : Type 0 where
   pub later : before ≤ now
   pub cause : DiskByCount before now result
 
@@ -38,7 +38,7 @@ pub record FailsByTarget {T : Type 0} (before now : ℕ) (result : Result T Rest
 
 -- the one and the other, and no want of memory; the counts of the disk come first
 pub record FailsByCounts {T : Type 0} (reads reads_now puts puts_now : ℕ) (result : Result T RestoreFault) : Type 0 where
-  pub disk : FailsByDisk reads reads_now result
+  pub disk : FailsByDiskCount reads reads_now result
   pub target : FailsByTarget puts puts_now result
   pub memory : result ≢ Err OutOfMemory
 

@@ -104,7 +104,7 @@ ComesTo w image rows damage places =
     (p : RowPlace) × (x : Spot) × (reached : IsReached w.sizes image rows p x) × BreaksAt w (records_before reached) p x damage places
 
 -- each row of the walk of version v holds, and so is each of these entries stored there
-pub record IsWhole (s : Sizes) (c : Catalogue) (image : List ℕ) (v : ℕ) (entries : List RecipeEntry) : Type 0 where
+pub record IsWholeVersion (s : Sizes) (c : Catalogue) (image : List ℕ) (v : ℕ) (entries : List RecipeEntry) : Type 0 where
   pub rows : IsTrue (list_all (part_holds s) (parts_for s c image v))
   pub entries_stored : IsTrue (list_all (is_stored (records_for s c image v)) entries)
 

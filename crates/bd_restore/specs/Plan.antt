@@ -8,7 +8,7 @@ use Rattle.bd_catalog.specs.Rows.{walk}
 use Rattle.bd_recipe.specs.Reading.{total}
 use Rattle.bd_recipe.specs.declared.fault.ReadFault.{ReadFault}
 use Rattle.bd_recipe.specs.declared.fault.ReadFault.TheVariants.{DiskFault, Damaged, OutOfMemory}
-use Rattle.bd_volume.specs.Pieces.{place_of}
+use Rattle.bd_volume.specs.Pieces.{row_of_piece}
 use Rattle.bd_volume.specs.declared.piece.Piece.{Piece}
 
 -- the version, its recipe, the rows to walk over, and how many bytes of a body fit
@@ -23,7 +23,7 @@ pub record IsPlanOf (s : Sizes) (c : Catalogue) (v : ℕ) (plan : Planned) : Typ
   pub version : plan.version ≡ v
   pub retained : oldest_in c ≤ v
   pub numbered : v ≤ c.newest
-  pub rows : map (place_of c) plan.pieces ≡ walk c v
+  pub rows : map (row_of_piece c) plan.pieces ≡ walk c v
   pub buffer : plan.room ≡ s.max
 
 -- no entry is filled yet

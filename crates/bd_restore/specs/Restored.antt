@@ -9,7 +9,7 @@ use Rattle.bd_catalog.specs.Damages.{IsOfVersion}
 use Rattle.bd_catalog.specs.Opening.{Found}
 use Rattle.bd_catalog.specs.Rows.{spots_in, walk}
 use Rattle.bd_catalog.specs.Sound.{recipe_of, records_for}
-use Rattle.bd_restore.specs.Met.{IsNeeded, IsOfRecipe, IsSeenAfter, IsWhole}
+use Rattle.bd_restore.specs.Met.{IsNeeded, IsOfRecipe, IsSeenAfter, IsWholeVersion}
 use Rattle.bd_restore.specs.Plan.{Planned}
 use Rattle.bd_restore.specs.Target.{held, HasChunks}
 use Rattle.bd_restore.specs.Walk.{joined, walk_reads}
@@ -22,7 +22,7 @@ pub record ReadsWalk (found : Found) (plan : Planned) (old new : History) : Type
   pub headers : HasGoodHeaders found.sizes (contents old) (walk found.catalogue plan.version)
 
 -- under the name stands, entry by entry, the body of the first record with its mark, and each chunk has its entry's mark
-pub record GivesBack (found : Found) (plan : Planned) (image name : List ℕ) (old new : FileMap) : Type 0 where
+pub record HasGivenBack (found : Found) (plan : Planned) (image name : List ℕ) (old new : FileMap) : Type 0 where
   pub file : new ≡ map.insert old name (joined plan.entries (records_for found.sizes found.catalogue image plan.version))
   pub checked : HasChunks plan.entries (held new name)
 
@@ -33,4 +33,4 @@ pub record IsMetBy (found : Found) (plan : Planned) (damage : Damage) (old new :
   pub walked : ¬ IsOfRecipe damage
   pub needed : IsNeeded plan.entries damage
   pub seen : plan.entries ≡ recipe_of found.sizes found.catalogue (contents old) plan.version → IsSeenAfter found.sizes found.catalogue (contents old) plan.version damage old new
-  pub whole : ¬ IsWhole found.sizes found.catalogue (contents old) plan.version plan.entries
+  pub whole : ¬ IsWholeVersion found.sizes found.catalogue (contents old) plan.version plan.entries

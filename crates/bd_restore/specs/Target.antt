@@ -33,13 +33,13 @@ pub record IsTarget (entries : List RecipeEntry) (name : List ℕ) (files : File
   pub long : length (held files name) ≡ total entries
 
 -- where the files tell, no more names were missing, and each other name has what it had, and is as unfinished as it was
-unfoldable pub KeepsOthers : {F : Type 0} → Ghosts F → List ℕ → F → F → Type 0
-KeepsOthers g name old new = g.tells → (g.strays new ≡ g.strays old) × ChangesOnly name (g.files old) (g.files new) × UnfinishesOnly name (g.unfinished old) (g.unfinished new)
+unfoldable pub KeepsOtherFiles : {F : Type 0} → Ghosts F → List ℕ → F → F → Type 0
+KeepsOtherFiles g name old new = g.tells → (g.strays new ≡ g.strays old) × ChangesOnly name (g.files old) (g.files new) × UnfinishesOnly name (g.unfinished old) (g.unfinished new)
 
 -- no more sources failed, and what the files tell beside the name stays
 pub record ChangesTarget {F : Type 0} (g : Ghosts F) (name : List ℕ) (old new : F) : Type 0 where
   pub sources : g.source_faults new ≡ g.source_faults old
-  pub others : KeepsOthers g name old new
+  pub others : KeepsOtherFiles g name old new
 
 -- the bytes of an entry's chunk in the target
 abbrev pub chunk_at : List RecipeEntry → ℕ → List ℕ → List ℕ
@@ -60,6 +60,6 @@ pub record Fills (entries : List RecipeEntry) (m : List ℕ) (limit : ℕ) (old 
   pub others : (k : ℕ) → k < length entries → mark_at entries k ≢ m → flag_at new k ≡ flag_at old k
 
 -- the body stands at the place of each of them; the others' chunks are as they were
-pub record Puts (entries : List RecipeEntry) (m body : List ℕ) (limit : ℕ) (old new : List ℕ) : Type 0 where
+pub record PutsBody (entries : List RecipeEntry) (m body : List ℕ) (limit : ℕ) (old new : List ℕ) : Type 0 where
   pub here : (k : ℕ) → k < limit → k < length entries → mark_at entries k ≡ m → chunk_at entries k new ≡ body
   pub others : (k : ℕ) → k < length entries → mark_at entries k ≢ m → chunk_at entries k new ≡ chunk_at entries k old

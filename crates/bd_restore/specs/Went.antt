@@ -12,8 +12,8 @@ use Rattle.bd_restore.specs.Target.{held, IsTarget}
 use Rattle.bd_restore.specs.Walk.{Gives, Sought, Walks}
 use Rattle.bd_volume.specs.Headers.{GoesOver, HasGoodHeaders}
 
-abbrev pub sizes_at : Placed → Sizes
-sizes_at placed = sizes_of placed.shape.now
+abbrev pub placed_sizes : Placed → Sizes
+placed_sizes placed = sizes_of placed.shape.now
 
 abbrev pub placed_row : Placed → RowPlace
 placed_row placed = row_place placed.who placed.extents.now placed.from placed.row
@@ -30,7 +30,7 @@ abbrev pub aim_of : Sizes → Wanted → List ℕ → Aim
 aim_of s wanted name = record { sought = sought_by s wanted; name = name }
 
 -- there is a flag for each entry and room for a body, and where the files tell, the target is there
-pub record IsReady {F : Type 0} (f : FileGhosts F) (a : Aim) (progress : Progress) (files : F) : Type 0 where
+pub record IsReadyToFill {F : Type 0} (f : FileGhosts F) (a : Aim) (progress : Progress) (files : F) : Type 0 where
   pub flags : length progress.filled.items ≡ length a.sought.entries
   pub buffer : length progress.buffer.items ≡ a.sought.sizes.max
   pub there : f.tells → IsTarget a.sought.entries a.name (f.files files)
@@ -46,7 +46,7 @@ moment progress disk files = record { progress = progress; disk = disk; files = 
 
 -- these records were walked over: what was read, which entries were filled, and what was given
 pub record Went {D F : Type 0} (d : Ghosts D) (f : FileGhosts F) (a : Aim) (spots : List Spot) (old new : Moment D F) : Type 0 where
-  pub ready : IsReady f a new.progress new.files
+  pub ready : IsReadyToFill f a new.progress new.files
   pub walk : d.tells → Walks a.sought.sizes a.sought.entries spots old.progress.filled.items new.progress.filled.items (d.history old.disk) (d.history new.disk)
   pub gives : d.tells → f.tells → Gives a.sought.entries spots old.progress.filled.items (held (f.files old.files) a.name) (held (f.files new.files) a.name)
 

@@ -16,9 +16,9 @@ pub enum RestoreFault {
 
 impl From<CategoryFault> for RestoreFault {
     ghost use Rattle.std.specs.Prelude.{◌≡◌};
-    ghost use Rattle.bd_restore.specs.Faults.{fault_of};
+    ghost use Rattle.bd_restore.specs.Faults.{restore_fault_of};
 
-    ghost from_gives = { λ fault e. e ≡ fault_of fault };
+    ghost from_gives = { λ fault e. e ≡ restore_fault_of fault };
 
     fn from(fault: CategoryFault) -> RestoreFault {
         match fault {

@@ -7,7 +7,7 @@ ghost use Rattle.bd_disk.specs.Trace.{ReadsOnly};
 ghost use Rattle.bd_model.specs.Sizes.{disk_bytes};
 ghost use Rattle.bd_roll.specs.Catalogue.{oldest_in};
 ghost use Rattle.bd_catalog.specs.Damages.{IsSeen};
-ghost use Rattle.bd_recipe.specs.Reading.{IfDamaged, InRecipe, IsRecipe, is_disk_fault, recipe_found, recipe_places};
+ghost use Rattle.bd_recipe.specs.Reading.{IfDamaged, InRecipe, IsRecipe, is_disk_fault_of_read, recipe_found, recipe_places};
 ghost use Rattle.bd_restore.specs.Plan.{AnswersPlan, IsFresh, IsPlanOf};
 
 use crate::tables::Tables;
@@ -83,7 +83,7 @@ pub fn plan_for<D: Disk>(
     requires oldest { oldest_in catalog.now.found.catalogue ≤ version }
     requires newest { version ≤ catalog.now.found.catalogue.newest }
     ensures disk { Reads D.Disk (InRecipe catalog.now.found.sizes catalog.now.found.catalogue version) disk.old disk.new }
-    ensures cause { FailsByCount is_disk_fault (D.faults disk.old) (D.faults disk.new) result }
+    ensures cause { FailsByCount is_disk_fault_of_read (D.faults disk.old) (D.faults disk.new) result }
     ensures plan { IfOk result (λ plan. IsPlanOf catalog.now.found.sizes catalog.now.found.catalogue version plan) }
     ensures recipe { IfOk result (λ plan. IsRecipe catalog.now.found.sizes catalog.now.found.catalogue version plan.entries) }
     ensures entries { D.tells → AnswersPlan (recipe_found catalog.now.found.sizes catalog.now.found.catalogue (contents (D.history disk.old)) version) result }

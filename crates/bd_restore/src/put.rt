@@ -2,16 +2,16 @@
 ghost use Rattle.std.specs.Prelude.{◌≡◌, ◌≢◌, ℕ, ◌<◌, ◌≤◌, length, true, OnOk, slice_set};
 ghost use Rattle.std.specs.FinMap as map;
 ghost use Rattle.bd_disk.specs.Images.{overwritten};
-ghost use Rattle.bd_restore.specs.Faults.{FailsByTarget, IfDamaged, OfTarget};
+ghost use Rattle.bd_restore.specs.Faults.{FailsByTarget, IfDamageMet, OfTarget};
 ghost use Rattle.bd_restore.specs.Met.{HasEntry};
-ghost use Rattle.bd_restore.specs.Target.{held, length_at, mark_at, place_at, ChangesTarget, Fills, IsTarget, Puts};
+ghost use Rattle.bd_restore.specs.Target.{held, length_at, mark_at, place_at, ChangesTarget, Fills, IsTarget, PutsBody};
 
 use crate::fault::RestoreFault;
 use crate::tables::Tables;
 use bd_files::Files;
 use bd_model::{Damage, Mark, Name};
 
-// Puts the body at the place of the entry of this index.
+// PutsBody the body at the place of the entry of this index.
 fn put_at<F: Files>(
     tables: &Tables,
     version: u32,
@@ -31,7 +31,7 @@ fn put_at<F: Files>(
     ensures sized { OnOk result (length body.now ≡ length_at tables.now index) }
     ensures filled { OnOk result (filled.new ≡ slice_set filled.old index true) }
     ensures put { OnOk result (F.tells → F.files files.new ≡ map.insert (F.files files.old) name.now (overwritten (held (F.files files.old) name.now) (place_at tables.now index) body.now)) }
-    ensures damage { IfDamaged result (λ damage. (m : Mark) × (damage ≡ Damage.Length version m (length_at tables.now index) (length body.now)) × (m.0 ≡ mark_at tables.now index) × (length body.now ≢ length_at tables.now index)) }
+    ensures damage { IfDamageMet result (λ damage. (m : Mark) × (damage ≡ Damage.Length version m (length_at tables.now index) (length body.now)) × (m.0 ≡ mark_at tables.now index) × (length body.now ≢ length_at tables.now index)) }
 {
     let entry = tables.entry(index);
     let found = body.len() as u32;
@@ -51,7 +51,7 @@ fn put_at<F: Files>(
     Ok(())
 }
 
-/// Puts the body at the place of each entry with this mark.
+/// PutsBody the body at the place of each entry with this mark.
 #[tactic(auto, using(crate::proofs::Frames::targets))]
 pub(crate) fn put_everywhere<F: Files>(
     tables: &Tables,
@@ -70,8 +70,8 @@ pub(crate) fn put_everywhere<F: Files>(
     ensures files { ChangesTarget F.Files name.now files.old files.new }
     ensures there { OnOk result (F.tells → IsTarget tables.now name.now (F.files files.new)) }
     ensures filled { OnOk result (Fills tables.now mark.now.0 (length tables.now) filled.old filled.new) }
-    ensures put { OnOk result (F.tells → Puts tables.now mark.now.0 body.now (length tables.now) (held (F.files files.old) name.now) (held (F.files files.new) name.now)) }
-    ensures damage { IfDamaged result (λ damage. (e : ℕ) × (m : Mark) × (damage ≡ Damage.Length version m e (length body.now)) × (m.0 ≡ mark.now.0) × (length body.now ≢ e) × HasEntry tables.now mark.now.0 e) }
+    ensures put { OnOk result (F.tells → PutsBody tables.now mark.now.0 body.now (length tables.now) (held (F.files files.old) name.now) (held (F.files files.new) name.now)) }
+    ensures damage { IfDamageMet result (λ damage. (e : ℕ) × (m : Mark) × (damage ≡ Damage.Length version m e (length body.now)) × (m.0 ≡ mark.now.0) × (length body.now ≢ e) × HasEntry tables.now mark.now.0 e) }
 {
     let mut next = tables.first(mark);
     while let Some(index) = next {

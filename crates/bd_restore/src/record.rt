@@ -5,15 +5,15 @@ ghost use Rattle.bd_disk.specs.Runs.{Reads};
 ghost use Rattle.bd_extio.specs.Owned.{owned_on};
 ghost use Rattle.bd_extio.specs.Ranges.{AreExtents, IsWithin};
 ghost use Rattle.bd_category.specs.Places.{InBody, ReadsBody};
-ghost use Rattle.bd_category.specs.Records.{AnswersBody, body_at, is_disk_fault};
+ghost use Rattle.bd_category.specs.Records.{AnswersBody, body_at, is_disk_fault_of_record};
 ghost use Rattle.bd_catalog.specs.Rows.{row_end};
 ghost use Rattle.bd_model.specs.Sizes.{disk_bytes};
 ghost use Rattle.bd_model.specs.Records.{Stored};
-ghost use Rattle.bd_restore.specs.Faults.{FailsByCounts, IfDamaged};
+ghost use Rattle.bd_restore.specs.Faults.{FailsByCounts, IfDamageMet};
 ghost use Rattle.bd_restore.specs.Met.{MeetsAt};
 ghost use Rattle.bd_restore.specs.Target.{ChangesTarget};
 ghost use Rattle.bd_restore.specs.Walk.{is_wanted, AreFlags, InRow, IsInRoom};
-ghost use Rattle.bd_restore.specs.Went.{aim_of, moment, placed_row, sizes_at, sought_by, IsReady, Passes, WentPast};
+ghost use Rattle.bd_restore.specs.Went.{aim_of, moment, placed_row, placed_sizes, sought_by, IsReadyToFill, Passes, WentPast};
 
 use crate::fault::RestoreFault;
 use crate::plan::{Progress, Wanted};
@@ -52,14 +52,14 @@ fn read_front<D: Disk>(
     header: &Header,
     buffer: &mut [u8],
 ) -> Result<(), CategoryFault>
-    requires room { disk_bytes (sizes_at placed.now) ≤ D.bytes disk.old }
-    requires numbers { AreExtents (sizes_at placed.now) placed.now.extents.now }
-    requires within { IsWithin (sizes_at placed.now) placed.now.extents.now header.now.at (36 + header.now.length) }
+    requires room { disk_bytes (placed_sizes placed.now) ≤ D.bytes disk.old }
+    requires numbers { AreExtents (placed_sizes placed.now) placed.now.extents.now }
+    requires within { IsWithin (placed_sizes placed.now) placed.now.extents.now header.now.at (36 + header.now.length) }
     requires sized { header.now.length ≤ length buffer.old }
-    ensures disk { Reads D.Disk (InBody (sizes_at placed.now) placed.now.extents.now header.now) disk.old disk.new }
-    ensures cause { FailsByCount is_disk_fault (D.faults disk.old) (D.faults disk.new) result }
-    ensures body { D.tells → AnswersBody placed.now.who header.now (body_at header.now (owned_on D.Disk (sizes_at placed.now) placed.now.extents.now disk.old)) (take header.now.length buffer.new) result }
-    ensures places { D.tells → ReadsBody (sizes_at placed.now) placed.now.extents.now header.now (D.history disk.old) (D.history disk.new) result }
+    ensures disk { Reads D.Disk (InBody (placed_sizes placed.now) placed.now.extents.now header.now) disk.old disk.new }
+    ensures cause { FailsByCount is_disk_fault_of_record (D.faults disk.old) (D.faults disk.new) result }
+    ensures body { D.tells → AnswersBody placed.now.who header.now (body_at header.now (owned_on D.Disk (placed_sizes placed.now) placed.now.extents.now disk.old)) (take header.now.length buffer.new) result }
+    ensures places { D.tells → ReadsBody (placed_sizes placed.now) placed.now.extents.now header.now (D.history disk.old) (D.history disk.new) result }
 {
     let body = &mut buffer[..header.length as usize];
     read_body(disk, placed.shape, placed.extents, placed.who, header, body)
@@ -78,17 +78,17 @@ impl Wanted {
         files: &mut F,
         name: &Name,
     ) -> Result<u64, RestoreFault>
-        requires room { disk_bytes (sizes_at placed.now) ≤ D.bytes disk.old }
-        requires inside { IsInRoom (sizes_at placed.now) (placed_row placed.now) }
+        requires room { disk_bytes (placed_sizes placed.now) ≤ D.bytes disk.old }
+        requires inside { IsInRoom (placed_sizes placed.now) (placed_row placed.now) }
         requires from { placed.now.from ≤ at }
         requires to { at ≤ row_end (placed_row placed.now) }
-        requires ready { IsReady F.Files (aim_of (sizes_at placed.now) self.now name.now) progress.old files.old }
-        ensures disk { Reads D.Disk (InRow (sizes_at placed.now) (placed_row placed.now)) disk.old disk.new }
+        requires ready { IsReadyToFill F.Files (aim_of (placed_sizes placed.now) self.now name.now) progress.old files.old }
+        ensures disk { Reads D.Disk (InRow (placed_sizes placed.now) (placed_row placed.now)) disk.old disk.new }
         ensures files { ChangesTarget F.Files name.now files.old files.new }
         ensures cause { FailsByCounts (D.faults disk.old) (D.faults disk.new) (F.target_faults files.old) (F.target_faults files.new) result }
-        ensures next { IfOk result (λ next. Passes D.Disk (sizes_at placed.now) (placed_row placed.now) disk.old at next) }
-        ensures went { OnOk result (WentPast D.Disk F.Files (aim_of (sizes_at placed.now) self.now name.now) (placed_row placed.now) at (moment progress.old disk.old files.old) (moment progress.new disk.new files.new)) }
-        ensures damage { IfDamaged result (MeetsAt D.Disk (sought_by (sizes_at placed.now) self.now) (placed_row placed.now) at (moment progress.old disk.old files.old) (moment progress.new disk.new files.new)) }
+        ensures next { IfOk result (λ next. Passes D.Disk (placed_sizes placed.now) (placed_row placed.now) disk.old at next) }
+        ensures went { OnOk result (WentPast D.Disk F.Files (aim_of (placed_sizes placed.now) self.now name.now) (placed_row placed.now) at (moment progress.old disk.old files.old) (moment progress.new disk.new files.new)) }
+        ensures damage { IfDamageMet result (MeetsAt D.Disk (sought_by (placed_sizes placed.now) self.now) (placed_row placed.now) at (moment progress.old disk.old files.old) (moment progress.new disk.new files.new)) }
     {
         let end = placed.from + placed.row.bytes;
         let header = read_header(disk, placed.shape, placed.extents, placed.who, at, end)?;

@@ -6,9 +6,9 @@ ghost use Rattle.bd_files.specs.Files.{IsFinished};
 ghost use Rattle.bd_model.specs.Sizes.{disk_bytes};
 ghost use Rattle.bd_catalog.specs.Rows.{walk};
 ghost use Rattle.bd_recipe.specs.Reading.{total};
-ghost use Rattle.bd_restore.specs.Faults.{FailsByCounts, IfDamaged};
+ghost use Rattle.bd_restore.specs.Faults.{FailsByCounts, IfDamageMet};
 ghost use Rattle.bd_restore.specs.Plan.{IsPlanOf};
-ghost use Rattle.bd_restore.specs.Restored.{GivesBack, IsMetBy, ReadsWalk};
+ghost use Rattle.bd_restore.specs.Restored.{HasGivenBack, IsMetBy, ReadsWalk};
 ghost use Rattle.bd_restore.specs.Target.{ChangesTarget};
 ghost use Rattle.bd_restore.specs.Walk.{InRows};
 
@@ -38,10 +38,10 @@ pub fn run_plan<D: Disk, F: Files>(
     ensures files { ChangesTarget F.Files name.now files.old files.new }
     ensures cause { FailsByCounts (D.faults disk.old) (D.faults disk.new) (F.target_faults files.old) (F.target_faults files.new) result }
     ensures length { IfOk result (λ bytes. bytes ≡ total plan.entries) }
-    ensures file { OnOk result (D.tells → F.tells → GivesBack catalog.now.found plan (contents (D.history disk.old)) name.now (F.files files.old) (F.files files.new)) }
+    ensures file { OnOk result (D.tells → F.tells → HasGivenBack catalog.now.found plan (contents (D.history disk.old)) name.now (F.files files.old) (F.files files.new)) }
     ensures finished { OnOk result (F.tells → IsFinished name.now (F.unfinished files.new)) }
     ensures read { OnOk result (D.tells → ReadsWalk catalog.now.found plan (D.history disk.old) (D.history disk.new)) }
-    ensures damage { IfDamaged result (λ damage. D.tells → IsMetBy catalog.now.found plan damage (D.history disk.old) (D.history disk.new)) }
+    ensures damage { IfDamageMet result (λ damage. D.tells → IsMetBy catalog.now.found plan damage (D.history disk.old) (D.history disk.new)) }
 {
     let (wanted, mut progress) = plan.into_parts();
     if files.begin(name, wanted.length).is_err() {

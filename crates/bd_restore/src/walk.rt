@@ -4,12 +4,12 @@ ghost use Rattle.bd_disk.specs.Runs.{Reads};
 ghost use Rattle.bd_model.specs.Sizes.{disk_bytes};
 ghost use Rattle.bd_roll.specs.Catalogue.{oldest_in};
 ghost use Rattle.bd_catalog.specs.Rows.{walk};
-ghost use Rattle.bd_restore.specs.Faults.{FailsByCounts, IfDamaged};
+ghost use Rattle.bd_restore.specs.Faults.{FailsByCounts, IfDamageMet};
 ghost use Rattle.bd_restore.specs.Met.{MeetsOn};
 ghost use Rattle.bd_restore.specs.Target.{ChangesTarget};
 ghost use Rattle.bd_restore.specs.Walk.{InRow, InRows, IsInRoom};
-ghost use Rattle.bd_restore.specs.Went.{aim_of, moment, placed_row, sizes_at, sought_by, IsReady, WentOver};
-ghost use Rattle.bd_volume.specs.Pieces.{place_of};
+ghost use Rattle.bd_restore.specs.Went.{aim_of, moment, placed_row, placed_sizes, sought_by, IsReadyToFill, WentOver};
+ghost use Rattle.bd_volume.specs.Pieces.{row_of_piece};
 
 use crate::fault::RestoreFault;
 use crate::owner::extents_of;
@@ -32,14 +32,14 @@ impl Wanted {
         files: &mut F,
         name: &Name,
     ) -> Result<(), RestoreFault>
-        requires room { disk_bytes (sizes_at placed.now) ≤ D.bytes disk.old }
-        requires inside { IsInRoom (sizes_at placed.now) (placed_row placed.now) }
-        requires ready { IsReady F.Files (aim_of (sizes_at placed.now) self.now name.now) progress.old files.old }
-        ensures disk { Reads D.Disk (InRow (sizes_at placed.now) (placed_row placed.now)) disk.old disk.new }
+        requires room { disk_bytes (placed_sizes placed.now) ≤ D.bytes disk.old }
+        requires inside { IsInRoom (placed_sizes placed.now) (placed_row placed.now) }
+        requires ready { IsReadyToFill F.Files (aim_of (placed_sizes placed.now) self.now name.now) progress.old files.old }
+        ensures disk { Reads D.Disk (InRow (placed_sizes placed.now) (placed_row placed.now)) disk.old disk.new }
         ensures files { ChangesTarget F.Files name.now files.old files.new }
         ensures cause { FailsByCounts (D.faults disk.old) (D.faults disk.new) (F.target_faults files.old) (F.target_faults files.new) result }
-        ensures went { OnOk result (WentOver D.Disk F.Files (aim_of (sizes_at placed.now) self.now name.now) (placed_row placed.now ∷ []) (moment progress.old disk.old files.old) (moment progress.new disk.new files.new)) }
-        ensures damage { IfDamaged result (MeetsOn D.Disk (sought_by (sizes_at placed.now) self.now) (placed_row placed.now ∷ []) (moment progress.old disk.old files.old) (moment progress.new disk.new files.new)) }
+        ensures went { OnOk result (WentOver D.Disk F.Files (aim_of (placed_sizes placed.now) self.now name.now) (placed_row placed.now ∷ []) (moment progress.old disk.old files.old) (moment progress.new disk.new files.new)) }
+        ensures damage { IfDamageMet result (MeetsOn D.Disk (sought_by (placed_sizes placed.now) self.now) (placed_row placed.now ∷ []) (moment progress.old disk.old files.old) (moment progress.new disk.new files.new)) }
     {
         let mut at = placed.from;
         for done in 0..placed.row.chunks {
@@ -61,13 +61,13 @@ impl Wanted {
         requires room { disk_bytes catalog.now.found.sizes ≤ D.bytes disk.old }
         requires retained { oldest_in catalog.now.found.catalogue ≤ self.now.version }
         requires numbered { self.now.version ≤ catalog.now.found.catalogue.newest }
-        requires row { Contains (walk catalog.now.found.catalogue self.now.version) (place_of catalog.now.found.catalogue piece) }
-        requires ready { IsReady F.Files (aim_of catalog.now.found.sizes self.now name.now) progress.old files.old }
-        ensures disk { Reads D.Disk (InRow catalog.now.found.sizes (place_of catalog.now.found.catalogue piece)) disk.old disk.new }
+        requires row { Contains (walk catalog.now.found.catalogue self.now.version) (row_of_piece catalog.now.found.catalogue piece) }
+        requires ready { IsReadyToFill F.Files (aim_of catalog.now.found.sizes self.now name.now) progress.old files.old }
+        ensures disk { Reads D.Disk (InRow catalog.now.found.sizes (row_of_piece catalog.now.found.catalogue piece)) disk.old disk.new }
         ensures files { ChangesTarget F.Files name.now files.old files.new }
         ensures cause { FailsByCounts (D.faults disk.old) (D.faults disk.new) (F.target_faults files.old) (F.target_faults files.new) result }
-        ensures went { OnOk result (WentOver D.Disk F.Files (aim_of catalog.now.found.sizes self.now name.now) (place_of catalog.now.found.catalogue piece ∷ []) (moment progress.old disk.old files.old) (moment progress.new disk.new files.new)) }
-        ensures damage { IfDamaged result (MeetsOn D.Disk (sought_by catalog.now.found.sizes self.now) (place_of catalog.now.found.catalogue piece ∷ []) (moment progress.old disk.old files.old) (moment progress.new disk.new files.new)) }
+        ensures went { OnOk result (WentOver D.Disk F.Files (aim_of catalog.now.found.sizes self.now name.now) (row_of_piece catalog.now.found.catalogue piece ∷ []) (moment progress.old disk.old files.old) (moment progress.new disk.new files.new)) }
+        ensures damage { IfDamageMet result (MeetsOn D.Disk (sought_by catalog.now.found.sizes self.now) (row_of_piece catalog.now.found.catalogue piece ∷ []) (moment progress.old disk.old files.old) (moment progress.new disk.new files.new)) }
     {
         let shape = catalog.shape();
         let row = CategoryRow {
@@ -98,13 +98,13 @@ impl Wanted {
         requires room { disk_bytes catalog.now.found.sizes ≤ D.bytes disk.old }
         requires retained { oldest_in catalog.now.found.catalogue ≤ self.now.version }
         requires numbered { self.now.version ≤ catalog.now.found.catalogue.newest }
-        requires rows { map (place_of catalog.now.found.catalogue) self.now.pieces.items ≡ walk catalog.now.found.catalogue self.now.version }
-        requires ready { IsReady F.Files (aim_of catalog.now.found.sizes self.now name.now) progress.old files.old }
+        requires rows { map (row_of_piece catalog.now.found.catalogue) self.now.pieces.items ≡ walk catalog.now.found.catalogue self.now.version }
+        requires ready { IsReadyToFill F.Files (aim_of catalog.now.found.sizes self.now name.now) progress.old files.old }
         ensures disk { Reads D.Disk (InRows catalog.now.found.sizes (walk catalog.now.found.catalogue self.now.version)) disk.old disk.new }
         ensures files { ChangesTarget F.Files name.now files.old files.new }
         ensures cause { FailsByCounts (D.faults disk.old) (D.faults disk.new) (F.target_faults files.old) (F.target_faults files.new) result }
         ensures went { OnOk result (WentOver D.Disk F.Files (aim_of catalog.now.found.sizes self.now name.now) (walk catalog.now.found.catalogue self.now.version) (moment progress.old disk.old files.old) (moment progress.new disk.new files.new)) }
-        ensures damage { IfDamaged result (MeetsOn D.Disk (sought_by catalog.now.found.sizes self.now) (walk catalog.now.found.catalogue self.now.version) (moment progress.old disk.old files.old) (moment progress.new disk.new files.new)) }
+        ensures damage { IfDamageMet result (MeetsOn D.Disk (sought_by catalog.now.found.sizes self.now) (walk catalog.now.found.catalogue self.now.version) (moment progress.old disk.old files.old) (moment progress.new disk.new files.new)) }
     {
         for piece in self.pieces.as_slice() {
             self.run_piece(progress, disk, catalog, *piece, files, name)?;

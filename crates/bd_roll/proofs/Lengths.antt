@@ -11,10 +11,10 @@ use Rattle.bd_model.specs.Records.{four}
 use Rattle.bd_model.specs.declared.layout.Phase.{Phase}
 use Rattle.bd_model.specs.declared.layout.Phase.TheVariants.{Settled, Waiting}
 use Rattle.bd_model.specs.declared.layout.CategoryRow.{CategoryRow}
-use Rattle.bd_roll.specs.Catalogue.{Catalogue, VersionEntry, VolumeEntry, OpenEntry, oldest_in, starts_of}
+use Rattle.bd_roll.specs.Catalogue.{Catalogue, VersionEntry, VolumeEntry, OpenEntry, oldest_in, row_starts}
 use Rattle.bd_roll.specs.Spelling.{spelled_extents, spelled_phase, spelled_row, spelled_version, spelled_volume, spelled_active, spelled}
 use Rattle.bd_roll.specs.Rules.{ascends, starts_hold, active_holds, obeys}
-use Rattle.bd_roll.proofs.Obeying.{ascends_count, IsBounded, rules_of, numbers_of, owned_of, row_of, open_row_of, count_in_category}
+use Rattle.bd_roll.proofs.RuleLemmas.{ascends_count, IsBounded, rules_of, numbers_of, owned_of, row_of, open_row_of, count_in_category}
 
 pub length-fours : (ns : List ℕ) → length (flat_map four ns) ≡ 4 * length ns
 length-fours [] = refl
@@ -48,9 +48,9 @@ length-volumes : (oldest i : ℕ) (es : List VolumeEntry) → starts_hold oldest
     length (flat_map spelled_volume es) + 10 * (i * (i + 1)) ≤ 8 * length es + 10 * ((i + length es) * (i + length es + 1)) + 4 * length (flat_map (λ e. e.extents) es)
 length-volumes oldest i [] h = omega arith
 length-volumes oldest i (e ∷ es) h =
-    let up_to = left_and (ascends oldest (oldest + i) (starts_of e.rows)) (starts_hold oldest (oldest + i + 1) es) h in
-    let behind : starts_hold oldest (oldest + (i + 1)) es ≡ true = ap (λ (j : ℕ). starts_hold oldest j es) (omega arith) ∙ right_and (ascends oldest (oldest + i) (starts_of e.rows)) (starts_hold oldest (oldest + i + 1) es) h in
-    let rows : length e.rows ≤ i + 1 = omega (arith, ascends_count oldest (oldest + i) (starts_of e.rows) up_to, length-map e.rows (λ (row : CategoryRow). row.start)) in
+    let up_to = left_and (ascends oldest (oldest + i) (row_starts e.rows)) (starts_hold oldest (oldest + i + 1) es) h in
+    let behind : starts_hold oldest (oldest + (i + 1)) es ≡ true = ap (λ (j : ℕ). starts_hold oldest j es) (omega arith) ∙ right_and (ascends oldest (oldest + i) (row_starts e.rows)) (starts_hold oldest (oldest + i + 1) es) h in
+    let rows : length e.rows ≤ i + 1 = omega (arith, ascends_count oldest (oldest + i) (row_starts e.rows) up_to, length-map e.rows (λ (row : CategoryRow). row.start)) in
     omega (arith, length-volume e, length-append (spelled_volume e) (flat_map spelled_volume es), length-volumes oldest (i + 1) es behind, length-append e.extents (flat_map (λ (v : VolumeEntry). v.extents) es))
 
 some_extent : (s : Sizes) → IsBounded s → (e : OpenEntry) → active_holds s e ≡ true → 1 ≤ length e.extents

@@ -8,8 +8,8 @@ use Rattle.bd_roll.specs.Catalogue.{Catalogue, VersionEntry, VolumeEntry}
 use Rattle.bd_roll.specs.Reading.{Took, SpellsNone, FitMany, spelled_actives}
 use Rattle.bd_roll.specs.Spelling.{read_version, read_volume, spelled_phase, spelled_version, spelled_volume, spelled_active, spelled}
 use Rattle.bd_roll.specs.Widths.{FitList, FitsPhase, FitsVersion, FitsVolume, FitsOpen, IsSpellable}
-use Rattle.bd_roll.proofs.Spelling.{version_back, volume_back, spelled_apart, behind_phase}
-use Rattle.bd_roll.proofs.Reading.{same_behind}
+use Rattle.bd_roll.proofs.ReadBack.{version_back, volume_back, spelled_apart, behind_phase}
+use Rattle.bd_roll.proofs.OneSpelling.{same_behind}
 
 -- what is left behind the fields that were taken, where the bytes spell the catalogue
 abbrev behind_volumes : Catalogue → List ℕ → List ℕ

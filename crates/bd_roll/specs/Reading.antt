@@ -20,8 +20,8 @@ abbrev pub EndsItself : {A : Type 0} → (A → List ℕ) → (A → Type 0) →
 EndsItself {A} spell fits = (x y : A) (rest others : List ℕ) → fits x → fits y → spell x ++ rest ≡ spell y ++ others → rest ≡ others
 
 -- what was found shows what the bytes began with; nothing is found where they begin with no spelling
-abbrev pub Takes : {A X : Type 0} → (A → List ℕ) → (A → Type 0) → (X → A) → Option X → List ℕ → List ℕ → Type 0
-Takes spell fits entry found old new = MatchOption found (SpellsNone spell fits old) (λ x. Took spell fits (entry x) old new)
+abbrev pub TakesSpelling : {A X : Type 0} → (A → List ℕ) → (A → Type 0) → (X → A) → Option X → List ℕ → List ℕ → Type 0
+TakesSpelling spell fits entry found old new = MatchOption found (SpellsNone spell fits old) (λ x. Took spell fits (entry x) old new)
 
 -- so many of them, and each fits
 pub record FitMany {A : Type 0} (fits : A → Type 0) (count : ℕ) (items : List A) : Type 0 where

@@ -6,7 +6,7 @@ use Rattle.bd_model.specs.Room.{up}
 use Rattle.bd_model.specs.declared.layout.Phase.{Phase}
 use Rattle.bd_model.specs.declared.layout.Phase.TheVariants.{Settled, Waiting}
 use Rattle.bd_model.specs.declared.layout.CategoryRow.{CategoryRow}
-use Rattle.bd_roll.specs.Catalogue.{Catalogue, VersionEntry, VolumeEntry, OpenEntry, oldest_in, starts_of, bytes_of_rows, all_extents}
+use Rattle.bd_roll.specs.Catalogue.{Catalogue, VersionEntry, VolumeEntry, OpenEntry, oldest_in, row_starts, bytes_of_rows, all_extents}
 use Rattle.bd_roll.specs.Spelling.{spelled, read_catalogue}
 
 -- from low to high, each greater than the one before
@@ -45,7 +45,7 @@ version_holds s e =
 -- the rows of a volume ascend from the oldest retained version to the volume's number
 abbrev pub starts_hold : ℕ → ℕ → List VolumeEntry → Bool
 starts_hold oldest j [] = true
-starts_hold oldest j (e ∷ es) = ascends oldest j (starts_of e.rows) && starts_hold oldest (j + 1) es
+starts_hold oldest j (e ∷ es) = ascends oldest j (row_starts e.rows) && starts_hold oldest (j + 1) es
 
 -- the open categories ascend, and there is none where nothing is retained
 abbrev pub actives_hold : Catalogue → Bool

@@ -11,23 +11,23 @@ use Rattle.bd_roll.specs.Rules.{obeys}
 use Rattle.bd_roll.specs.Shown.{version_entry, open_entry}
 use Rattle.bd_roll.specs.Splitting.{KeptEntry, FitsArrange, FitsExpire, after_arrange, after_expire, expired, kept_extents, replaced}
 
-abbrev pub fresh_entries : Option ActiveCategory → List OpenEntry
-fresh_entries None = []
-fresh_entries (Some category) = open_entry category ∷ []
+abbrev pub fresh_actives : Option ActiveCategory → List OpenEntry
+fresh_actives None = []
+fresh_actives (Some category) = open_entry category ∷ []
 
 -- what is kept of each category that is split
 abbrev pub kept_entry : SplitRow → KeptEntry
-kept_entry split = record { start = split.start; kept = fresh_entries split.kept }
+kept_entry split = record { start = split.start; kept = fresh_actives split.kept }
 
 -- the catalogue after the step
 abbrev pub stepped : Catalogue → Step → Catalogue
-stepped c (Backup version fresh) = after_backup c (version_entry version) (fresh_entries fresh)
+stepped c (Backup version fresh) = after_backup c (version_entry version) (fresh_actives fresh)
 stepped c Expire = after_expire c
 stepped c (Arrange volume splits) = after_arrange c volume.rows.items volume.extents.numbers (map kept_entry splits.items)
 
 -- the extents that the step brings
 abbrev pub brought : Step → List ℕ
-brought (Backup version fresh) = version.recipe.numbers ++ flat_map (λ e. e.extents) (fresh_entries fresh)
+brought (Backup version fresh) = version.recipe.numbers ++ flat_map (λ e. e.extents) (fresh_actives fresh)
 brought Expire = []
 brought (Arrange volume splits) = volume.extents.numbers ++ kept_extents (map kept_entry splits.items)
 
@@ -51,6 +51,6 @@ pub record FitsBackup (s : Sizes) (c : Catalogue) (version : VersionEntry) (fres
 
 -- a step that can be made
 abbrev pub Fits : Sizes → Catalogue → Step → Type 0
-Fits s c (Backup version fresh) = FitsBackup s c (version_entry version) (fresh_entries fresh)
+Fits s c (Backup version fresh) = FitsBackup s c (version_entry version) (fresh_actives fresh)
 Fits s c Expire = FitsExpire c
 Fits s c (Arrange volume splits) = FitsArrange s c volume.rows.items volume.extents.numbers (map kept_entry splits.items)

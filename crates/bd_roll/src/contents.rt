@@ -4,7 +4,7 @@ ghost use Rattle.bd_roll.specs.Catalogue.{retained_in, oldest_in};
 ghost use Rattle.bd_roll.specs.Growing.{after_backup};
 ghost use Rattle.bd_roll.specs.Capacity.{RoomIs, room_of};
 ghost use Rattle.bd_roll.specs.Shown.{catalogue_of_contents, version_entry};
-ghost use Rattle.bd_roll.specs.Steps.{fresh_entries};
+ghost use Rattle.bd_roll.specs.Steps.{fresh_actives};
 
 use crate::rows::{ActiveCategory, Actives, ClosedVolume, Rows, VersionRow};
 use bd_model::Phase;
@@ -57,7 +57,7 @@ impl Contents {
         requires actives { 1 ≤ (room_of self.old).actives }
         requires base { self.old.base ≤ self.old.newest }
         requires number { self.old.newest + 1 < 2 ^ 32 }
-        ensures { catalogue_of_contents self.new ≡ after_backup (catalogue_of_contents self.old) (version_entry version) (fresh_entries fresh) }
+        ensures { catalogue_of_contents self.new ≡ after_backup (catalogue_of_contents self.old) (version_entry version) (fresh_actives fresh) }
     {
         self.phase = Phase::Settled;
         if self.versions.len() > 0 {

@@ -2,7 +2,7 @@
 ghost use Rattle.std.specs.Prelude.{◌≡◌, ℕ, ◌+◌, ◌-◌, ◌^◌, ◌<◌, ◌≤◌, List, ◌++◌, length, map, All, IfSome, IfNone, IfOk};
 ghost use Rattle.std.specs.List.{flat_map};
 ghost use Rattle.bd_model.specs.Records.{four, eight};
-ghost use Rattle.bd_roll.specs.Reading.{Took, SpellsNone, Takes, FitMany, spelled_rows, spelled_actives};
+ghost use Rattle.bd_roll.specs.Reading.{Took, SpellsNone, TakesSpelling, FitMany, spelled_rows, spelled_actives};
 ghost use Rattle.bd_roll.specs.Spelling.{spelled_extents, spelled_phase, spelled_row, spelled_version, spelled_volume, spelled_active, spelled};
 ghost use Rattle.bd_roll.specs.Shown.{version_entry, volume_entry, open_entry, catalogue_of_contents};
 ghost use Rattle.bd_roll.specs.Widths.{FitList, FitsFour, FitsRow, FitsVersion, FitsVolume, FitsOpen, FitsPhase, IsSpellable};
@@ -67,7 +67,7 @@ fn take_phase(cursor: &mut Cursor) -> Option<Phase>
 }
 
 pub(crate) fn take_extents(alloc: Global, cursor: &mut Cursor) -> Result<Option<Owned>, OutOfMemory>
-    ensures { IfOk result (λ found. Takes spelled_extents (FitList FitsFour) (λ owned. owned.numbers) found cursor.old cursor.new) }
+    ensures { IfOk result (λ found. TakesSpelling spelled_extents (FitList FitsFour) (λ owned. owned.numbers) found cursor.old cursor.new) }
 {
     let Some(count) = cursor.take_u32() else {
         return Ok(None);
@@ -86,7 +86,7 @@ pub(crate) fn take_extents(alloc: Global, cursor: &mut Cursor) -> Result<Option<
 }
 
 pub(crate) fn take_rows(alloc: Global, cursor: &mut Cursor) -> Result<Option<Rows>, OutOfMemory>
-    ensures { IfOk result (λ found. Takes spelled_rows (FitList FitsRow) (λ rows. rows.items) found cursor.old cursor.new) }
+    ensures { IfOk result (λ found. TakesSpelling spelled_rows (FitList FitsRow) (λ rows. rows.items) found cursor.old cursor.new) }
 {
     let Some(count) = cursor.take_u32() else {
         return Ok(None);
@@ -106,7 +106,7 @@ pub(crate) fn take_rows(alloc: Global, cursor: &mut Cursor) -> Result<Option<Row
 }
 
 fn take_actives(alloc: Global, cursor: &mut Cursor) -> Result<Option<Actives>, OutOfMemory>
-    ensures { IfOk result (λ found. Takes spelled_actives (FitList FitsOpen) (λ actives. map open_entry actives.items) found cursor.old cursor.new) }
+    ensures { IfOk result (λ found. TakesSpelling spelled_actives (FitList FitsOpen) (λ actives. map open_entry actives.items) found cursor.old cursor.new) }
 {
     let Some(count) = cursor.take_u32() else {
         return Ok(None);
@@ -118,9 +118,9 @@ fn take_actives(alloc: Global, cursor: &mut Cursor) -> Result<Option<Actives>, O
     Ok(Some(Actives::from_vec(actives)))
 }
 
-/// Takes a catalogue off the front; None where the bytes begin with no spelling of one.
+/// TakesSpelling a catalogue off the front; None where the bytes begin with no spelling of one.
 pub fn take_contents(alloc: Global, cursor: &mut Cursor) -> Result<Option<Contents>, OutOfMemory>
-    ensures { IfOk result (λ found. Takes spelled IsSpellable catalogue_of_contents found cursor.old cursor.new) }
+    ensures { IfOk result (λ found. TakesSpelling spelled IsSpellable catalogue_of_contents found cursor.old cursor.new) }
 {
     let Some((base, newest, count)) = take_numbers(cursor) else {
         return Ok(None);

@@ -5,7 +5,7 @@ ghost use Rattle.bd_roll.specs.Giving.{AreOwned, GivesUp};
 ghost use Rattle.bd_roll.specs.Capacity.{room_of};
 ghost use Rattle.bd_roll.specs.Shown.{catalogue_of_contents, open_entry};
 ghost use Rattle.bd_roll.specs.Splitting.{after_arrange, extents_at, in_place, put_in_place, replaced, AreSplits};
-ghost use Rattle.bd_roll.specs.Steps.{fresh_entries, kept_entry};
+ghost use Rattle.bd_roll.specs.Steps.{fresh_actives, kept_entry};
 
 use crate::contents::Contents;
 use crate::giving::release;
@@ -29,7 +29,7 @@ fn index_of(actives: &Actives, start: u32) -> Option<usize>
 fn place(actives: &mut Actives, space: &mut Space, split: SplitRow)
     requires differ { IsDistinct nat_eq (map (λ a. a.row.start) (map open_entry actives.old.items)) }
     requires owned { AreOwned space.old (extents_at split.start (map open_entry actives.old.items)) }
-    ensures actives { map open_entry actives.new.items ≡ put_in_place split.start (fresh_entries split.kept) (map open_entry actives.old.items) }
+    ensures actives { map open_entry actives.new.items ≡ put_in_place split.start (fresh_actives split.kept) (map open_entry actives.old.items) }
     ensures gives { GivesUp (extents_at split.start (map open_entry actives.old.items)) space.old space.new }
 {
     let SplitRow { start, kept } = split;

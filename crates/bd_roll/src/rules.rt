@@ -3,7 +3,7 @@ ghost use Rattle.std.specs.Prelude.{◌≡◌, ℕ, ◌+◌, ◌-◌, ◌^◌, �
 ghost use Rattle.std.specs.List.{list_all, flat_map};
 ghost use Rattle.bd_model.specs.Sizes.{sizes_of};
 ghost use Rattle.bd_model.specs.Room.{up};
-ghost use Rattle.bd_roll.specs.Catalogue.{starts_of, bytes_of_rows, oldest_in, retained_in, all_extents};
+ghost use Rattle.bd_roll.specs.Catalogue.{row_starts, bytes_of_rows, oldest_in, retained_in, all_extents};
 ghost use Rattle.bd_roll.specs.Rules.{ascends, numbers_hold, phase_holds, version_holds, starts_hold, actives_hold, extents_hold, obeys, row_holds, volume_holds, active_holds};
 ghost use Rattle.bd_roll.specs.Shown.{version_entry, volume_entry, open_entry, catalogue_of_contents};
 ghost use Rattle.bd_roll.specs.Checked.{lists_hold, marked};
@@ -111,7 +111,7 @@ fn active_holds(shape: &Shape, active: &ActiveCategory) -> bool
 // Whether the starts ascend from `low` to `high`.
 fn rows_ascend(rows: &[CategoryRow], low: u64, high: u64) -> bool
     requires { low ≤ 2 ^ 32 }
-    ensures { result ≡ ascends low high (starts_of rows.now) }
+    ensures { result ≡ ascends low high (row_starts rows.now) }
 {
     let mut least = low;
     for row in rows {

@@ -2,7 +2,7 @@
 ghost use Rattle.std.specs.Prelude.{◌≡◌, ℕ, ◌+◌, ◌≤◌, List, length, map, All, IfOk};
 ghost use Rattle.std.specs.List.{flat_map};
 ghost use Rattle.bd_roll.specs.Catalogue.{VersionEntry, VolumeEntry, OpenEntry};
-ghost use Rattle.bd_roll.specs.Reading.{Takes, FitMany, EndsItself};
+ghost use Rattle.bd_roll.specs.Reading.{TakesSpelling, FitMany, EndsItself};
 ghost use Rattle.bd_roll.specs.Spelling.{spelled_version, spelled_volume, spelled_active};
 ghost use Rattle.bd_roll.specs.Shown.{version_entry, volume_entry, open_entry};
 ghost use Rattle.bd_roll.specs.Widths.{FitsVersion, FitsVolume, FitsOpen};
@@ -34,9 +34,9 @@ pub(crate) trait Spelled: Drop {
         ensures written { into.new ≡ put_at into.old at (spell (entry self.now)) }
         ensures behind { result ≡ at + length (spell (entry self.now)) };
 
-    /// Takes one off the front; None where the bytes begin with no spelling.
+    /// TakesSpelling one off the front; None where the bytes begin with no spelling.
     fn take(alloc: Global, cursor: &mut Cursor) -> Result<Option<Self>, OutOfMemory>
-        ensures { IfOk result (λ found. Takes spell fits entry found cursor.old cursor.new) };
+        ensures { IfOk result (λ found. TakesSpelling spell fits entry found cursor.old cursor.new) };
 }
 
 impl Spelled for VersionRow {
@@ -139,14 +139,14 @@ pub(crate) fn put_many<T: Spelled>(into: &mut [u8], at: usize, items: &[T]) -> u
     place
 }
 
-// Takes `count` of them off the front; None where the bytes don't begin with so many.
+// TakesSpelling `count` of them off the front; None where the bytes don't begin with so many.
 pub(crate) fn take_many<T: Spelled>(
     alloc: Global,
     cursor: &mut Cursor,
     count: u32,
 ) -> Result<Option<Vec<T>>, OutOfMemory>
     requires { EndsItself T.spell T.fits }
-    ensures { IfOk result (λ found. Takes (flat_map T.spell) (FitMany T.fits count) (λ xs. map T.entry xs.items) found cursor.old cursor.new) }
+    ensures { IfOk result (λ found. TakesSpelling (flat_map T.spell) (FitMany T.fits count) (λ xs. map T.entry xs.items) found cursor.old cursor.new) }
 {
     let mut items = Vec::new(alloc);
     for _ in 0..count {

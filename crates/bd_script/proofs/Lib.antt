@@ -3,5 +3,5 @@ mod Decimals
 mod Lines
 mod Plain
 pub mod ReadBack
-mod Reading
+mod ScriptLemmas
 mod Spelled

@@ -19,7 +19,7 @@ use Rattle.bd_model.proofs.GivenLemmas.{given_chunks_stay_apart, joined}
 use Rattle.bd_model.proofs.LeadingLemmas.{commands_lead_on}
 use Rattle.bd_model.proofs.ListLemmas.{same_some}
 use Rattle.bd_model.proofs.NeedLemmas.{Near-from_Distinct}
-use Rattle.bd_store.specs.Steps.{task, versions_with, is_full, IsNear}
+use Rattle.bd_store.specs.Steps.{task, versions_with, is_full_for, IsNear}
 use Rattle.bd_session.specs.Promised.{DistinctMarksTellApart}
 
 -- what is apart among more is so among the first
@@ -47,7 +47,7 @@ backup-given shape st files name =
     joined shape (versions_with (task shape 0 st files (Backup name)) (Backup name)).versions
     ∙ ap (flat_map f) (map-append stream_of st.versions _)
     ∙ flat_map-append f (streams st) _
-    ∙ ap (λ l. flat_map f (streams st) ++ l) (flat-read f (is_full (task shape 0 st files (Backup name))) (files_at.get files name))
+    ∙ ap (λ l. flat_map f (streams st) ++ l) (flat-read f (is_full_for (task shape 0 st files (Backup name))) (files_at.get files name))
 
 -- where the chunks that a state keeps and the next commands read are apart, so are those that the first of them meets
 near_next : (shape : Shape) (st : VersionState) (files : FileMap) (command : Command) (rest : List HeldCommand) → Distinct (given shape st files (record { held = 0; command = command } ∷ rest)) → IsNear (task shape 0 st files command)

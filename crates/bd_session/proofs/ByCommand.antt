@@ -40,10 +40,10 @@ use Rattle.bd_store.specs.Writes.{WritesByCommand, WritesFor, arranges_for}
 use Rattle.bd_store.specs.declared.fault.StoreFault.{StoreFault}
 use Rattle.bd_store.specs.declared.fault.StoreFault.TheVariants.{SourceFault as StoreSource, TargetFault as StoreTarget, DiskFault as StoreDisk, Damaged as StoreDamaged, OutOfMemory as StoreMemory}
 use Rattle.bd_session.specs.Drops.{ArrangesFirst, Drops}
-use Rattle.bd_session.specs.Reads.{ExpiryDrops, ExpiryReads, ReadsFor, RestoreReads}
-use Rattle.bd_session.specs.Ends.{IsMetBy, end_of, HasName, MayMeetDamage}
+use Rattle.bd_session.specs.Reads.{ExpiryDrops, ReadsInExpiry, ReadsFor, ReadsInRestore}
+use Rattle.bd_session.specs.Ends.{IsMetByCommand, end_of, HasName, MayMeetDamage}
 use Rattle.bd_session.specs.Keeping.{IsQuiet, IsQuietDeed}
-use Rattle.bd_session.proofs.Dropping.{drops_oldest}
+use Rattle.bd_session.proofs.FreedExtents.{drops_oldest}
 
 -- such a command writes nothing
 quiet_deed : (deed : Deed) (found : Found) {old new : History} → IsQuietDeed deed → (arranges_for found deed ≡ false → WritesFor deed found old new) → WritesNothing old new
@@ -95,7 +95,7 @@ is_of found Scrub = record { source = λ no. absurd no; target = λ no. absurd n
 is_of found Listing = record { source = λ no. absurd (cc no); target = λ no. absurd (cc no); damaged = λ _ no. absurd (cc no); long = λ _ _ _. refl; restored = λ _ _ no. absurd (cc no); expired = λ _ _ no. absurd (cc no) }
 
 -- which command met a fault
-pub met_fault : (found : Found) (command : Command) (fault : StoreFault) → IsAnswerOf found command (Err fault) → (next : Option Command) → next ≡ Some command → IsMetBy next (end_of fault)
+pub met_fault : (found : Found) (command : Command) (fault : StoreFault) → IsAnswerOf found command (Err fault) → (next : Option Command) → next ≡ Some command → IsMetByCommand next (end_of fault)
 met_fault found command StoreDisk answers next is = tt
 met_fault found command StoreMemory answers next is = tt
 met_fault found command StoreSource answers next is = (command, is, (is_of found command).source answers)
@@ -117,14 +117,14 @@ arranging_first (Waiting cursor) count e = eqb-true count 2 e
 -- what was read between the clocks of a command, by its answer
 module _ (shape : Shape) (st : VersionState) (phase : Phase) (files : FileMap) (before after : Scene) (held : before.store.held ≡ 0) (agrees : Agrees before.store.found before.world.disk) (agrees_after : Agrees after.store.found after.world.disk)
     (writes : WritesOnly (λ place. 64 ≤ place) before.world.disk after.world.disk) (stands : StandsFor shape st phase 0 (contents before.world.disk)) where
-  walked : (v : ℕ) → Near (history shape st) → WalksTo before.store.held before.store.found v before.world.disk after.world.disk → RestoreReads shape st after.world.disk (clock before.world.disk) (clock after.world.disk) v
+  walked : (v : ℕ) → Near (history shape st) → WalksTo before.store.held before.store.found v before.world.disk after.world.disk → ReadsInRestore shape st after.world.disk (clock before.world.disk) (clock after.world.disk) v
   walked v near walks =
       let walk = walks.each shape st phase near (subst (λ h. StandsFor shape st phase h (contents before.world.disk)) (sym held) stands) in
       record { found = before.store.found; before = ap opened (at_start writes) ∙ agrees.opens; places = reads_of_run walk.0; lean = walk.1 }
 
   -- an expiry that doesn't arrange reads nothing and drops the oldest version
   dropped : 1 ≤ retained_in before.store.found.catalogue → (arranges_first before.store.found ≡ false → IsLeanExpiry before.store.found after.store.found before.world.disk after.world.disk × ReadsOnly [] before.world.disk after.world.disk) →
-      ExpiryReads after.world.disk (clock before.world.disk) (clock after.world.disk)
+      ReadsInExpiry after.world.disk (clock before.world.disk) (clock after.world.disk)
   dropped some lean = record {
     before = before.store.found;
     after = after.store.found;

@@ -22,7 +22,7 @@ use Rattle.bd_store.specs.declared.fault.StoreFault.TheVariants.{SourceFault as 
 use Rattle.bd_session.specs.Course.{Course, next_command}
 use Rattle.bd_session.specs.Ends.{EndsBy, LeavesTarget, end_of}
 use Rattle.bd_session.specs.Keeping.{IsGivenBack, IsHalfWritten, StaysFinished}
-use Rattle.bd_session.specs.Turns.{before_text, Goes, HasEnded, Turns, at_rest, in_turn, next_turn, no_turn}
+use Rattle.bd_session.specs.Turns.{before_text, Goes, HasEnded, AnsweredCommands, at_rest, in_turn, next_answer, no_answer}
 
 -- ---- one command
 
@@ -66,12 +66,12 @@ pushed (z ∷ zs) x zero y is = inl is
 pushed (z ∷ zs) x (suc k) y is = ⊎_elim (λ before. inl before) (λ here. inr (ap suc here.0, here.1)) (pushed zs x k y is)
 
 module _ {disk files sink : Type 0} {commands : List Command} {first : Scene} (told : files) where
-  so_far : {answers : List Answer} {clocks : List ℕ} {now : Scene} → Turns disk files sink commands first answers clocks now → (name : List ℕ) → IsFinished name first.world.unfinished ⊎ IsGivenBack commands answers name →
+  so_far : {answers : List Answer} {clocks : List ℕ} {now : Scene} → AnsweredCommands disk files sink commands first answers clocks now → (name : List ℕ) → IsFinished name first.world.unfinished ⊎ IsGivenBack commands answers name →
       IsFinished name now.world.unfinished
-  so_far no_turn name (inl was) = was
-  so_far no_turn name (inr given) = absurd (omega (arith, slice_get_within [] given.number (Restored given.version given.bytes) given.answer))
-  so_far (next_turn command answer moment turns there turn) name (inl was) = answered_keeps turn.meets told name (so_far turns name (inl was))
-  so_far (next_turn {answers} {clocks} {before} {after} command answer moment turns there turn) name (inr given) =
+  so_far no_answer name (inl was) = was
+  so_far no_answer name (inr given) = absurd (omega (arith, slice_get_within [] given.number (Restored given.version given.bytes) given.answer))
+  so_far (next_answer command answer moment turns there turn) name (inl was) = answered_keeps turn.meets told name (so_far turns name (inl was))
+  so_far (next_answer {answers} {clocks} {before} {after} command answer moment turns there turn) name (inr given) =
       ⊎_elim
       (λ earlier. answered_keeps turn.meets told name
       (so_far turns name (inr (record { number = given.number; version = given.version; bytes = given.bytes; command = given.command; answer = earlier }))))

@@ -29,15 +29,15 @@ use Rattle.bd_session.specs.Course.{Course, answered}
 use Rattle.bd_session.specs.Ends.{EndsBy, EndsByCount, LeavesTarget, end_of, session_cause}
 use Rattle.bd_session.specs.Headline.{MeetsTheHeadline, NoFault, carried_out, last_state}
 use Rattle.bd_session.specs.Keeping.{IsHalfWritten}
-use Rattle.bd_session.specs.Promised.{IsHonest, IsPromised, MarksTellApart, Start, start}
+use Rattle.bd_session.specs.Promised.{IsHonest, HoldsPremise, MarksTellApart, Start, start}
 use Rattle.bd_session.specs.Session.{MeetsHonestly}
-use Rattle.bd_session.specs.Turns.{before_text, Goes, LastTurn, Turns, no_turn, next_turn, HasEnded, all_answered, at_rest, in_turn, lacks_memory, next_is_scrub}
+use Rattle.bd_session.specs.Turns.{before_text, Goes, LastCommand, AnsweredCommands, no_answer, next_answer, HasEnded, all_answered, at_rest, in_turn, lacks_memory, next_is_scrub}
 use Rattle.bd_session.specs.declared.report.SessionEnd.{SessionEnd}
 use Rattle.bd_session.specs.declared.report.SessionEnd.TheVariants.{Done, SourceFault, TargetFault, DiskFault, Damaged, OutputFault, OutOfMemory, Unbuilt}
 use Rattle.bd_session.proofs.ByCommand.{long_quiet, phase_after-room, reads_for, target_or_kept}
-use Rattle.bd_session.proofs.Ending.{ends_done, ends_failed, ends_kept, ends_unsaid}
-use Rattle.bd_session.proofs.Going.{HasGone, goes_on, none_gone}
-use Rattle.bd_session.proofs.Turning.{IsOpen, by_count, damage_end, held_stays, open_after, still_open, unsaid}
+use Rattle.bd_session.proofs.HeadlineEnds.{ends_done, ends_failed, ends_kept, ends_unsaid}
+use Rattle.bd_session.proofs.OneMore.{HasGone, goes_on, none_gone}
+use Rattle.bd_session.proofs.AnsweredLemmas.{IsOpen, by_count, damage_end, held_stays, open_after, still_open, unsaid}
 
 -- ---- one command from where the others led
 
@@ -68,12 +68,12 @@ sure_on t phase answer files old new done stops = subst (λ (o : Outcome). Leave
 
 module _ {disk files sink : Type 0} {commands : List Command} {first : Scene} (told : disk) (files_told : files) (shape : Shape) (st : VersionState) (phase : Phase) (opened : IsOpen disk first) (held : first.store.held ≡ 0)
     (honest : IsHonest (start shape st phase first.world)) (n : ℕ) (apart : MarksTellApart (start shape st phase first.world) commands n) where
-  held_on : {answers : List Answer} {clocks : List ℕ} {now : Scene} → Turns disk files sink commands first answers clocks now → now.store.held ≡ 0
+  held_on : {answers : List Answer} {clocks : List ℕ} {now : Scene} → AnsweredCommands disk files sink commands first answers clocks now → now.store.held ≡ 0
   held_on turns = held_stays turns ∙ held
 
-  has_gone : {answers : List Answer} {clocks : List ℕ} {now : Scene} → Turns disk files sink commands first answers clocks now → length answers ≤ n → HasGone (start shape st phase first.world) commands answers clocks now.world.disk now.world.files
-  has_gone no_turn low = none_gone (start shape st phase first.world) commands honest
-  has_gone (next_turn {answers} {clocks} {before} {after} command answer moment turns there turn) low =
+  has_gone : {answers : List Answer} {clocks : List ℕ} {now : Scene} → AnsweredCommands disk files sink commands first answers clocks now → length answers ≤ n → HasGone (start shape st phase first.world) commands answers clocks now.world.disk now.world.files
+  has_gone no_answer low = none_gone (start shape st phase first.world) commands honest
+  has_gone (next_answer {answers} {clocks} {before} {after} command answer moment turns there turn) low =
       let s = start shape st phase first.world in
       let pushed : length (answers ++ answer ∷ []) ≡ length answers + 1 = length_push answers answer in
       let g : HasGone s commands answers clocks before.world.disk before.world.files = has_gone turns (omega (arith, low, pushed)) in
@@ -111,7 +111,7 @@ leaves_unbuilt : Leaves Unbuilt
 leaves_unbuilt = record { not_done = λ e. cc e; not_out = λ e. cc e; carried = λ k. refl; last = λ k. refl }
 
 module _ {disk files sink : Type 0} {c : Course} {first now : Scene} (told : disk) (files_told : files) (opened : IsOpen disk first) (held : first.store.held ≡ 0) (goes : Goes disk files sink c first now)
-    (shape : Shape) (st : VersionState) (phase : Phase) (promised : IsPromised (start shape st phase first.world) c.commands (answered c + 1)) where
+    (shape : Shape) (st : VersionState) (phase : Phase) (promised : HoldsPremise (start shape st phase first.world) c.commands (answered c + 1)) where
   abbrev s : Start
   s = start shape st phase first.world
 
@@ -127,7 +127,7 @@ module _ {disk files sink : Type 0} {c : Course} {first now : Scene} (told : dis
       (record { phase = g.phase; so = g.stands }) (leaves_same refl g.sure) (λ name. inr (ap (λ (m : FileMap). map.get m name) (same_files ∙ g.beside))))
 
   -- the last command
-  module _ (turn : LastTurn disk files sink c goes.last now) where
+  module _ (turn : LastCommand disk files sink c goes.last now) where
     near : IsNear (task shape 0 g.point.state g.point.files turn.command)
     unfolding g
     near = promised.chunks.each (answered c) (omega arith) turn.command turn.next g.point g.leads

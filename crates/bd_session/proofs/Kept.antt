@@ -13,10 +13,10 @@ use Rattle.bd_store.specs.Deeds.{target_of}
 use Rattle.bd_store.specs.Attempts.{IsAnswerOf, Scene, attempt, Meets}
 use Rattle.bd_store.specs.declared.fault.StoreFault.{StoreFault}
 use Rattle.bd_session.specs.Course.{Course, next_command, answered}
-use Rattle.bd_session.specs.Ends.{EndsBy, IsMetBy}
-use Rattle.bd_session.specs.Turns.{before_text, Goes, Turns, no_turn, next_turn, HasEnded, all_answered, at_rest, in_turn, lacks_memory, next_is_scrub}
+use Rattle.bd_session.specs.Ends.{EndsBy, IsMetByCommand}
+use Rattle.bd_session.specs.Turns.{before_text, Goes, AnsweredCommands, no_answer, next_answer, HasEnded, all_answered, at_rest, in_turn, lacks_memory, next_is_scrub}
 use Rattle.bd_session.specs.Keeping.{ClocksRise, IsTargetBelow, KeepsOthers, StraysOnlyFor, WritesByCommands}
-use Rattle.bd_session.proofs.Turning.{unsaid, paired, to_the_end}
+use Rattle.bd_session.proofs.AnsweredLemmas.{unsaid, paired, to_the_end}
 use Rattle.bd_session.proofs.ByCommand.{met_fault, quiet_writes, target_or_kept}
 
 -- ---- a step of each command, with its number
@@ -32,9 +32,9 @@ module _ {disk files sink : Type 0} {c : Course} {first now : Scene} (goes : Goe
   -- what holds before the first command and is kept by each of those that were tried holds at the end
   by_steps : (P : ℕ → Scene → Type 0) → ((k : ℕ) (a b : Scene) → k ≤ answered c → IsStep disk files c.commands k a b → P k a → P (k + 1) b) → ((k : ℕ) (a : Scene) → P k a → P (k + 1) a) → P 0 first → P (answered c + 1) now
   by_steps P one wider begun = by_end goes.ends where
-    turned : {answers : List Answer} {clocks : List ℕ} {last : Scene} → Turns disk files sink c.commands first answers clocks last → length answers ≤ answered c → P (length answers) last
-    turned no_turn low = begun
-    turned (next_turn {answers} {clocks} {before} {after} command answer moment turns there turn) low =
+    turned : {answers : List Answer} {clocks : List ℕ} {last : Scene} → AnsweredCommands disk files sink c.commands first answers clocks last → length answers ≤ answered c → P (length answers) last
+    turned no_answer low = begun
+    turned (next_answer {answers} {clocks} {before} {after} command answer moment turns there turn) low =
         subst (λ n. P n after) (sym (length_push answers answer))
         (one (length answers) before after (omega (arith, low, length_push answers answer)) (record { command = command; there = there; result = Ok answer; meets = turn.meets }) (turned turns (omega (arith, low, length_push answers answer))))
 
@@ -134,13 +134,13 @@ last-push begun clocks moment =
 
 module _ {disk files sink : Type 0} {commands : List Command} {first : Scene} (told : disk) where
   -- the last clock is the disk's
-  last_clock : {answers : List Answer} {clocks : List ℕ} {now : Scene} → Turns disk files sink commands first answers clocks now → last_of (clock first.world.disk) clocks ≡ clock now.world.disk
-  last_clock no_turn = refl
-  last_clock (next_turn {answers} {clocks} command answer moment turns there turn) = last-push (clock first.world.disk) clocks moment ∙ turn.clock told
+  last_clock : {answers : List Answer} {clocks : List ℕ} {now : Scene} → AnsweredCommands disk files sink commands first answers clocks now → last_of (clock first.world.disk) clocks ≡ clock now.world.disk
+  last_clock no_answer = refl
+  last_clock (next_answer {answers} {clocks} command answer moment turns there turn) = last-push (clock first.world.disk) clocks moment ∙ turn.clock told
 
-  rising : {answers : List Answer} {clocks : List ℕ} {now : Scene} → Turns disk files sink commands first answers clocks now → (k : ℕ) → k < length clocks → get_or (clock first.world.disk ∷ clocks) k 0 ≤ get_or clocks k 0
-  rising no_turn k low = absurd (omega (arith, low))
-  rising (next_turn {answers} {clocks} {before} {after} command answer moment turns there turn) k low =
+  rising : {answers : List Answer} {clocks : List ℕ} {now : Scene} → AnsweredCommands disk files sink commands first answers clocks now → (k : ℕ) → k < length clocks → get_or (clock first.world.disk ∷ clocks) k 0 ≤ get_or clocks k 0
+  rising no_answer k low = absurd (omega (arith, low))
+  rising (next_answer {answers} {clocks} {before} {after} command answer moment turns there turn) k low =
       ⊎_elim
       (λ inside. omega (arith, get_or_append_left (clock first.world.disk ∷ clocks) (moment ∷ []) 0 k (omega (arith, inside)), get_or_append_left clocks (moment ∷ []) 0 k inside, rising turns k inside))
       (λ behind.
@@ -163,15 +163,15 @@ clocks_rise {disk} {files} {sink} {c} {first} {now} goes = record {
 
 -- ---- which command brought the end
 
-pub met_by : {disk files sink : Type 0} {c : Course} {first now : Scene} → Goes disk files sink c first now → IsMetBy (next_command c) c.ending
+pub met_by : {disk files sink : Type 0} {c : Course} {first now : Scene} → Goes disk files sink c first now → IsMetByCommand (next_command c) c.ending
 met_by {disk} {files} {sink} {c} {first} {now} goes = by_end goes.ends where
-  by_result : (command : Command) (found : Found) (result : Result Answer StoreFault) → IsAnswerOf found command result → next_command c ≡ Some command → EndsBy sink result c.ending goes.last.world now.world → IsMetBy (next_command c) c.ending
-  by_result command found (Err fault) answers is ends = subst (IsMetBy (next_command c)) (sym ends.0) (met_fault found command fault answers (next_command c) is)
+  by_result : (command : Command) (found : Found) (result : Result Answer StoreFault) → IsAnswerOf found command result → next_command c ≡ Some command → EndsBy sink result c.ending goes.last.world now.world → IsMetByCommand (next_command c) c.ending
+  by_result command found (Err fault) answers is ends = subst (IsMetByCommand (next_command c)) (sym ends.0) (met_fault found command fault answers (next_command c) is)
   by_result command found (Ok answer) answers is ends =
-      ⊎_elim (λ out. subst (IsMetBy (next_command c)) (sym out.0) tt) (λ memory. subst (IsMetBy (next_command c)) (sym memory.0) tt) (unsaid sink answer c.ending goes.last.world now.world ends)
+      ⊎_elim (λ out. subst (IsMetByCommand (next_command c)) (sym out.0) tt) (λ memory. subst (IsMetByCommand (next_command c)) (sym memory.0) tt) (unsaid sink answer c.ending goes.last.world now.world ends)
 
-  by_end : HasEnded disk files sink c goes.last now → IsMetBy (next_command c) c.ending
-  by_end (at_rest (all_answered done all) same) = subst (IsMetBy (next_command c)) (sym done) tt
-  by_end (at_rest (lacks_memory memory none) same) = subst (IsMetBy (next_command c)) (sym memory) tt
-  by_end (at_rest (next_is_scrub unbuilt next) same) = subst (IsMetBy (next_command c)) (sym unbuilt) next
+  by_end : HasEnded disk files sink c goes.last now → IsMetByCommand (next_command c) c.ending
+  by_end (at_rest (all_answered done all) same) = subst (IsMetByCommand (next_command c)) (sym done) tt
+  by_end (at_rest (lacks_memory memory none) same) = subst (IsMetByCommand (next_command c)) (sym memory) tt
+  by_end (at_rest (next_is_scrub unbuilt next) same) = subst (IsMetByCommand (next_command c)) (sym unbuilt) next
   by_end (in_turn turn) = by_result turn.command goes.last.store.found turn.result turn.meets.answer turn.next turn.ends

@@ -103,12 +103,12 @@ HasName named = (name : List ℕ) × (named ≡ Some name)
 
 -- A source that fails belongs to a command that reads one, a target that fails to one that writes one, and damage to one that
 -- may meet it. The command that is still to come is a scrub.
-abbrev pub IsMetBy : Option Command → SessionEnd → Type 0
-IsMetBy next Done = Unit {0}
-IsMetBy next SourceFault = IsOneOf (λ command. HasName (source_of command)) next
-IsMetBy next TargetFault = IsOneOf (λ command. HasName (target_of command)) next
-IsMetBy next DiskFault = Unit {0}
-IsMetBy next (Damaged damage) = IsOneOf (λ command. (found : Found) × MayMeetDamage (deed_of found command)) next
-IsMetBy next OutputFault = Unit {0}
-IsMetBy next OutOfMemory = Unit {0}
-IsMetBy next Unbuilt = next ≡ Some Scrub
+abbrev pub IsMetByCommand : Option Command → SessionEnd → Type 0
+IsMetByCommand next Done = Unit {0}
+IsMetByCommand next SourceFault = IsOneOf (λ command. HasName (source_of command)) next
+IsMetByCommand next TargetFault = IsOneOf (λ command. HasName (target_of command)) next
+IsMetByCommand next DiskFault = Unit {0}
+IsMetByCommand next (Damaged damage) = IsOneOf (λ command. (found : Found) × MayMeetDamage (deed_of found command)) next
+IsMetByCommand next OutputFault = Unit {0}
+IsMetByCommand next OutOfMemory = Unit {0}
+IsMetByCommand next Unbuilt = next ≡ Some Scrub

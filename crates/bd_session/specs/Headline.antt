@@ -50,15 +50,15 @@ carried_out OutputFault k = k + 1
 carried_out _ k = k
 
 -- every command that was begun was carried out
-abbrev pub IsCarriedOut : SessionEnd → Type 0
-IsCarriedOut ending = (ending ≡ Done) ⊎ (ending ≡ OutputFault)
+abbrev pub AreCarriedOut : SessionEnd → Type 0
+AreCarriedOut ending = (ending ≡ Done) ⊎ (ending ≡ OutputFault)
 
 -- The contents stand for the state after the commands that were carried out, or, after a fault of the disk, for the next
 -- one. The files are those of that state. Where every command that was begun was carried out, the phase is theirs too.
 pub record LeavesAtExit (s : Start) (c : Course) (disk : History) (files : FileMap) : Type 0 where
   pub superblock : WritesOnly (λ place. 64 ≤ place) s.disk disk
   pub stands : StandsAfter s c.commands (carried_out c.ending (answered c)) (contents disk) ⊎ ((c.ending ≡ DiskFault) × StandsAfter s c.commands (answered c + 1) (contents disk))
-  pub phase : IsCarriedOut c.ending → StandsInPhase s c.commands (carried_out c.ending (answered c)) (contents disk)
+  pub phase : AreCarriedOut c.ending → StandsInPhase s c.commands (carried_out c.ending (answered c)) (contents disk)
   pub point : Point
   pub leads : reached s c.commands (carried_out c.ending (answered c)) ≡ Some point
   pub beside : (name : List ℕ) → IsHalfWritten c name ⊎ (file_map.get files name ≡ file_map.get point.files name)

@@ -20,7 +20,7 @@ use Rattle.bd_session.specs.declared.report.SessionEnd.{SessionEnd}
 use Rattle.bd_session.specs.declared.report.SessionEnd.TheVariants.{DiskFault}
 
 -- the store in memory goes on to agree with its disk, unless the disk failed: it is worn then, and its disk is opened anew
-pub record KeepsStore (disk : Type 0) (ending : SessionEnd) (before now : Scene) : Type 0 where
+pub record StoreGoesOn (disk : Type 0) (ending : SessionEnd) (before now : Scene) : Type 0 where
   pub worn : (now.store.worn ≡ true) ↔ (ending ≡ DiskFault)
   pub sizes : now.store.worn ≡ false → now.store.found.sizes ≡ before.store.found.sizes
   pub held : now.store.held ≡ before.store.held

@@ -42,7 +42,7 @@ pub record MarksTellApart (s : Start) (commands : List Command) (n : ℕ) : Type
   pub each : (k : ℕ) → k < n → (command : Command) → slice_get commands k ≡ Some command → (p : Point) → reached s commands k ≡ Some p → IsNear (task s.shape 0 p.state p.files command)
 
 -- the disk is honest, and marks tell apart what the first n commands meet
-pub record IsPromised (s : Start) (commands : List Command) (n : ℕ) : Type 0 where
+pub record HoldsPremise (s : Start) (commands : List Command) (n : ℕ) : Type 0 where
   pub disk : IsHonest s
   pub chunks : MarksTellApart s commands n
 

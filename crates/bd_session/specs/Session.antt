@@ -7,10 +7,10 @@ use Rattle.bd_model.specs.declared.shape.Shape.{Shape}
 use Rattle.bd_model.specs.State.{VersionState}
 use Rattle.bd_store.specs.Attempts.{Scene}
 use Rattle.bd_session.specs.Course.{Course, answered, next_command}
-use Rattle.bd_session.specs.Ends.{EndsOnlyByCount, IsMetBy, session_cause}
+use Rattle.bd_session.specs.Ends.{EndsOnlyByCount, IsMetByCommand, session_cause}
 use Rattle.bd_session.specs.Headline.{EndsWell, MeetsTheHeadline}
-use Rattle.bd_session.specs.Keeping.{ClocksRise, KeepsOthers, KeepsStore, StaysFinished, StraysOnlyFor, WritesByCommands}
-use Rattle.bd_session.specs.Promised.{IsPromised, start}
+use Rattle.bd_session.specs.Keeping.{ClocksRise, KeepsOthers, StoreGoesOn, StaysFinished, StraysOnlyFor, WritesByCommands}
+use Rattle.bd_session.specs.Promised.{HoldsPremise, start}
 use Rattle.bd_session.specs.Stops.{OpensAsStore, CataloguesStay}
 use Rattle.bd_session.specs.Telling.{HandsAnswers}
 use Rattle.bd_session.specs.Turns.{Goes}
@@ -18,18 +18,18 @@ use Rattle.bd_session.specs.Turns.{Goes}
 -- Over an honest disk, while marks tell apart what the commands meet that were tried, whatever state and phase the contents
 -- stood for.
 pub record MeetsHonestly (c : Course) (before now : World) : Type 0 where
-  pub headline : (shape : Shape) → (st : VersionState) → (phase : Phase) → IsPromised (start shape st phase before) c.commands (answered c + 1) →
+  pub headline : (shape : Shape) → (st : VersionState) → (phase : Phase) → HoldsPremise (start shape st phase before) c.commands (answered c + 1) →
       MeetsTheHeadline (start shape st phase before) (clock before.disk) c now.disk now.files
-  pub ends : (shape : Shape) → (st : VersionState) → (phase : Phase) → IsPromised (start shape st phase before) c.commands (answered c + 1) → EndsWell c before.counts now.counts
+  pub ends : (shape : Shape) → (st : VersionState) → (phase : Phase) → HoldsPremise (start shape st phase before) c.commands (answered c + 1) → EndsWell c before.counts now.counts
 
 -- All that is promised. `disk`, `files` and `sink` are that these tell what they hold.
 pub record MeetsSession (disk files sink : Type 0) (c : Course) (before now : Scene) : Type 0 where
   pub bytes : now.world.disk_bytes ≡ before.world.disk_bytes
   -- each end by the count of its object, and by a command that can meet it
   pub cause : EndsOnlyByCount (session_cause c.ending) before.world.counts now.world.counts
-  pub met : IsMetBy (next_command c) c.ending
+  pub met : IsMetByCommand (next_command c) c.ending
   -- the store can be asked for more, unless the disk failed
-  pub store : KeepsStore disk c.ending before now
+  pub store : StoreGoesOn disk c.ending before now
   pub clocks : ClocksRise disk c.answers c.clocks before.world.disk now.world.disk
   -- the sink was given the answers' texts at the clocks, and nothing else
   pub written : sink → HandsAnswers disk c.answers c.clocks (session_cause c.ending) before.world.handed now.world.handed

@@ -17,23 +17,23 @@ abbrev pub before_text : Scene → Scene → Scene
 before_text before after = record after { world = record after.world { counts = record after.world.counts { sink = before.world.counts.sink }; handed = before.world.handed } }
 
 -- A command was carried out and answered, and then the sink took the text of its answer, at this moment.
-pub record Turn (disk files sink : Type 0) (command : Command) (answer : Answer) (moment : ℕ) (before after : Scene) : Type 0 where
+pub record AnsweredCommand (disk files sink : Type 0) (command : Command) (answer : Answer) (moment : ℕ) (before after : Scene) : Type 0 where
   pub meets : Meets disk files (attempt command (Ok answer) before (before_text before after))
   pub clock : disk → moment ≡ clock after.world.disk
   pub faults : after.world.counts.sink ≡ before.world.counts.sink
   pub handed : sink → HandsOn disk moment (answer_text answer) before.world.handed after.world.handed
 
 -- The first of these commands had these answers, at these moments, one turn behind the other.
-pub data Turns (disk files sink : Type 0) (commands : List Command) (first : Scene) : List Answer → List ℕ → Scene → Type 0 where
+pub data AnsweredCommands (disk files sink : Type 0) (commands : List Command) (first : Scene) : List Answer → List ℕ → Scene → Type 0 where
   -- none had one yet
-  no_turn : Turns disk files sink commands first [] [] first
+  no_answer : AnsweredCommands disk files sink commands first [] [] first
   -- the next command had its turn
-  next_turn : {answers : List Answer} {clocks : List ℕ} {before after : Scene} (command : Command) (answer : Answer) (moment : ℕ) → Turns disk files sink commands first answers clocks before →
-      slice_get commands (length answers) ≡ Some command → Turn disk files sink command answer moment before after →
-      Turns disk files sink commands first (answers ++ answer ∷ []) (clocks ++ moment ∷ []) after
+  next_answer : {answers : List Answer} {clocks : List ℕ} {before after : Scene} (command : Command) (answer : Answer) (moment : ℕ) → AnsweredCommands disk files sink commands first answers clocks before →
+      slice_get commands (length answers) ≡ Some command → AnsweredCommand disk files sink command answer moment before after →
+      AnsweredCommands disk files sink commands first (answers ++ answer ∷ []) (clocks ++ moment ∷ []) after
 
 -- the command behind the last answer brought the end
-pub record LastTurn (disk files sink : Type 0) (c : Course) (before now : Scene) : Type 0 where
+pub record LastCommand (disk files sink : Type 0) (c : Course) (before now : Scene) : Type 0 where
   pub command : Command
   pub next : next_command c ≡ Some command
   pub result : Result Answer StoreFault
@@ -54,10 +54,10 @@ pub data HasEnded (disk files sink : Type 0) (c : Course) (last now : Scene) : T
   -- nothing was done behind the last answer
   at_rest : IsOver c → now ≡ last → HasEnded disk files sink c last now
   -- the command behind it brought the end
-  in_turn : LastTurn disk files sink c last now → HasEnded disk files sink c last now
+  in_turn : LastCommand disk files sink c last now → HasEnded disk files sink c last now
 
 -- From first to last: the turns of the commands that were answered, and how it ended.
 pub record Goes (disk files sink : Type 0) (c : Course) (first now : Scene) : Type 0 where
   pub last : Scene
-  pub turns : Turns disk files sink c.commands first c.answers c.clocks last
+  pub turns : AnsweredCommands disk files sink c.commands first c.answers c.clocks last
   pub ends : HasEnded disk files sink c last now

@@ -7,7 +7,7 @@ use Rattle.std.proofs.lemmas.List.Sums.{count_by-le-length}
 use Rattle.std.proofs.lemmas.Option.{slice_get_within}
 use Rattle.bd_space.specs.declared.space.Use.{Use}
 use Rattle.bd_space.specs.declared.space.Use.TheVariants.{Free, Taken}
-use Rattle.bd_space.specs.Marking.{marked_uses, IsKept}
+use Rattle.bd_space.specs.Marking.{marked_uses, IsCountedRight}
 use Rattle.bd_space.specs.Allotment.{is_free, is_held, numbers_from}
 use Rattle.bd_space.proofs.Numbers.{numbers_from_le, numbers_from-below, length-numbers_from, Contains_decided}
 use Rattle.bd_space.proofs.Lowest.{free_found, All-lowest, IsDistinct-lowest}
@@ -50,7 +50,7 @@ moved_to_free ns us vs distinct were is =
 
 -- ---- claim, and what extend takes
 
-pub few_taken : (us : List Use) (ns : List ℕ) (free held lowest : ℕ) → IsKept us free held lowest → IsDistinct nat_eq ns
+pub few_taken : (us : List Use) (ns : List ℕ) (free held lowest : ℕ) → IsCountedRight us free held lowest → IsDistinct nat_eq ns
     → All (λ n. slice_get us n ≡ Some Free) ns → length ns ≤ free
 few_taken us ns free held lowest kept distinct were =
     let moved = moved_to_taken ns us (marked_uses us ns Taken) distinct were refl in
@@ -66,8 +66,8 @@ still_free ns us vs n m now =
     let apart : Contains ns n → ⊥ = λ c. taken≢free (sym (All-contains (λ k. slice_get vs k ≡ Some Taken) ns n m.marked c) ∙ now) in
     (apart, sym (m.others n apart) ∙ now)
 
-pub kept_taken : (us vs : List Use) (ns : List ℕ) (free held lowest : ℕ) → IsKept us free held lowest → IsDistinct nat_eq ns
-    → All (λ n. slice_get us n ≡ Some Free) ns → vs ≡ marked_uses us ns Taken → IsKept vs (free - length ns) held lowest
+pub kept_taken : (us vs : List Use) (ns : List ℕ) (free held lowest : ℕ) → IsCountedRight us free held lowest → IsDistinct nat_eq ns
+    → All (λ n. slice_get us n ≡ Some Free) ns → vs ≡ marked_uses us ns Taken → IsCountedRight vs (free - length ns) held lowest
 kept_taken us vs ns free held lowest kept distinct were is =
     let moved = moved_to_taken ns us vs distinct were is in
     record {
@@ -79,16 +79,16 @@ kept_taken us vs ns free held lowest kept distinct were is =
 
 -- ---- give_back
 
-pub few_freed : (us : List Use) (ns : List ℕ) (free held lowest : ℕ) → IsKept us free held lowest → IsDistinct nat_eq ns
+pub few_freed : (us : List Use) (ns : List ℕ) (free held lowest : ℕ) → IsCountedRight us free held lowest → IsDistinct nat_eq ns
     → All (λ n. slice_get us n ≡ Some Taken) ns → free + length ns < 2 ^ 32
 few_freed us ns free held lowest kept distinct were =
     let vs : List Use = marked_uses us ns Free in
     let moved = moved_to_free ns us vs distinct were refl in
     omega (arith, moved.free, kept.free_counted, kept.small, count_by-le-length is_free vs, length-marked_uses us ns Free)
 
-pub kept_freed : (us vs : List Use) (ns : List ℕ) (free held lowest least : ℕ) → IsKept us free held lowest → IsDistinct nat_eq ns
+pub kept_freed : (us vs : List Use) (ns : List ℕ) (free held lowest least : ℕ) → IsCountedRight us free held lowest → IsDistinct nat_eq ns
     → All (λ n. slice_get us n ≡ Some Taken) ns → vs ≡ marked_uses us ns Free → least ≤ lowest → All (λ n. least ≤ n) ns
-    → IsKept vs (free + length ns) held least
+    → IsCountedRight vs (free + length ns) held least
 kept_freed us vs ns free held lowest least kept distinct were is low all =
     let moved = moved_to_free ns us vs distinct were is in
     record {
@@ -104,7 +104,7 @@ kept_freed us vs ns free held lowest least kept distinct were is low all =
 -- ---- extend
 
 -- from the place below which nothing is free, the free numbers are all of them
-pub from_lowest : (us : List Use) (free held lowest : ℕ) → IsKept us free held lowest
+pub from_lowest : (us : List Use) (free held lowest : ℕ) → IsCountedRight us free held lowest
     → numbers_from is_free lowest (drop lowest us) ≡ numbers_from is_free 0 us
 from_lowest us free held lowest kept =
     ap (λ n. numbers_from is_free n (drop lowest us)) (sym (zero-add lowest)) ∙ numbers_from-below 0 lowest us kept.below
@@ -115,15 +115,15 @@ pub appended_part : (all old added : List ℕ) (known : ℕ) → all ≡ old ++ 
 appended_part all old added known is size =
     take_rest all known ∙ ap (drop known) is ∙ drop_at old added known (sym size)
 
-length-taken : (us : List Use) (count free held lowest : ℕ) → IsKept us free held lowest → count ≤ free
+length-taken : (us : List Use) (count free held lowest : ℕ) → IsCountedRight us free held lowest → count ≤ free
     → length (take count (numbers_from is_free 0 us)) ≡ count
 length-taken us count free held lowest kept enough =
     length-take-le count (numbers_from is_free 0 us) (omega (arith, kept.free_counted, length-numbers_from is_free 0 us))
 
-pub kept_extended : (us vs : List Use) (count free held lowest place : ℕ) → IsKept us free held lowest → count ≤ free
+pub kept_extended : (us vs : List Use) (count free held lowest place : ℕ) → IsCountedRight us free held lowest → count ≤ free
     → vs ≡ marked_uses us (take count (numbers_from is_free 0 us)) Taken
     → numbers_from is_free place (drop place us) ≡ drop count (numbers_from is_free 0 us)
-    → IsKept vs (free - count) held place
+    → IsCountedRight vs (free - count) held place
 kept_extended us vs count free held lowest place kept enough is rest =
     let all : List ℕ = numbers_from is_free 0 us in
     let were = All-lowest count us in
@@ -148,7 +148,7 @@ kept_extended us vs count free held lowest place kept enough is rest =
     }
 
 -- the uses after the lowest free numbers were taken
-pub moved_by_extend : (count : ℕ) (old us seen ws vs : List Use) (free held lowest : ℕ) → IsKept us free held lowest → count ≤ free
+pub moved_by_extend : (count : ℕ) (old us seen ws vs : List Use) (free held lowest : ℕ) → IsCountedRight us free held lowest → count ≤ free
     → us ≡ old → seen ≡ us → vs ≡ ws → ws ≡ marked_uses seen (take count (numbers_from is_free 0 seen)) Taken
     → IsMoved (take count (numbers_from is_free 0 old)) Taken old vs 0 count
 moved_by_extend count old us seen ws vs free held lowest kept enough was same is marked =

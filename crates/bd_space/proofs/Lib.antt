@@ -6,4 +6,4 @@ pub mod Distinct
 pub mod Uses
 pub mod Exact
 pub mod InTurn
-pub mod Claiming
+pub mod ClaimedNumbers

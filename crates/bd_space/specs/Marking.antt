@@ -10,7 +10,7 @@ marked_uses us [] usage = us
 marked_uses us (n ∷ ns) usage = marked_uses (slice_set us n usage) ns usage
 
 -- the counts are right, and no number below `lowest` is free
-pub record IsKept (us : List Use) (free held lowest : ℕ) : Type 0 where
+pub record IsCountedRight (us : List Use) (free held lowest : ℕ) : Type 0 where
   pub small : length us < 2 ^ 32
   pub free_counted : free ≡ count_by is_free us
   pub held_counted : held ≡ count_by is_held us

@@ -2,7 +2,7 @@
 ghost use Rattle.std.specs.Prelude.{◌≡◌, ◌≢◌, ℕ, ◌+◌, ◌^◌, ◌<◌, ◌≤◌, ◌++◌, length, take, drop, replicate, All, IfOk, OnOk, OnErr, MatchResult, nat_eq};
 ghost use Rattle.std.specs.List.{IsDistinct};
 ghost use Rattle.bd_space.specs.Allotment.{Allotment, IsFree, IsTaken, is_free, is_held, numbers_from, free_numbers, free_count, held_count, Marks, KeepsHeld};
-ghost use Rattle.bd_space.specs.Marking.{marked_uses, IsKept};
+ghost use Rattle.bd_space.specs.Marking.{marked_uses, IsCountedRight};
 ghost use Rattle.bd_space.specs.Refusal.{IsRefusal};
 
 use crate::owned::Owned;
@@ -40,13 +40,13 @@ pub struct Space {
 
 impl Model for Space {
     ghost use Rattle.bd_space.specs.Allotment.{Allotment};
-    ghost use Rattle.bd_space.specs.Marking.{IsKept};
+    ghost use Rattle.bd_space.specs.Marking.{IsCountedRight};
 
     ghost Value = { Allotment };
 
     ghost view = { λ s. record { uses = s.uses.items } };
 
-    ghost invariant = { λ s. IsKept s.uses.items s.free s.held s.lowest };
+    ghost invariant = { λ s. IsCountedRight s.uses.items s.free s.held s.lowest };
 }
 
 impl Space {

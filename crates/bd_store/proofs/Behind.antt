@@ -6,7 +6,7 @@ use Rattle.bd_disk.specs.Looks.{LooksOnlyAt}
 use Rattle.bd_disk.specs.Made.{LeavesSince, WritesNothing, WritesOnly}
 use Rattle.bd_disk.specs.Trace.{ReadsOnly}
 use Rattle.bd_disk.proofs.Frames.{leaves_both, leaves_now, leaves_wider, made_both, nothing_within}
-use Rattle.bd_disk.proofs.Looking.{looks_from}
+use Rattle.bd_disk.proofs.LookedPlaces.{looks_from}
 use Rattle.bd_disk.proofs.Traces.{reads_both}
 use Rattle.bd_model.specs.FileMap.{FileMap}
 use Rattle.bd_model.specs.History.{oldest, retained}
@@ -23,7 +23,7 @@ use Rattle.bd_model.proofs.StepLemmas.{length-history}
 use Rattle.bd_catalog.specs.Agreement.{Agrees}
 use Rattle.bd_catalog.specs.Opening.{Found}
 use Rattle.bd_catalog.specs.Standing.{Stands, StandsFor}
-use Rattle.bd_catalog.proofs.Standing.{stands-shows}
+use Rattle.bd_catalog.proofs.StandingLemmas.{stands-shows}
 use Rattle.bd_recipe.specs.Marked.{Marked}
 use Rattle.bd_arrange.specs.Arranged.{IsArrangedFrom, IsSettledFrom, IsSpared, KeepsStates}
 use Rattle.bd_store.specs.Attempts.{IsAnswerOf, KeepsVersions}
@@ -36,8 +36,8 @@ use Rattle.bd_store.specs.Stops.{IsSafeAtStops, IsSureBy}
 use Rattle.bd_store.specs.Touches.{AnswersArranging, AnswersByNumbers, AnswersExpiry, BackupReads, arranges_first, is_waiting, waits}
 use Rattle.bd_store.specs.Writes.{IsArrangedFirst, StepsTo, WritesFor, WritesByCommand, WritesReady, arranges, arranges_for}
 use Rattle.bd_store.specs.declared.fault.StoreFault.{StoreFault}
-use Rattle.bd_store.proofs.Ending.{by_end, by_ready, first_two, not_both, rests_not}
-use Rattle.bd_store.proofs.Nearing.{near_state}
+use Rattle.bd_store.proofs.CommandEnds.{by_end, by_ready, first_two, not_both, rests_not}
+use Rattle.bd_store.proofs.TaskMarks.{near_state}
 
 -- ---- the answer
 

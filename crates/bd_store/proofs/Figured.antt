@@ -6,7 +6,7 @@ use Rattle.bd_space.proofs.Exact.{taken_count-exact}
 use Rattle.bd_space.proofs.Uses.{counts-all}
 use Rattle.bd_roll.specs.Catalogue.{all_extents}
 use Rattle.bd_catalog.specs.Opening.{Found}
-use Rattle.bd_catalog.proofs.Standing.{stands-shows}
+use Rattle.bd_catalog.proofs.StandingLemmas.{stands-shows}
 use Rattle.bd_catalog.proofs.StandingOwned.{owned-stands}
 use Rattle.bd_store.specs.Shown.{AreFiguresOf, HasFigures, Shown, cursor_of}
 use Rattle.bd_store.specs.declared.figures.Figures.{Figures}

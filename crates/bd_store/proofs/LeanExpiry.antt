@@ -12,7 +12,7 @@ use Rattle.bd_disk.specs.Trace.{ReadsOnly}
 use Rattle.bd_disk.specs.declared.disk.Disk.{Ghosts as DiskGhosts}
 use Rattle.bd_disk.specs.declared.disk.Failed.{Failed}
 use Rattle.bd_disk.proofs.Frames.{contents_now, leaves_same, leaves_wider, made_none, writes_wider}
-use Rattle.bd_disk.proofs.Looking.{looks_from}
+use Rattle.bd_disk.proofs.LookedPlaces.{looks_from}
 use Rattle.bd_disk.proofs.RunLemmas.{nothing_read, written}
 use Rattle.bd_files.specs.World.{World, with_disk}
 use Rattle.bd_model.specs.FileMap.{FileMap}
@@ -22,7 +22,7 @@ use Rattle.bd_model.specs.declared.layout.Phase.TheVariants.{Settled}
 use Rattle.bd_model.specs.declared.answer.Answer.{Answer}
 use Rattle.bd_model.specs.declared.answer.Answer.TheVariants.{Expired, NothingRetained}
 use Rattle.bd_model.specs.declared.command.Command.TheVariants.{Expire}
-use Rattle.bd_model.specs.History.{History as Versions, oldest, retained}
+use Rattle.bd_model.specs.History.{VersionHistory as Versions, oldest, retained}
 use Rattle.bd_model.specs.Sizes.{Sizes}
 use Rattle.bd_model.specs.State.{VersionState, history}
 use Rattle.bd_model.specs.Step.{Outcome, drop_oldest, expired_extents, phase_after, unchanged}
@@ -37,12 +37,12 @@ use Rattle.bd_roll.specs.Rules.{obeys}
 use Rattle.bd_roll.specs.Splitting.{FitsExpire, after_expire, expired}
 use Rattle.bd_catalog.specs.Standing.{Stands, StandsFor}
 use Rattle.bd_catalog.specs.Steps.{after_step, catalogue_calls, HasCommitted, InOtherHalf, IsMade, IsOldOrCommitted, LeavesEither}
-use Rattle.bd_catalog.proofs.Committing.{number-small}
+use Rattle.bd_catalog.proofs.CommitLemmas.{number-small}
 use Rattle.bd_catalog.proofs.Staged.{InUnowned, either_stands, staged_commit, unowned_unnamed}
-use Rattle.bd_catalog.proofs.Standing.{stands-shows}
+use Rattle.bd_catalog.proofs.StandingLemmas.{stands-shows}
 use Rattle.bd_catalog.proofs.StandingAnswers.{IsAnswered}
 use Rattle.bd_catalog.proofs.StandingExpired.{dropped-count, expired_answered}
-use Rattle.bd_roll.proofs.Obeying.{settled_with_few}
+use Rattle.bd_roll.proofs.RuleLemmas.{settled_with_few}
 use Rattle.bd_arrange.proofs.Opens.{same_both}
 use Rattle.bd_store.specs.Attempts.{Meets, Scene, attempt, scene}
 use Rattle.bd_store.specs.Following.{EndsReady, Follows}
@@ -53,8 +53,8 @@ use Rattle.bd_store.specs.Touches.{AnswersExpiry, ExpiryReads, FailsLean, arrang
 use Rattle.bd_store.specs.Writes.{IsUnowned, StepsTo, WritesByCommand}
 use Rattle.bd_store.specs.declared.fault.StoreFault.{StoreFault}
 use Rattle.bd_store.specs.declared.fault.StoreFault.TheVariants.{Damaged, DiskFault, OutOfMemory, SourceFault, TargetFault}
-use Rattle.bd_store.proofs.Ending.{by_end, not_both}
-use Rattle.bd_store.proofs.Refusing.{Refuses}
+use Rattle.bd_store.proofs.CommandEnds.{by_end, not_both}
+use Rattle.bd_store.proofs.RefusalStep.{Refuses}
 use Rattle.bd_store.proofs.Unowned.{half_unowned}
 use Rattle.bd_store.specs.Opens.{KeepsOpening, KeepsReady, OpensNext, OpensReady, OpensWith}
 use Rattle.bd_store.specs.Shown.{Shown}

@@ -16,7 +16,7 @@ use Rattle.bd_catalog.specs.Agreement.{Agrees}
 use Rattle.bd_roll.specs.Catalogue.{oldest_in}
 use Rattle.bd_catalog.specs.Opening.{Found}
 use Rattle.bd_catalog.specs.Standing.{StandsFor, lines_from}
-use Rattle.bd_catalog.proofs.Standing.{stands-shows}
+use Rattle.bd_catalog.proofs.StandingLemmas.{stands-shows}
 use Rattle.bd_store.specs.Steps.{IsOneStep}
 use Rattle.bd_store.specs.Stops.{IsSafeAtStops}
 

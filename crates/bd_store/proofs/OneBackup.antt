@@ -16,8 +16,8 @@ use Rattle.bd_model.specs.declared.answer.Answer.{Answer}
 use Rattle.bd_model.specs.declared.answer.Answer.TheVariants.{BackedUp, FullExtents}
 use Rattle.bd_model.specs.declared.command.Command.TheVariants.{Backup}
 use Rattle.bd_model.specs.Chunks.{chunks}
-use Rattle.bd_model.specs.History.{History as Versions, newest, retained, version}
-use Rattle.bd_model.specs.Laws.{entries_in, grown, AreEntriesOf}
+use Rattle.bd_model.specs.History.{VersionHistory as Versions, newest, retained, version}
+use Rattle.bd_model.specs.Laws.{entries_of_chunks, grown, AreEntriesOf}
 use Rattle.bd_model.specs.Marks.{Distinct, Near}
 use Rattle.bd_model.specs.Recipe.{recipe, entry_of}
 use Rattle.bd_model.specs.Records.{records_of, spelled_recipe}
@@ -36,16 +36,16 @@ use Rattle.bd_roll.specs.Growing.{after_backup, entry_for, own_category}
 use Rattle.bd_catalog.specs.Opening.{Found, opened}
 use Rattle.bd_roll.specs.Shown.{version_entry}
 use Rattle.bd_catalog.specs.Standing.{BeginWith, StandsFor, Stands}
-use Rattle.bd_roll.specs.Steps.{fresh_entries}
+use Rattle.bd_roll.specs.Steps.{fresh_actives}
 use Rattle.bd_catalog.specs.Steps.{committed, HasCommitted, IsKeptOrCommitted, IsOldOrCommitted}
 use Rattle.bd_catalog.proofs.Staged.{free_unowned, unowned_unnamed, staged_stands, staging, staged_commit, agrees_staged, either_stands, InUnowned}
-use Rattle.bd_catalog.proofs.Standing.{Shows, stands-shows}
+use Rattle.bd_catalog.proofs.StandingLemmas.{Shows, stands-shows}
 use Rattle.bd_catalog.proofs.StandingAnswers.{IsAnswered, backup_refused, backup_step}
 use Rattle.bd_catalog.proofs.StandingEmpty.{nothing_from, found-nothing}
 use Rattle.bd_catalog.proofs.StandingNamed.{backup_named, stands_settled}
 use Rattle.bd_catalog.proofs.StandingOwned.{free-stands}
 use Rattle.bd_recipe.specs.Reading.{recipe_found}
-use Rattle.bd_restore.proofs.Standing.{recipe_stands}
+use Rattle.bd_restore.proofs.StandingRestore.{recipe_stands}
 use Rattle.bd_intake.specs.declared.staged.Staged.{Staged}
 use Rattle.bd_intake.specs.declared.fault.IntakeFault.{IntakeFault}
 use Rattle.bd_intake.specs.declared.fault.IntakeFault.TheVariants.{Full, SourceFault, DiskFault, OutOfMemory}
@@ -54,11 +54,11 @@ use Rattle.bd_intake.specs.Causes.{MissesSource}
 use Rattle.bd_intake.specs.Firsts.{cut_in, new_by_mark}
 use Rattle.bd_store.specs.Naming.{refusal_of}
 use Rattle.bd_store.specs.Newest.{IsNewestRecipe}
-use Rattle.bd_store.specs.Steps.{Task, task, is_full, IsNear, Answered, LeadsTo, MakesStep, KeptOrMade, StandsOnEitherSide}
-use Rattle.bd_store.proofs.Nearing.{near_before, near_grown}
+use Rattle.bd_store.specs.Steps.{Task, task, is_full_for, IsNear, Answered, LeadsTo, MakesStep, KeptOrMade, StandsOnEitherSide}
+use Rattle.bd_store.proofs.TaskMarks.{near_before, near_grown}
 use Rattle.bd_store.specs.Stops.{IsSureOf, IsSureAfter, IsSureBy, StopsOnEitherSide}
 
-entries_are : (old : List RecipeEntry) (v : ℕ) (w : List (List ℕ)) → AreEntriesOf (entries_in old v w) w
+entries_are : (old : List RecipeEntry) (v : ℕ) (w : List (List ℕ)) → AreEntriesOf (entries_of_chunks old v w) w
 entries_are old v w = record { marks = map-map (λ e. e.mark.0) _ w; lengths = map-map (λ (e : RecipeEntry). e.length) _ w }
 
 -- ---- marks that tell the versions with the new one apart
@@ -68,7 +68,7 @@ module _ (shape : Shape) (held : ℕ) (st : VersionState) (files : FileMap) (nam
   abbrev before : Versions
   before = history shape st
 
-  not_full : is_full (task shape held st files (Backup name)) ≡ false
+  not_full : is_full_for (task shape held st files (Backup name)) ≡ false
   not_full = λ k. ne_eqb (newest before) last_number (λ e. absurd (omega (arith, e, number_left))) k || ne_eqb (retained before) shape.retain (λ e. absurd (omega (arith, e, version_left))) k
 
   pub apart : (stream : List ℕ) → map.get files name ≡ Some stream → Distinct (version before (newest before) ++ chunks (cut_of shape) stream)
@@ -152,11 +152,11 @@ module _ (shape : Shape) (held : ℕ) (st : VersionState) (phase : Phase) (files
     fresh_is : new_by_mark old w ≡ fresh h w
     fresh_is = ap (λ es. new_by_mark es w) old_is ∙ law h w (apart shape held st files name number_left version_left near stream there)
 
-    count_is : counted_of shape.extent (recipe h (newest h)) (entries_in (recipe h (newest h)) (newest h + 1) w) free ≡ counted shape.extent h w free
-    count_is = recipes_give_the_counts.refused shape.extent free h w (entries_in (recipe h (newest h)) (newest h + 1) w) (entries_are (recipe h (newest h)) (newest h + 1) w) (apart shape held st files name number_left version_left near stream there)
+    count_is : counted_of shape.extent (recipe h (newest h)) (entries_of_chunks (recipe h (newest h)) (newest h + 1) w) free ≡ counted shape.extent h w free
+    count_is = recipes_give_the_counts.refused shape.extent free h w (entries_of_chunks (recipe h (newest h)) (newest h + 1) w) (entries_are (recipe h (newest h)) (newest h + 1) w) (apart shape held st files name number_left version_left near stream there)
 
-    need_is : need_of shape.extent (recipe h (newest h)) (entries_in (recipe h (newest h)) (newest h + 1) w) ≡ need shape.extent h w
-    need_is = recipes_give_the_counts.needed shape.extent h w (entries_in (recipe h (newest h)) (newest h + 1) w) (entries_are (recipe h (newest h)) (newest h + 1) w) (apart shape held st files name number_left version_left near stream there)
+    need_is : need_of shape.extent (recipe h (newest h)) (entries_of_chunks (recipe h (newest h)) (newest h + 1) w) ≡ need shape.extent h w
+    need_is = recipes_give_the_counts.needed shape.extent h w (entries_of_chunks (recipe h (newest h)) (newest h + 1) w) (entries_are (recipe h (newest h)) (newest h + 1) w) (apart shape held st files name number_left version_left near stream there)
 
   -- what an intake answers, in the shape's words
   abbrev Answers : Result Staged IntakeFault → Type 0
@@ -230,7 +230,7 @@ module _ (shape : Shape) (held : ℕ) (st : VersionState) (phase : Phase) (files
       (stored : (stream : List ℕ) → Holds files name stream → HoldsVersion found.sizes old (found.catalogue.newest + 1) (chunks (cut_in found.sizes) stream) staged (contents h1))
       (h2 : History) where
     abbrev after : Found
-    after = committed found (after_backup found.catalogue (version_entry staged.version) (fresh_entries staged.fresh))
+    after = committed found (after_backup found.catalogue (version_entry staged.version) (fresh_actives staged.fresh))
 
     abbrev named : Answer
     named = BackedUp (found.catalogue.newest + 1) staged.version.length staged.version.chunks staged.version.fresh staged.need
@@ -258,7 +258,7 @@ module _ (shape : Shape) (held : ℕ) (st : VersionState) (phase : Phase) (files
       entry : version_entry staged.version ≡ entry_for stream parts (fresh h parts) recipe_extents
       entry = is.version ∙ ap (λ cs. entry_for stream parts cs recipe_extents) new_is
 
-      own : fresh_entries staged.fresh ≡ own_category (found.catalogue.newest + 1) (fresh h parts) (fresh_extents staged.fresh)
+      own : fresh_actives staged.fresh ≡ own_category (found.catalogue.newest + 1) (fresh h parts) (fresh_extents staged.fresh)
       own = is.fresh ∙ (λ k. own_category (sym shows.numbers.newest k + 1) (new_is k) (fresh_extents staged.fresh))
 
       holds : HoldsVersion (sizes_of shape) (recipe h (newest h)) (newest h + 1) parts staged (contents h1)

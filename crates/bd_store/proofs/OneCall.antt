@@ -10,7 +10,7 @@ use Rattle.bd_model.specs.declared.command.Command.TheVariants.{Backup}
 use Rattle.bd_model.specs.declared.layout.Phase.TheVariants.{Settled}
 use Rattle.bd_model.specs.declared.layout.RecipeEntry.{RecipeEntry}
 use Rattle.bd_model.specs.Chunks.{chunks}
-use Rattle.bd_model.specs.History.{History as Versions, newest, version}
+use Rattle.bd_model.specs.History.{VersionHistory as Versions, newest, version}
 use Rattle.bd_model.specs.Marks.{Distinct}
 use Rattle.bd_model.specs.Recipe.{recipe}
 use Rattle.bd_model.specs.Room.{fresh}
@@ -23,7 +23,7 @@ use Rattle.bd_roll.specs.Growing.{after_backup}
 use Rattle.bd_catalog.specs.Opening.{Found}
 use Rattle.bd_roll.specs.Shown.{version_entry}
 use Rattle.bd_catalog.specs.Standing.{Stands}
-use Rattle.bd_roll.specs.Steps.{fresh_entries}
+use Rattle.bd_roll.specs.Steps.{fresh_actives}
 use Rattle.bd_catalog.specs.Steps.{committed, HasCommitted, IsKeptOrCommitted, IsOldOrCommitted}
 use Rattle.bd_intake.specs.declared.staged.Staged.{Staged}
 use Rattle.bd_intake.specs.declared.fault.IntakeFault.{IntakeFault}
@@ -67,7 +67,7 @@ module _ (found : Found) (name : List ℕ) (files files_now : FileMap) (same_fil
       (stored : (stream : List ℕ) → Holds files name stream → HoldsVersion found.sizes old (found.catalogue.newest + 1) (chunks (cut_in found.sizes) stream) staged (contents h1))
       (h2 : History) where
     abbrev after : Found
-    after = committed found (after_backup found.catalogue (version_entry staged.version) (fresh_entries staged.fresh))
+    after = committed found (after_backup found.catalogue (version_entry staged.version) (fresh_actives staged.fresh))
 
     abbrev named : Answer
     named = BackedUp (found.catalogue.newest + 1) staged.version.length staged.version.chunks staged.version.fresh staged.need

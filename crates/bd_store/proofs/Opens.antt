@@ -3,7 +3,7 @@ use Rattle.std.proofs.Common.{◌≡◌, ◌∙◌, ◌≤◌, ℕ, ◌-◌, tru
 use Rattle.bd_disk.specs.History.{History, Now, contents}
 use Rattle.bd_disk.specs.Images.{Agree, AgreeBut}
 use Rattle.bd_disk.specs.Made.{LeavesNow, LeavesSince, WritesNothing, WritesOnly}
-use Rattle.bd_disk.proofs.Agreeing.{agree_fewer, agree_sym, agree_trans}
+use Rattle.bd_disk.proofs.AgreeLemmas.{agree_fewer, agree_sym, agree_trans}
 use Rattle.bd_disk.proofs.Frames.{leaves_and, leaves_both, leaves_by_writes, leaves_now, leaves_quiet, leaves_wider, nothing_within}
 use Rattle.bd_model.specs.Sizes.{extent_place}
 use Rattle.bd_model.specs.declared.command.Command.{Command}
@@ -22,7 +22,7 @@ use Rattle.bd_store.specs.Deeds.{Deed, TakesIn, GivesBack, GivesUp, Settles, Che
 use Rattle.bd_store.specs.Opens.{KeepsOpening, KeepsReady, MakesNext, OpensNext, OpensOnEitherSide, OpensReady}
 use Rattle.bd_store.specs.Shown.{Shown}
 use Rattle.bd_store.specs.Writes.{IsUnowned, WritesFor, WritesReady, arranges}
-use Rattle.bd_store.proofs.Ending.{not_both}
+use Rattle.bd_store.proofs.CommandEnds.{not_both}
 
 -- ---- a store that is ready
 

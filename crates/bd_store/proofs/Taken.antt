@@ -4,7 +4,7 @@ use Rattle.std.proofs.lemmas.Bool.{cases_lt}
 use Rattle.bd_disk.specs.Images.{Agree, AgreeBut}
 use Rattle.bd_disk.specs.History.{contents}
 use Rattle.bd_model.specs.Chunks.{chunks}
-use Rattle.bd_model.specs.Laws.{entries_in}
+use Rattle.bd_model.specs.Laws.{entries_of_chunks}
 use Rattle.bd_model.specs.Room.{counted_of}
 use Rattle.bd_model.specs.declared.answer.Answer.{Answer}
 use Rattle.bd_model.specs.declared.answer.Answer.TheVariants.{BackedUp}
@@ -13,8 +13,8 @@ use Rattle.bd_catalog.specs.Agreement.{InExtents}
 use Rattle.bd_roll.specs.Catalogue.{retained_in}
 use Rattle.bd_catalog.specs.Opening.{Found}
 use Rattle.bd_catalog.specs.Steps.{InOtherHalf}
-use Rattle.bd_disk.proofs.Agreeing.{agree_fewer}
-use Rattle.bd_catalog.proofs.Agreeing.{begin_with_agrees, front_apart}
+use Rattle.bd_disk.proofs.AgreeLemmas.{agree_fewer}
+use Rattle.bd_catalog.proofs.AgreeLemmas.{begin_with_agrees, front_apart}
 use Rattle.bd_intake.specs.Answers.{HoldsVersion, IsVersion}
 use Rattle.bd_intake.specs.Firsts.{cut_in}
 use Rattle.bd_intake.specs.declared.staged.Staged.{Staged}
@@ -80,5 +80,5 @@ module _ (found mid : Found) (settled : IsSettledFrom found mid) (held : ℕ) (o
   pub counted_before : {counted free : ℕ} → CountsVersion (of mid) counted free → CountsVersion (of found) counted free
   counted_before {counted} {free} is = record {
     fewer = is.fewer;
-    counts = is.counts ∙ (λ k. counted_of (settled.sizes k).extent old (entries_in old (settled.newest k + 1) (chunks (cut_in (settled.sizes k)) stream)) free);
+    counts = is.counts ∙ (λ k. counted_of (settled.sizes k).extent old (entries_of_chunks old (settled.newest k + 1) (chunks (cut_in (settled.sizes k)) stream)) free);
   }

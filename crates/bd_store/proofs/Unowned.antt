@@ -8,7 +8,7 @@ use Rattle.bd_space.specs.declared.space.Use.TheVariants.{Free}
 use Rattle.bd_roll.specs.Catalogue.{all_extents}
 use Rattle.bd_catalog.specs.Opening.{Found}
 use Rattle.bd_catalog.specs.Steps.{InOtherHalf}
-use Rattle.bd_catalog.proofs.Agreeing.{front_apart, one_extent}
+use Rattle.bd_catalog.proofs.AgreeLemmas.{front_apart, one_extent}
 use Rattle.bd_catalog.specs.Agreement.{InFree}
 use Rattle.bd_volume.specs.Named.{IsBeside}
 use Rattle.bd_volume.proofs.Beside.{ends_within, free_or_taken, half_beside, half_front}

@@ -16,11 +16,11 @@ use Rattle.bd_catalog.specs.Agreement.{Agrees}
 use Rattle.bd_catalog.specs.Opening.{Found}
 use Rattle.bd_catalog.specs.Standing.{Stands}
 use Rattle.bd_recipe.specs.Marked.{Marked}
-use Rattle.bd_recipe.specs.Reading.{is_disk_fault}
+use Rattle.bd_recipe.specs.Reading.{is_disk_fault_of_read}
 use Rattle.bd_recipe.specs.declared.fault.ReadFault.{ReadFault}
 use Rattle.bd_recipe.specs.declared.fault.ReadFault.TheVariants.{DiskFault as ReadDisk, Damaged as ReadDamaged, OutOfMemory as ReadMemory}
 use Rattle.bd_arrange.specs.Arranged.{Arranges, ButDiskFault, IsSpared, KeepsStates}
-use Rattle.bd_store.specs.Attempts.{Attempt, EndsInDamage, IsAnswerOf, KeepsVersions, SettlesBy, TellsFigures, Meets, Scene, attempt, EndsFor, Finishes, MayLook, NamesFor, NewestEnds, ReadsByCommand, TransfersFor}
+use Rattle.bd_store.specs.Attempts.{Attempt, EndsInDamage, IsAnswerOf, KeepsVersions, SettlesBy, TellsFigures, Meets, Scene, attempt, EndsFor, FinishesTarget, MayLook, NamesFor, NewestEnds, ReadsByCommand, TransfersFor}
 use Rattle.bd_store.specs.Causes.{FailsOnlyByCount}
 use Rattle.bd_store.specs.Deeds.{Deed, TakesIn, GivesBack, GivesUp, Settles, Checks, Tells, deed_of, target_of}
 use Rattle.bd_store.specs.Following.{MakesReady, ReadiesFor, IsMadeReady}
@@ -34,15 +34,15 @@ use Rattle.bd_store.specs.Writes.{StepsTo, WritesArranging, WritesByCommand}
 use Rattle.bd_store.specs.declared.fault.StoreFault.{StoreFault}
 use Rattle.bd_store.specs.declared.fault.StoreFault.TheVariants.{DiskFault}
 use Rattle.bd_store.proofs.Behind.{quiet_writing, ready_settled}
-use Rattle.bd_store.proofs.Ending.{by_ready, gone_on, went_on, rests_not, first_two, not_both}
-use Rattle.bd_store.proofs.Meeting.{files_stay, given_nothing, spared, unfinished_stay}
-use Rattle.bd_store.proofs.Nearing.{near_state}
+use Rattle.bd_store.proofs.CommandEnds.{by_ready, gone_on, went_on, rests_not, first_two, not_both}
+use Rattle.bd_store.proofs.NothingTouched.{files_stay, given_nothing, spared, unfinished_stay}
+use Rattle.bd_store.proofs.TaskMarks.{near_state}
 use Rattle.bd_store.proofs.Opens.{opens_before}
 use Rattle.bd_store.proofs.Taken.{takes_nothing}
 
 -- ---- over whatever disk
 
-pub unready_cause : (fault : ReadFault) (c : Faults) (now : ℕ) → FailsByOne {T = Marked} is_disk_fault c.disk now (Err fault) → FailsOnlyByCount c (record c { disk = now }) (Err (fault_of_reading fault))
+pub unready_cause : (fault : ReadFault) (c : Faults) (now : ℕ) → FailsByOne {T = Marked} is_disk_fault_of_read c.disk now (Err fault) → FailsOnlyByCount c (record c { disk = now }) (Err (fault_of_reading fault))
 unready_cause ReadDisk c now is = record { later = record { disk = is.later; sources = omega arith; targets = omega arith; sink = omega arith }; cause = (is.cause, refl, refl, refl) }
 unready_cause (ReadDamaged damage) c now is = record { later = record { disk = is.later; sources = omega arith; targets = omega arith; sink = omega arith }; cause = ap (λ n. record c { disk = n }) is.cause }
 unready_cause ReadMemory c now is = record { later = record { disk = is.later; sources = omega arith; targets = omega arith; sink = omega arith }; cause = ap (λ n. record c { disk = n }) is.cause }
@@ -224,7 +224,7 @@ module _ (disk files : Type 0) (command : Command) (before : Scene) (mid : Found
     refusal_recipe told Checks may = absurd may
     refusal_recipe told Tells may = absurd may
 
-    refusal_finishes : (target : Option (List ℕ)) → Finishes target (Err (fault_of_reading fault)) before.world.unfinished
+    refusal_finishes : (target : Option (List ℕ)) → FinishesTarget target (Err (fault_of_reading fault)) before.world.unfinished
     refusal_finishes None = tt
     refusal_finishes (Some target) = given_nothing _ (fault_of_reading fault)
 

@@ -98,7 +98,7 @@ pub record GainsVersion (old new : Shown) (bytes chunks fresh : ℕ) : Type 0 wh
 
 -- The oldest version gone from a catalogue of the same versions, and so many extents with it. Where an expiry doesn't arrange,
 -- that catalogue is the one before.
-pub record LosesOldest (old new : Shown) (extents : ℕ) : Type 0 where
+pub record GivesUpOldest (old new : Shown) (extents : ℕ) : Type 0 where
   pub catalogue : Catalogue
   pub base : catalogue.base ≡ old.found.catalogue.base
   pub newest : catalogue.newest ≡ old.found.catalogue.newest
@@ -110,7 +110,7 @@ pub record LosesOldest (old new : Shown) (extents : ℕ) : Type 0 where
 -- the versions stay at every answer but that of a backup, of an expiry, and of a disk that failed
 abbrev pub VersionsOf : Kind → Shown → Shown → Type 0
 VersionsOf (Gained bytes chunks fresh) old new = GainsVersion old new bytes chunks fresh
-VersionsOf (Lost extents) old new = LosesOldest old new extents
+VersionsOf (Lost extents) old new = GivesUpOldest old new extents
 VersionsOf Given old new = SameVersions old new
 VersionsOf (Figures owned free) old new = SameVersions old new
 VersionsOf (NoRoom counted free held) old new = SameVersions old new
@@ -297,12 +297,12 @@ WhereRestored (Err (Damaged damage)) P = Unit {0}
 WhereRestored (Err OutOfMemory) P = Unit {0}
 
 -- the target of a restore that was answered is finished
-abbrev pub Finishes : Option (List ℕ) → Result Answer StoreFault → List (List ℕ) → Type 0
-Finishes None result unfinished = Unit {0}
-Finishes (Some target) result unfinished = WhereRestored result (IsFinished target unfinished)
+abbrev pub FinishesTarget : Option (List ℕ) → Result Answer StoreFault → List (List ℕ) → Type 0
+FinishesTarget None result unfinished = Unit {0}
+FinishesTarget (Some target) result unfinished = WhereRestored result (IsFinished target unfinished)
 
 abbrev pub FinishesByCommand : Command → Result Answer StoreFault → List (List ℕ) → Type 0
-FinishesByCommand command result unfinished = Finishes (target_of command) result unfinished
+FinishesByCommand command result unfinished = FinishesTarget (target_of command) result unfinished
 
 -- each name is as unfinished as it was, but for a target
 abbrev pub UnfinishesBut : Option (List ℕ) → List (List ℕ) → List (List ℕ) → Type 0

@@ -9,7 +9,7 @@ use Rattle.bd_model.specs.declared.answer.Answer.{Answer}
 use Rattle.bd_model.specs.declared.command.Command.{Command}
 use Rattle.bd_catalog.specs.Opening.{Found}
 use Rattle.bd_recipe.specs.Marked.{Marked}
-use Rattle.bd_recipe.specs.Reading.{is_disk_fault}
+use Rattle.bd_recipe.specs.Reading.{is_disk_fault_of_read}
 use Rattle.bd_recipe.specs.declared.fault.ReadFault.{ReadFault}
 use Rattle.bd_recipe.specs.declared.fault.ReadFault.TheVariants.{DiskFault as ReadDisk}
 use Rattle.bd_arrange.specs.Arranged.{IsSpared}
@@ -50,7 +50,7 @@ pub record IsMadeReadyOn (before after : Scene) (result : Result Marked ReadFaul
 -- a store that was made ready, or not
 pub record IsMadeReady (disk : Type 0) (before after : Scene) (result : Result Marked ReadFault) : Type 0 where
   pub beside : StaysBeside before.world after.world
-  pub cause : FailsByCount is_disk_fault before.world.counts.disk after.world.counts.disk result
+  pub cause : FailsByCount is_disk_fault_of_read before.world.counts.disk after.world.counts.disk result
   pub worn : (after.store.worn ≡ true) ↔ (result ≡ Err ReadDisk)
   pub held : after.store.held ≡ before.store.held
   pub store : Readies before.store after.store result

@@ -30,13 +30,13 @@ pub record Task : Type 0 where
 abbrev pub task : Shape → ℕ → VersionState → FileMap → Command → Task
 task shape held st files command = record { shape = shape; held = held; state = st; files = files; command = command }
 
-abbrev pub is_full : Task → Bool
-is_full t = newest (history t.shape t.state) == last_number || retained (history t.shape t.state) == t.shape.retain
+abbrev pub is_full_for : Task → Bool
+is_full_for t = newest (history t.shape t.state) == last_number || retained (history t.shape t.state) == t.shape.retain
 
 -- the state with the stream that the command reads as one version more
 abbrev pub versions_with : Task → Command → VersionState
 versions_with t (Backup name) =
-    record t.state { versions = t.state.versions ++ (if is_full t then [] else each_of (λ bytes. record { stream = bytes }) (option_to_list (map.get t.files name))) }
+    record t.state { versions = t.state.versions ++ (if is_full_for t then [] else each_of (λ bytes. record { stream = bytes }) (option_to_list (map.get t.files name))) }
 versions_with t (Restore v name) = t.state
 versions_with t Expire = t.state
 versions_with t Reorganise = t.state

@@ -1,7 +1,7 @@
 -- What a backup takes in of its source, whatever image it is.
 use Rattle.std.specs.Prelude.{◌≡◌, ◌<◌, ℕ, ◌+◌, List, length, IfOk, Result}
 use Rattle.bd_model.specs.Chunks.{chunks}
-use Rattle.bd_model.specs.Laws.{entries_in}
+use Rattle.bd_model.specs.Laws.{entries_of_chunks}
 use Rattle.bd_model.specs.Room.{counted_of}
 use Rattle.bd_model.specs.declared.answer.Answer.{Answer}
 use Rattle.bd_model.specs.declared.answer.Answer.TheVariants.{BackedUp}
@@ -10,7 +10,7 @@ use Rattle.bd_roll.specs.Catalogue.{all_extents}
 use Rattle.bd_roll.specs.Growing.{after_backup}
 use Rattle.bd_catalog.specs.Opening.{Found}
 use Rattle.bd_roll.specs.Shown.{version_entry}
-use Rattle.bd_roll.specs.Steps.{fresh_entries}
+use Rattle.bd_roll.specs.Steps.{fresh_actives}
 use Rattle.bd_intake.specs.Answers.{HoldsVersion, IsVersion}
 use Rattle.bd_intake.specs.Firsts.{cut_in}
 use Rattle.bd_intake.specs.declared.staged.Staged.{Staged}
@@ -42,13 +42,13 @@ pub record TakesVersion (s : Source) (answer : Answer) (after : Found) (image : 
   pub staged : Staged
   pub version : IsVersion s.found.sizes s.old (next_version s) s.stream (parts s) free staged
   pub figures : answer ≡ BackedUp (next_version s) staged.version.length staged.version.chunks staged.version.fresh staged.need
-  pub named : after.catalogue ≡ after_backup ready.catalogue (version_entry staged.version) (fresh_entries staged.fresh)
+  pub named : after.catalogue ≡ after_backup ready.catalogue (version_entry staged.version) (fresh_actives staged.fresh)
   pub holds : HoldsVersion s.found.sizes s.old (next_version s) (parts s) staged image
 
 -- what a refusal for room counts are its chunks
 pub record CountsVersion (s : Source) (counted free : ℕ) : Type 0 where
   pub fewer : free < counted
-  pub counts : counted ≡ counted_of s.found.sizes.extent s.old (entries_in s.old (next_version s) (parts s)) free
+  pub counts : counted ≡ counted_of s.found.sizes.extent s.old (entries_of_chunks s.old (next_version s) (parts s)) free
 
 -- what holds of a version that was taken in, and of a refusal for room
 abbrev pub WhereCut : Type 0 → (ℕ → ℕ → Type 0) → Kind → Type 0

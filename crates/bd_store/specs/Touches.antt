@@ -119,7 +119,7 @@ pub record ReadsOnce (found : Found) (v : ℕ) (old new : History) : Type 0 wher
   pub places : ReadsOnly (recipe_places found.sizes found.catalogue v ++ walk_reads found.sizes (recipe_of found.sizes found.catalogue (contents old) v) [] (spots_in found.sizes (contents old) (walk found.catalogue v))) old new
 
 -- a place of the newest recipe
-pub record InNewest (found : Found) (place : ℕ) : Type 0 where
+pub record InNewestRecipe (found : Found) (place : ℕ) : Type 0 where
   pub so : InRecipe found.sizes found.catalogue found.catalogue.newest place
 
 -- a place of the recipe of version v, or of a row on its walk
@@ -134,7 +134,7 @@ pub record InStored (found : Found) (place : ℕ) : Type 0 where
 
 -- a place of the newest recipe, or of an open category that is due
 pub record InArranging (found : Found) (place : ℕ) : Type 0 where
-  pub so : InNewest found place ⊎ InDue found place
+  pub so : InNewestRecipe found place ⊎ InDue found place
 
 -- A backup of a settled store reads the newest recipe and nothing else. One that is refused for a number touches nothing.
 abbrev pub BackupReadsFor : Kind → Found → History → History → Type 0

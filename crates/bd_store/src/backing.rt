@@ -7,7 +7,7 @@ ghost use Rattle.bd_model.specs.State.{last_number};
 ghost use Rattle.bd_model.specs.declared.command.Command.TheVariants.{Backup, Reorganise};
 ghost use Rattle.bd_model.specs.declared.layout.Phase.TheVariants.{Settled};
 ghost use Rattle.bd_roll.specs.Catalogue.{retained_in};
-ghost use Rattle.bd_recipe.specs.Reading.{is_disk_fault as is_read_disk_fault};
+ghost use Rattle.bd_recipe.specs.Reading.{is_disk_fault_of_read as is_read_disk_fault};
 ghost use Rattle.bd_arrange.specs.Arranged.{IsSpared};
 ghost use Rattle.bd_intake.specs.Given.{IsRecipeOrNone};
 ghost use Rattle.bd_files.specs.World.{World, with_disk, with_files};

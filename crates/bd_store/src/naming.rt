@@ -8,7 +8,7 @@ ghost use Rattle.bd_space.specs.Allotment.{extent_count, TakenExactly, KeepsHeld
 ghost use Rattle.bd_roll.specs.Catalogue.{all_extents};
 ghost use Rattle.bd_catalog.specs.Ledger.{HasRoom};
 ghost use Rattle.bd_roll.specs.Shown.{version_entry};
-ghost use Rattle.bd_roll.specs.Steps.{brought, fresh_entries, FitsBackup};
+ghost use Rattle.bd_roll.specs.Steps.{brought, fresh_actives, FitsBackup};
 ghost use Rattle.bd_catalog.specs.Steps.{after_step, InOtherHalf, IsMade, LeavesEither};
 ghost use Rattle.bd_store.specs.Naming.{AnswersNaming};
 
@@ -28,7 +28,7 @@ pub(crate) fn name_version<D: Disk>(
 ) -> Result<Answer, StoreFault>
     requires room { disk_bytes catalog.old.found.sizes ≤ D.bytes disk.old }
     requires reserved { HasRoom catalog.old }
-    requires fits { FitsBackup catalog.old.found.sizes catalog.old.found.catalogue (version_entry staged.version) (fresh_entries staged.fresh) }
+    requires fits { FitsBackup catalog.old.found.sizes catalog.old.found.catalogue (version_entry staged.version) (fresh_actives staged.fresh) }
     requires agrees { D.tells → Agrees catalog.old.found (D.history disk.old) }
     requires owners { TakenExactly space.old (all_extents catalog.old.found.catalogue ++ brought (Step.Backup staged.version staged.fresh)) }
     ensures disk { Writes D.Disk (InOtherHalf catalog.old.found) disk.old disk.new }

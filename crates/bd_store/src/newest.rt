@@ -8,7 +8,7 @@ ghost use Rattle.bd_model.specs.Sizes.{disk_bytes};
 ghost use Rattle.bd_roll.specs.Catalogue.{retained_in};
 ghost use Rattle.bd_catalog.specs.Damages.{IsSeen};
 ghost use Rattle.bd_intake.specs.Given.{IsRecipeOrNone};
-ghost use Rattle.bd_recipe.specs.Reading.{IfDamaged, InRecipe, is_disk_fault};
+ghost use Rattle.bd_recipe.specs.Reading.{IfDamaged, InRecipe, is_disk_fault_of_read};
 ghost use Rattle.bd_store.specs.Newest.{AnswersNewest, newest_places};
 
 use bd_catalog::Catalog;
@@ -24,7 +24,7 @@ pub(crate) fn newest_recipe<D: Disk>(
 ) -> Result<Neighbour, ReadFault>
     requires room { disk_bytes catalog.now.found.sizes ≤ D.bytes disk.old }
     ensures disk { Reads D.Disk (InRecipe catalog.now.found.sizes catalog.now.found.catalogue catalog.now.found.catalogue.newest) disk.old disk.new }
-    ensures cause { FailsByCount is_disk_fault (D.faults disk.old) (D.faults disk.new) result }
+    ensures cause { FailsByCount is_disk_fault_of_read (D.faults disk.old) (D.faults disk.new) result }
     ensures recipe { IfOk result (λ n. IsRecipeOrNone catalog.now.found.sizes catalog.now.found.catalogue n.entries) }
     ensures some { IfDamaged result (λ damage. 1 ≤ retained_in catalog.now.found.catalogue) }
     ensures entries { D.tells → AnswersNewest catalog.now.found (contents (D.history disk.old)) result }

@@ -13,10 +13,10 @@ use Rattle.bd_model.proofs.RoomLemmas.{up-enough}
 use Rattle.bd_extio.specs.Ranges.{AreExtents}
 use Rattle.bd_extio.proofs.Places.{length-owner_bytes}
 use Rattle.bd_space.specs.Allotment.{Allotment, IsTaken}
-use Rattle.bd_roll.specs.Catalogue.{bytes_of_rows, starts_of}
+use Rattle.bd_roll.specs.Catalogue.{bytes_of_rows, row_starts}
 use Rattle.bd_roll.specs.Rules.{row_holds}
 use Rattle.bd_catalog.specs.Standing.{BeginWith}
-use Rattle.bd_catalog.proofs.Agreeing.{begin_with_more}
+use Rattle.bd_catalog.proofs.AgreeLemmas.{begin_with_more}
 use Rattle.bd_volume.specs.Filled.{Filled}
 use Rattle.bd_volume.specs.Growing.{AddsExtents, AreCounted, CanGrow, HasExtents, NoneLater, rows_after}
 use Rattle.bd_volume.proofs.RowsMore.{bytes-rows_more, rows_more-ascend, rows_more-hold}
@@ -42,7 +42,7 @@ module _ (s : Sizes) (some : 1 ≤ s.extent) (old room new : Filled) (start chun
   pub grown : s.max ≤ 65536 → CanGrow s space old → NoneLater old start → AreCounted s chunks bytes → bytes_of_rows old.rows + bytes < 2 ^ 42 → CanGrow s space_now new
   grown short grows order counted small = record {
     rows = ap (list_all (row_holds s)) rows_put ∙ rows_more-hold s short (max start old.oldest) chunks bytes counted old.rows small grows.rows;
-    ascend = subst (λ l. IsStrictlyIncreasing (starts_of l)) (sym rows_put) (rows_more-ascend (max start old.oldest) chunks bytes old.rows order grows.ascend);
+    ascend = subst (λ l. IsStrictlyIncreasing (row_starts l)) (sym rows_put) (rows_more-ascend (max start old.oldest) chunks bytes old.rows order grows.ascend);
     extents = record {
       sized = ap length numbers_put ∙ after.sized ∙ ap (up s.extent) (sym bytes-after);
       extents = subst (AreExtents s) (sym numbers_put) after.extents;

@@ -10,7 +10,7 @@ use Rattle.bd_model.specs.declared.layout.CategoryRow.{CategoryRow}
 use Rattle.bd_model.specs.declared.layout.Phase.{Phase}
 use Rattle.bd_model.specs.Chunks.{numbers}
 use Rattle.bd_model.specs.Extents.{owner_bytes}
-use Rattle.bd_model.specs.History.{History, newest, oldest}
+use Rattle.bd_model.specs.History.{VersionHistory, newest, oldest}
 use Rattle.bd_model.specs.Layout.{closed_volume, open_category, record_bytes, row_chunks, row_of, rows}
 use Rattle.bd_model.specs.Records.{record_of, records_of}
 use Rattle.bd_model.specs.Sizes.{Sizes, sizes_of}
@@ -22,11 +22,11 @@ use Rattle.bd_roll.specs.Catalogue.{Catalogue, OpenEntry, active_extents, oldest
 use Rattle.bd_catalog.specs.Rows.{open_row, rows_from, rows_in, volume_rows}
 use Rattle.bd_roll.specs.Rules.{obeys}
 use Rattle.bd_catalog.specs.Standing.{BeginWith, HasActives, HasNumbers, HasVolumes}
-use Rattle.bd_catalog.proofs.Standing.{Shows, stands-shows}
+use Rattle.bd_catalog.proofs.StandingLemmas.{Shows, stands-shows}
 use Rattle.bd_catalog.proofs.StandingFound.{opened-found}
 use Rattle.bd_catalog.proofs.StandingLines.{get_or-map_range}
 use Rattle.bd_volume.specs.Holding.{HoldsRows, LayoutsAreHeld, group_at, groups_over}
-use Rattle.bd_volume.proofs.Naming.{AreOwned, opens_owned}
+use Rattle.bd_volume.proofs.PieceLemmas.{AreOwned, opens_owned}
 
 -- what begins with two parts begins with the first, and behind it with the second
 first_part : (x y z : List ℕ) → take (length (x ++ y)) z ≡ x ++ y → take (length x) z ≡ x
@@ -114,7 +114,7 @@ module _ (s : Sizes) (image : List ℕ) (f : ℕ → List (List ℕ)) where
 
 -- ---- the layout of a state
 
-module _ (s : Sizes) (h : History) (phase : Phase) (c : Catalogue) (image : List ℕ) where
+module _ (s : Sizes) (h : VersionHistory) (phase : Phase) (c : Catalogue) (image : List ℕ) where
   -- the rows of a closed volume
   pub rows_stand : HasNumbers h c → HasVolumes s h phase c image → (j : ℕ) → oldest h ≤ j → j < newest h → rows_in c j ≡ rows h phase j
   rows_stand numbered volumes j low high =

@@ -17,7 +17,7 @@ use Rattle.bd_model.proofs.ChunkListLemmas.{contains-append}
 use Rattle.bd_catalog.specs.Rows.{RowPlace, Spot, begun_by, row_spots, rows_from, spots_from, spots_in}
 use Rattle.bd_catalog.specs.Sound.{part_holds, part_records}
 use Rattle.bd_catalog.specs.Walks.{record_reads}
-use Rattle.bd_volume.specs.Holding.{Group, HoldsRow, HoldsRows, chunks_in}
+use Rattle.bd_volume.specs.Holding.{Group, HoldsRow, HoldsRows, chunks_of_groups}
 use Rattle.bd_volume.proofs.StoredChunks.{Bounded, stored_of, bounded_later, behind_chunk, chunk-read, part_stands, small_first, stored-records}
 use Rattle.bd_volume.proofs.WalkRecords.{part_at}
 
@@ -62,11 +62,11 @@ module _ (s : Sizes) (image : List ℕ) where
       ])
 
 module _ (s : Sizes) (short : s.max ≤ 65536) (image : List ℕ) where
-  bounded_first : (g : Group) (gs : List Group) → Bounded s (chunks_in (g ∷ gs)) → Bounded s g.chunks
-  bounded_first g gs bounded = λ c has. bounded c (contains-append g.chunks (chunks_in gs) c ∙ or_left (contains g.chunks c) (contains (chunks_in gs) c) has)
+  bounded_first : (g : Group) (gs : List Group) → Bounded s (chunks_of_groups (g ∷ gs)) → Bounded s g.chunks
+  bounded_first g gs bounded = λ c has. bounded c (contains-append g.chunks (chunks_of_groups gs) c ∙ or_left (contains g.chunks c) (contains (chunks_of_groups gs) c) has)
 
-  bounded_rest : (g : Group) (gs : List Group) → Bounded s (chunks_in (g ∷ gs)) → Bounded s (chunks_in gs)
-  bounded_rest g gs bounded = λ c has. bounded c (contains-append g.chunks (chunks_in gs) c ∙ or_right (contains g.chunks c) (contains (chunks_in gs) c) has)
+  bounded_rest : (g : Group) (gs : List Group) → Bounded s (chunks_of_groups (g ∷ gs)) → Bounded s (chunks_of_groups gs)
+  bounded_rest g gs bounded = λ c has. bounded c (contains-append g.chunks (chunks_of_groups gs) c ∙ or_right (contains g.chunks c) (contains (chunks_of_groups gs) c) has)
 
   -- ---- records
 
@@ -74,16 +74,16 @@ module _ (s : Sizes) (short : s.max ≤ 65536) (image : List ℕ) where
   row_held p g holds bounded = (λ i. stored_in (holds.row i).chunks (holds.bytes i)) ∙ stored-records s short g.chunks bounded
 
   -- the records of rows are those of their chunks
-  pub held_records : (ps : List RowPlace) (gs : List Group) → HoldsRows s image ps gs → Bounded s (chunks_in gs) → flat_map part_records (map (part_at s image) ps) ≡ map stored_of (chunks_in gs)
+  pub held_records : (ps : List RowPlace) (gs : List Group) → HoldsRows s image ps gs → Bounded s (chunks_of_groups gs) → flat_map part_records (map (part_at s image) ps) ≡ map stored_of (chunks_of_groups gs)
   held_records [] [] holds bounded = refl
   held_records [] (g ∷ gs) holds bounded = absurd holds
   held_records (p ∷ ps) [] holds bounded = absurd holds
   held_records (p ∷ ps) (g ∷ gs) holds bounded =
       (λ i. row_held p g holds.0 (bounded_first g gs bounded) i ++ held_records ps gs holds.1 (bounded_rest g gs bounded) i)
-      ∙ sym (map-append stored_of g.chunks (chunks_in gs))
+      ∙ sym (map-append stored_of g.chunks (chunks_of_groups gs))
 
   -- and each of them holds
-  pub held_parts : (ps : List RowPlace) (gs : List Group) → HoldsRows s image ps gs → Bounded s (chunks_in gs) → list_all (part_holds s) (map (part_at s image) ps) ≡ true
+  pub held_parts : (ps : List RowPlace) (gs : List Group) → HoldsRows s image ps gs → Bounded s (chunks_of_groups gs) → list_all (part_holds s) (map (part_at s image) ps) ≡ true
   held_parts [] [] holds bounded = refl
   held_parts [] (g ∷ gs) holds bounded = absurd holds
   held_parts (p ∷ ps) [] holds bounded = absurd holds
@@ -116,8 +116,8 @@ module _ (s : Sizes) (short : s.max ≤ 65536) (image : List ℕ) where
     spot_reads-append xs ys = flat_map-append (λ (x : Spot). places_at s x.extents x.at 36 ++ (if used x.stored.body then places_at s x.extents (x.at + 36) x.stored.length else [])) xs ys
 
     -- of rows of one owner, end to end
-    pub owner_reads : (who : Owner) (extents : List ℕ) (from : ℕ) (rows : List CategoryRow) (gs : List Group) → HoldsRows s image (rows_from who extents from rows) gs → Bounded s (chunks_in gs) →
-        spot_reads s used (spots_in s image (rows_from who extents from rows)) ≡ record_reads s extents used from (chunks_in gs)
+    pub owner_reads : (who : Owner) (extents : List ℕ) (from : ℕ) (rows : List CategoryRow) (gs : List Group) → HoldsRows s image (rows_from who extents from rows) gs → Bounded s (chunks_of_groups gs) →
+        spot_reads s used (spots_in s image (rows_from who extents from rows)) ≡ record_reads s extents used from (chunks_of_groups gs)
     owner_reads who extents from [] [] holds bounded = refl
     owner_reads who extents from [] (g ∷ gs) holds bounded = absurd holds
     owner_reads who extents from (row ∷ rows) [] holds bounded = absurd holds
@@ -126,5 +126,5 @@ module _ (s : Sizes) (short : s.max ≤ 65536) (image : List ℕ) where
         let size : from + row.bytes ≡ from + record_bytes g.chunks = ap (λ (r : CategoryRow). from + r.bytes) holds.0.row in
         spot_reads-append (row_spots s image p) (spots_in s image (rows_from who extents (from + row.bytes) rows))
         ∙ (λ i. row_reads p g holds.0 (bounded_first g gs bounded) i ++ owner_reads who extents (from + row.bytes) rows gs holds.1 (bounded_rest g gs bounded) i)
-        ∙ ap (λ n. record_reads s extents used from g.chunks ++ record_reads s extents used n (chunks_in gs)) size
-        ∙ sym (reads-append s used extents from g.chunks (chunks_in gs))
+        ∙ ap (λ n. record_reads s extents used from g.chunks ++ record_reads s extents used n (chunks_of_groups gs)) size
+        ∙ sym (reads-append s used extents from g.chunks (chunks_of_groups gs))

@@ -11,7 +11,7 @@ use Rattle.bd_model.specs.declared.damage.Owner.TheVariants.{Volume}
 use Rattle.bd_model.specs.declared.layout.CategoryRow.{CategoryRow}
 use Rattle.bd_model.specs.declared.layout.Phase.{Phase}
 use Rattle.bd_model.specs.Chunks.{numbers}
-use Rattle.bd_model.specs.History.{History, contains, newest, oldest}
+use Rattle.bd_model.specs.History.{VersionHistory, contains, newest, oldest}
 use Rattle.bd_model.specs.Laws.{front_of}
 use Rattle.bd_model.specs.Layout.{open_category, record_bytes, row_chunks, row_of}
 use Rattle.bd_model.specs.Sizes.{Sizes}
@@ -23,10 +23,10 @@ use Rattle.bd_catalog.specs.Rows.{RowPlace, begun_by, open_row, row_spots, rows_
 use Rattle.bd_roll.specs.Rules.{obeys}
 use Rattle.bd_catalog.specs.Sound.{part_holds, part_records, parts_for, records_for}
 use Rattle.bd_catalog.specs.Walks.{record_reads}
-use Rattle.bd_volume.specs.Holding.{Group, HoldsLayout, HoldsRows, chunks_in, group_at, groups_over}
+use Rattle.bd_volume.specs.Holding.{Group, HoldsLayout, HoldsRows, chunks_of_groups, group_at, groups_over}
 use Rattle.bd_volume.proofs.HeldRows.{begun_groups, held-append, held_begun, held_parts, held_records, owner_reads, row_reads, spot_reads, spot_reads-append}
 use Rattle.bd_volume.proofs.MappedLists.{filter_mapped}
-use Rattle.bd_volume.proofs.Naming.{AreOwned, opens_owned, owned-begun}
+use Rattle.bd_volume.proofs.PieceLemmas.{AreOwned, opens_owned, owned-begun}
 use Rattle.bd_volume.proofs.RowLists.{begun-append}
 use Rattle.bd_volume.proofs.StoredChunks.{Bounded, stored_of}
 use Rattle.bd_volume.proofs.WalkRecords.{walk_parts}
@@ -34,10 +34,10 @@ use Rattle.bd_volume.proofs.WalkRecords.{walk_parts}
 -- ---- groups
 
 -- groups without chunks have none
-pub chunks-over : (f : ℕ → List (List ℕ)) (starts : List ℕ) → chunks_in (groups_over f starts) ≡ flat_map f starts
+pub chunks-over : (f : ℕ → List (List ℕ)) (starts : List ℕ) → chunks_of_groups (groups_over f starts) ≡ flat_map f starts
 chunks-over f [] = refl
 chunks-over f (a ∷ starts) =
-    elim (nat_lt 0 (length (f a))) as (λ t. nat_lt 0 (length (f a)) ≡ t → chunks_in (cond t (group_at f a ∷ groups_over f starts) (groups_over f starts)) ≡ f a ++ flat_map f starts) [
+    elim (nat_lt 0 (length (f a))) as (λ t. nat_lt 0 (length (f a)) ≡ t → chunks_of_groups (cond t (group_at f a ∷ groups_over f starts) (groups_over f starts)) ≡ f a ++ flat_map f starts) [
       | true ↦ λ _. ap (λ l. f a ++ l) (chunks-over f starts)
       | false ↦ λ none. chunks-over f starts ∙ ap (λ cs. cs ++ flat_map f starts) (sym (no_chunks (f a) none))
     ] refl
@@ -130,10 +130,10 @@ bounded_right s xs ys bounded = λ c has. bounded c (contains-append xs ys c ∙
 
 -- the chunks whose records a restore of v walks over: the fronts of the closed volumes from v on, and the open categories
 -- that begin at v or before
-abbrev pub walked : History → Phase → ℕ → List (List ℕ)
+abbrev pub walked : VersionHistory → Phase → ℕ → List (List ℕ)
 walked h phase v = flat_map (λ j. front_of h phase j v) (numbers v (newest h - 1)) ++ flat_map (open_category h phase) (numbers (h.base + 1) v)
 
-module _ (s : Sizes) (h : History) (phase : Phase) (c : Catalogue) (image : List ℕ) (layout : HoldsLayout s h phase c image) (v : ℕ) (low : oldest h ≤ v) (high : v ≤ newest h) (last : c.newest ≡ newest h) where
+module _ (s : Sizes) (h : VersionHistory) (phase : Phase) (c : Catalogue) (image : List ℕ) (layout : HoldsLayout s h phase c image) (v : ℕ) (low : oldest h ≤ v) (high : v ≤ newest h) (last : c.newest ≡ newest h) where
   abbrev volume_groups : ℕ → List Group
   volume_groups j = groups_over (row_chunks h phase j) (numbers (oldest h) v)
 
@@ -174,19 +174,19 @@ module _ (s : Sizes) (h : History) (phase : Phase) (c : Catalogue) (image : List
       subst (λ ps. HoldsRows s image ps walk_groups) (sym walk-is)
       (held-append s image (begun_by v (flat_map (volume_rows c) (numbers v (newest h - 1)))) (begun_by v (map open_row c.actives)) (flat_map volume_groups (numbers v (newest h - 1))) open_groups (volumes_walked v (newest h - 1 + 1 - v) (omega arith) (omega arith)) opens_walked)
 
-  volumes-chunks : (js : List ℕ) → chunks_in (flat_map volume_groups js) ≡ flat_map (λ j. front_of h phase j v) js
+  volumes-chunks : (js : List ℕ) → chunks_of_groups (flat_map volume_groups js) ≡ flat_map (λ j. front_of h phase j v) js
   volumes-chunks [] = refl
   volumes-chunks (j ∷ js) =
       flat_map-append (λ (g : Group). g.chunks) (volume_groups j) (flat_map volume_groups js)
       ∙ (λ i. chunks-over (row_chunks h phase j) (numbers (oldest h) v) i ++ volumes-chunks js i)
 
-  chunks-walked : chunks_in walk_groups ≡ walked h phase v
+  chunks-walked : chunks_of_groups walk_groups ≡ walked h phase v
   chunks-walked =
       flat_map-append (λ (g : Group). g.chunks) (flat_map volume_groups (numbers v (newest h - 1))) open_groups
       ∙ (λ i. volumes-chunks (numbers v (newest h - 1)) i ++ chunks-over (open_category h phase) (numbers (h.base + 1) v) i)
 
   module _ (short : s.max ≤ 65536) (bounded : Bounded s (walked h phase v)) where
-    bounded_groups : Bounded s (chunks_in walk_groups)
+    bounded_groups : Bounded s (chunks_of_groups walk_groups)
     bounded_groups = subst (Bounded s) (sym chunks-walked) bounded
 
     -- where a restore of v looks there are the records of these chunks
@@ -220,7 +220,7 @@ module _ (s : Sizes) (h : History) (phase : Phase) (c : Catalogue) (image : List
           rows_are s image (Volume j) extents 0 (rows_in c j) (groups_over f (numbers (oldest h) j)) (layout.volumes j (omega arith) to) ∙ rows-over f (numbers (oldest h) j) in
           let begun : begun_by v (volume_rows c j) ≡ rows_from (Volume j) extents 0 (rows_over f starts) =
           ap (λ rs. begun_by v (rows_from (Volume j) extents 0 rs)) rows ∙ rows-begun v (Volume j) extents f 0 (oldest h) (j + 1 - oldest h) (v + 1 - oldest h) (omega arith) (omega arith) in
-          let chunks : chunks_in (volume_groups j) ≡ front_of h phase j v = chunks-over f starts in
+          let chunks : chunks_of_groups (volume_groups j) ≡ front_of h phase j v = chunks-over f starts in
           ap (λ ps. spot_reads s used (spots_in s image ps)) begun
           ∙ owner_reads s short image used (Volume j) extents 0 (rows_over f starts) (volume_groups j) (subst (λ ps. HoldsRows s image ps (volume_groups j)) begun (volume_walked j from to)) (subst (Bounded s) (sym chunks) within)
           ∙ ap (record_reads s extents used 0) chunks
@@ -239,7 +239,7 @@ module _ (s : Sizes) (h : History) (phase : Phase) (c : Catalogue) (image : List
           ∙ (λ i. volume_read a from (omega arith) (bounded_left s front fronts within) i ++ volumes_read (a + 1) n (omega arith) (omega arith) (bounded_right s front fronts within) i)
 
       -- open categories by their groups
-      groups_read : (es : List OpenEntry) (gs : List Group) → HoldsRows s image (map open_row es) gs → AreOwned c (map open_row es) → Bounded s (chunks_in gs) →
+      groups_read : (es : List OpenEntry) (gs : List Group) → HoldsRows s image (map open_row es) gs → AreOwned c (map open_row es) → Bounded s (chunks_of_groups gs) →
           spot_reads s used (spots_in s image (map open_row es)) ≡ flat_map (λ g. record_reads s (active_extents c g.start) used 0 g.chunks) gs
       groups_read [] [] holds owned within = refl
       groups_read [] (g ∷ gs) holds owned within = absurd holds
@@ -247,7 +247,7 @@ module _ (s : Sizes) (h : History) (phase : Phase) (c : Catalogue) (image : List
       groups_read (e ∷ es) (g ∷ gs) holds owned within =
           let own : e.extents ≡ active_extents c g.start = sym owned.0 ∙ ap (λ (r : CategoryRow). active_extents c r.start) holds.0.row in
           spot_reads-append s short image used (row_spots s image (open_row e)) (spots_in s image (map open_row es))
-          ∙ (λ i. row_reads s short image used (open_row e) g holds.0 (bounded_left s g.chunks (chunks_in gs) within) i ++ groups_read es gs holds.1 owned.1 (bounded_right s g.chunks (chunks_in gs) within) i)
+          ∙ (λ i. row_reads s short image used (open_row e) g holds.0 (bounded_left s g.chunks (chunks_of_groups gs) within) i ++ groups_read es gs holds.1 owned.1 (bounded_right s g.chunks (chunks_of_groups gs) within) i)
           ∙ ap (λ xs. record_reads s xs used 0 g.chunks ++ flat_map (λ (x : Group). record_reads s (active_extents c x.start) used 0 x.chunks) gs) own
 
       reads-over : (starts : List ℕ) → flat_map (λ (g : Group). record_reads s (active_extents c g.start) used 0 g.chunks) (groups_over (open_category h phase) starts) ≡ flat_map open_reads starts

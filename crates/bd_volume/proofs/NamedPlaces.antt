@@ -10,13 +10,13 @@ use Rattle.std.proofs.lemmas.List.Folds.{list_all-append}
 use Rattle.std.proofs.lemmas.List.Sums.{AllPass-from_list_all}
 use Rattle.std.proofs.lemmas.Grind.{same_number_lists}
 use Rattle.bd_disk.specs.Images.{Agree}
-use Rattle.bd_disk.proofs.Agreeing.{agree_fewer}
+use Rattle.bd_disk.proofs.AgreeLemmas.{agree_fewer}
 use Rattle.bd_model.specs.declared.layout.CategoryRow.{CategoryRow}
 use Rattle.bd_model.specs.declared.layout.Phase.{Phase}
 use Rattle.bd_model.specs.declared.shape.Shape.{Shape}
 use Rattle.bd_model.specs.Chunks.{numbers}
 use Rattle.bd_model.specs.Extents.{owner_bytes}
-use Rattle.bd_model.specs.History.{History, newest, oldest, version}
+use Rattle.bd_model.specs.History.{VersionHistory, newest, oldest, version}
 use Rattle.bd_model.specs.Layout.{closed_volume, open_category, row_of, rows}
 use Rattle.bd_model.specs.Recipe.{entry_of, recipe}
 use Rattle.bd_model.specs.Records.{records_of, spelled_entry, spelled_recipe}
@@ -34,13 +34,13 @@ use Rattle.bd_catalog.specs.Opening.{Found, opened}
 use Rattle.bd_catalog.specs.Rows.{open_row}
 use Rattle.bd_roll.specs.Rules.{active_holds, all_differ, obeys, version_holds, volume_holds}
 use Rattle.bd_catalog.specs.Standing.{BeginWith, HasActives, HasNumbers, HasVersions, HasVolumes, StandsFor}
-use Rattle.bd_catalog.proofs.Standing.{Shows, shows_same, stands-shown, stands-shows}
+use Rattle.bd_catalog.proofs.StandingLemmas.{Shows, shows_same, stands-shown, stands-shows}
 use Rattle.bd_catalog.proofs.StandingFound.{Obeys, obeys-each, opened-found}
 use Rattle.bd_catalog.proofs.StandingLines.{chunks_recorded}
-use Rattle.bd_roll.proofs.Obeying.{count_in_category, count_in_version, count_in_volume}
+use Rattle.bd_roll.proofs.RuleLemmas.{count_in_category, count_in_version, count_in_volume}
 use Rattle.bd_volume.specs.Named.{InNamed, Named, named_by, open_named, recipe_named, volume_named}
 use Rattle.bd_volume.proofs.Held.{one_entry, rows_stand}
-use Rattle.bd_volume.proofs.Naming.{AreOwned, opens_owned}
+use Rattle.bd_volume.proofs.PieceLemmas.{AreOwned, opens_owned}
 
 -- what an owner begins with lies in so many of its first places
 module _ (s : Sizes) (extents bytes old new : List ℕ) (some : 1 ≤ s.extent) (below : All (λ e. e < s.extents) extents) (room : disk_bytes s ≤ length old) (inside : length bytes ≤ length extents * s.extent)
@@ -164,7 +164,7 @@ open_at c f es a (suc n) is owned i from to has =
 
 -- ---- the parts of a state
 
-length-recipe : (h : History) (v : ℕ) (cs : List (List ℕ)) → length (spelled_recipe (map (entry_of h v) cs)) ≡ 40 * length cs
+length-recipe : (h : VersionHistory) (v : ℕ) (cs : List (List ℕ)) → length (spelled_recipe (map (entry_of h v) cs)) ≡ 40 * length cs
 length-recipe h v [] = refl
 length-recipe h v (c ∷ cs) =
     omega (arith, length-append (spelled_entry (entry_of h v c)) (spelled_recipe (map (entry_of h v) cs)), length-spelled_entry (entry_of h v c) (length-mark c), length-recipe h v cs)
@@ -178,7 +178,7 @@ module _ (s : Sizes) (some : 1 ≤ s.extent) (c : Catalogue) (rules : IsTrue (ob
       (agree_fewer (InNamed s c) (InOwner s o.extents 0 (length bytes)) old new
       (λ place p. record { owner = o; among = among; within = record { k = p.k; within = omega (arith, p.within); so = p.so } }) agree)
 
-  module _ (h : History) (phase : Phase) (numbered : HasNumbers h c) where
+  module _ (h : VersionHistory) (phase : Phase) (numbered : HasNumbers h c) where
     pub volumes_begin : HasVolumes s h phase c old → HasVolumes s h phase c new
     volumes_begin has = record {
       rows = has.rows;

@@ -20,7 +20,7 @@ use Rattle.bd_category.specs.Records.{header_at, header_in, body_at}
 use Rattle.bd_catalog.specs.Damages.{header_holds, header_places}
 use Rattle.bd_catalog.specs.Rows.{RowPlace, Spot, row_end, row_spots, spot_in}
 use Rattle.bd_catalog.specs.Sound.{length_holds}
-use Rattle.bd_volume.specs.Headers.{HasGoodHeaders, IsRefused}
+use Rattle.bd_volume.specs.Headers.{HasGoodHeaders, IsRefusedAt}
 use Rattle.bd_volume.proofs.Spots.{same_length}
 
 -- ---- the record behind a header
@@ -155,7 +155,7 @@ module _ (s : Sizes) (image : List ℕ) (p : RowPlace) (at : ℕ) where
       let read = second (nat_lt (row_end p - at) 36) (BadHeader p.who at 0 (row_end p - at)) (header_in s.max p.who at left header) h is in
       holds_is (omega (arith, fits)) ∙ passed test as_read h (BadHeader p.who at said left) read.1
 
-  pub refused_header : (damage : Damage) {old new : History} → at ≤ row_end p → header_at s p.who at (row_end p) owner ≡ Err damage → ReadsOnly (if nat_lt (row_end p - at) 36 then [] else header_places s x) old new → IsRefused s p x damage old new
+  pub refused_header : (damage : Damage) {old new : History} → at ≤ row_end p → header_at s p.who at (row_end p) owner ≡ Err damage → ReadsOnly (if nat_lt (row_end p - at) 36 then [] else header_places s x) old new → IsRefusedAt s p x damage old new
   refused_header damage {old} {new} low is reads =
       elim (either (nat_lt (row_end p - at) 36) (BadHeader p.who at 0 (row_end p - at)) (header_in s.max p.who at left header) damage is) [
         | inl short ↦

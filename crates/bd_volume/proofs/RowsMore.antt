@@ -12,7 +12,7 @@ use Rattle.bd_model.specs.declared.layout.CategoryRow.{CategoryRow}
 use Rattle.bd_model.specs.Laws.{rows_more}
 use Rattle.bd_model.specs.Sizes.{Sizes}
 use Rattle.bd_model.proofs.ListLemmas.{left_and, right_and}
-use Rattle.bd_roll.specs.Catalogue.{bytes_of_rows, starts_of}
+use Rattle.bd_roll.specs.Catalogue.{bytes_of_rows, row_starts}
 use Rattle.bd_roll.specs.Rules.{fits_eight, row_holds}
 use Rattle.bd_volume.specs.Growing.{AreCounted}
 
@@ -65,26 +65,26 @@ IsStrictlyIncreasing-one x k lt = absurd (omega (arith, lt))
 
 module _ (r chunks bytes : ℕ) where
   -- the first row begins where it did
-  first_start : (row : CategoryRow) (rows : List CategoryRow) → get_or (starts_of (rows_more r chunks bytes (row ∷ rows))) 0 0 ≡ row.start
+  first_start : (row : CategoryRow) (rows : List CategoryRow) → get_or (row_starts (rows_more r chunks bytes (row ∷ rows))) 0 0 ≡ row.start
   first_start row [] =
-      elim (row.start == r) as (λ t. get_or (starts_of (cond t (record { start = row.start; chunks = row.chunks + chunks; bytes = row.bytes + bytes } ∷ []) (row ∷ record { start = r; chunks = chunks; bytes = bytes } ∷ []))) 0 0 ≡ row.start) [
+      elim (row.start == r) as (λ t. get_or (row_starts (cond t (record { start = row.start; chunks = row.chunks + chunks; bytes = row.bytes + bytes } ∷ []) (row ∷ record { start = r; chunks = chunks; bytes = bytes } ∷ []))) 0 0 ≡ row.start) [
         | true ↦ refl
         | false ↦ refl
       ]
   first_start row (second ∷ rows) = refl
 
-  pub rows_more-ascend : (rows : List CategoryRow) → All (λ row. row.start ≤ r) rows → IsStrictlyIncreasing (starts_of rows) → IsStrictlyIncreasing (starts_of (rows_more r chunks bytes rows))
+  pub rows_more-ascend : (rows : List CategoryRow) → All (λ row. row.start ≤ r) rows → IsStrictlyIncreasing (row_starts rows) → IsStrictlyIncreasing (row_starts (rows_more r chunks bytes rows))
   rows_more-ascend [] order rise = IsStrictlyIncreasing-one r
   rows_more-ascend (row ∷ []) order rise =
       let low : row.start ≤ r = All-head (λ (x : CategoryRow). x.start ≤ r) row [] order in
-      elim (row.start == r) as (λ t. (row.start == r) ≡ t → IsStrictlyIncreasing (starts_of (cond t (record { start = row.start; chunks = row.chunks + chunks; bytes = row.bytes + bytes } ∷ []) (row ∷ record { start = r; chunks = chunks; bytes = bytes } ∷ [])))) [
+      elim (row.start == r) as (λ t. (row.start == r) ≡ t → IsStrictlyIncreasing (row_starts (cond t (record { start = row.start; chunks = row.chunks + chunks; bytes = row.bytes + bytes } ∷ []) (row ∷ record { start = r; chunks = chunks; bytes = bytes } ∷ [])))) [
         | true ↦ λ same. IsStrictlyIncreasing-one row.start
         | false ↦ λ differs. IsStrictlyIncreasing-cons row.start (r ∷ []) (λ some. omega (arith, low, eqb-false row.start r differs)) (IsStrictlyIncreasing-one r)
       ] refl
   rows_more-ascend (row ∷ second ∷ rows) order rise =
-      IsStrictlyIncreasing-cons row.start (starts_of (rows_more r chunks bytes (second ∷ rows)))
+      IsStrictlyIncreasing-cons row.start (row_starts (rows_more r chunks bytes (second ∷ rows)))
       (λ some. omega (arith, first_start second rows, rise 0 (omega arith)))
-      (rows_more-ascend (second ∷ rows) (All-tail (λ (x : CategoryRow). x.start ≤ r) row (second ∷ rows) order) (IsStrictlyIncreasing-tail row.start (starts_of (second ∷ rows)) rise))
+      (rows_more-ascend (second ∷ rows) (All-tail (λ (x : CategoryRow). x.start ≤ r) row (second ∷ rows) order) (IsStrictlyIncreasing-tail row.start (row_starts (second ∷ rows)) rise))
 
 -- ---- the rules
 

@@ -10,7 +10,7 @@ use Rattle.std.proofs.lemmas.List.Elements.{All-contains, Contains-append_cases,
 use Rattle.std.proofs.lemmas.Grind.{flat_map-append}
 use Rattle.std.proofs.lemmas.Map.Made.{AllPairs-from_IsDistinct}
 use Rattle.bd_disk.specs.Images.{AgreeBut, InRange}
-use Rattle.bd_disk.proofs.Agreeing.{agree_fewer}
+use Rattle.bd_disk.proofs.AgreeLemmas.{agree_fewer}
 use Rattle.bd_model.specs.declared.layout.Phase.{Phase}
 use Rattle.bd_model.specs.declared.shape.Shape.{Shape}
 use Rattle.bd_model.specs.Sizes.{Sizes, extent_place}
@@ -22,8 +22,8 @@ use Rattle.bd_roll.specs.Catalogue.{Catalogue, OpenEntry, all_extents}
 use Rattle.bd_catalog.specs.Opening.{Found, opened}
 use Rattle.bd_roll.specs.Rules.{all_differ, obeys}
 use Rattle.bd_catalog.specs.Standing.{StandsFor}
-use Rattle.bd_catalog.proofs.Agreeing.{InFront, one_extent, opens_again}
-use Rattle.bd_roll.proofs.Obeying.{distinct_of}
+use Rattle.bd_catalog.proofs.AgreeLemmas.{InFront, one_extent, opens_again}
+use Rattle.bd_roll.proofs.RuleLemmas.{distinct_of}
 use Rattle.bd_catalog.proofs.StandingFound.{obeys-each}
 use Rattle.bd_volume.specs.Named.{InNamed, IsUnnamed, Named, NamedBytesDecide, named_by, open_named, recipe_named, volume_named}
 use Rattle.bd_volume.proofs.NamedPlaces.{FitsNamed, all_fit, stands_named}

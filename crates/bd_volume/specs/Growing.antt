@@ -12,7 +12,7 @@ use Rattle.bd_extio.specs.Owned.{owned_on}
 use Rattle.bd_extio.specs.Ranges.{AreExtents, InOwner}
 use Rattle.bd_space.specs.Allotment.{Allotment, extent_count, IsFree, IsTaken, Marks, free_count, KeepsHeld}
 use Rattle.bd_space.specs.declared.space.Use.TheVariants.{Taken}
-use Rattle.bd_roll.specs.Catalogue.{bytes_of_rows, starts_of}
+use Rattle.bd_roll.specs.Catalogue.{bytes_of_rows, row_starts}
 use Rattle.bd_roll.specs.Rules.{row_holds}
 use Rattle.bd_volume.specs.Copies.{AreApart, bytes_on, InSection, IsSection}
 use Rattle.bd_volume.specs.Filled.{Filled}
@@ -30,7 +30,7 @@ pub record HasExtents (s : Sizes) (space : Allotment) (f : Filled) (bytes : ℕ)
 -- its rows ascend by their starts and obey the rules, and it has the extents of their bytes
 pub record CanGrow (s : Sizes) (space : Allotment) (f : Filled) : Type 0 where
   pub rows : IsTrue (list_all (row_holds s) f.rows)
-  pub ascend : IsStrictlyIncreasing (starts_of f.rows)
+  pub ascend : IsStrictlyIncreasing (row_starts f.rows)
   pub extents : HasExtents s space f (bytes_of_rows f.rows)
 
 -- no row begins later than the one of this start
@@ -44,8 +44,8 @@ pub record AreCounted (s : Sizes) (chunks bytes : ℕ) : Type 0 where
   pub high : bytes ≤ (36 + s.max) * chunks
 
 -- as many extents are free as so many bytes more want
-abbrev pub HasFree : Sizes → Allotment → Filled → ℕ → Type 0
-HasFree s space f bytes = up s.extent (bytes_of_rows f.rows + bytes) ≤ length f.numbers + free_count space
+abbrev pub HasFreeFor : Sizes → Allotment → Filled → ℕ → Type 0
+HasFreeFor s space f bytes = up s.extent (bytes_of_rows f.rows + bytes) ≤ length f.numbers + free_count space
 
 -- bytes of another owner, whose extents are taken
 pub record IsSource (s : Sizes) (space : Allotment) (f : Filled) (section : Section) : Type 0 where
@@ -88,8 +88,8 @@ abbrev pub Behind : Sizes → Filled → Filled → ℕ → ℕ → Type 0
 Behind s before after n place = InOwner s after.numbers (bytes_of_rows before.rows) n place
 
 -- the disk was read at the section's places alone, and written behind those that the rows counted
-abbrev pub Moves : {D : Type 0} → Ghosts D → Sizes → Filled → Filled → Section → D → D → Type 0
-Moves g s before after section old new = Works g (InSection s section) (Behind s before after section.bytes) old new
+abbrev pub MovesSection : {D : Type 0} → Ghosts D → Sizes → Filled → Filled → Section → D → D → Type 0
+MovesSection g s before after section old new = Works g (InSection s section) (Behind s before after section.bytes) old new
 
 -- the bytes of the records that the rows count
 abbrev pub records_on : {D : Type 0} → Ghosts D → Sizes → Filled → D → List ℕ
@@ -103,6 +103,6 @@ Appends g s before after bytes old new = g.tells → records_on g s after new �
 abbrev pub AppendsFrom : {D : Type 0} → Ghosts D → Sizes → Filled → Filled → Section → D → D → Type 0
 AppendsFrom g s before after section old new = Appends g s before after (bytes_on g s section old) old new
 
-abbrev pub is_disk_fault : AppendFault → Bool
-is_disk_fault DiskFault = true
-is_disk_fault OutOfMemory = false
+abbrev pub is_disk_fault_of_append : AppendFault → Bool
+is_disk_fault_of_append DiskFault = true
+is_disk_fault_of_append OutOfMemory = false

@@ -19,7 +19,7 @@ pub record GoesOver (s : Sizes) (image : List ℕ) (p : RowPlace) (at next : ℕ
   pub ends : next ≡ at + 36 + (spot_in s image p at).stored.length
 
 -- the header of the record x of this row was read between these moments, and breaks its rule, which the damage names
-pub record IsRefused (s : Sizes) (p : RowPlace) (x : Spot) (damage : Damage) (old new : History) : Type 0 where
+pub record IsRefusedAt (s : Sizes) (p : RowPlace) (x : Spot) (damage : Damage) (old new : History) : Type 0 where
   pub said : ℕ
   pub left : ℕ
   pub places : List ℕ

@@ -5,7 +5,7 @@ use Rattle.bd_model.specs.declared.layout.Phase.{Phase}
 use Rattle.bd_model.specs.Sizes.{Sizes, sizes_of}
 use Rattle.bd_model.specs.Chunks.{numbers}
 use Rattle.bd_model.specs.Extents.{owner_bytes}
-use Rattle.bd_model.specs.History.{History, oldest, newest}
+use Rattle.bd_model.specs.History.{VersionHistory, oldest, newest}
 use Rattle.bd_model.specs.Layout.{row_of, row_chunks, open_category}
 use Rattle.bd_model.specs.Records.{records_of}
 use Rattle.bd_model.specs.State.{VersionState, history}
@@ -26,8 +26,8 @@ group_at chunks_of start = record { start = start; chunks = chunks_of start }
 abbrev pub groups_over : (ℕ → List (List ℕ)) → List ℕ → List Group
 groups_over chunks_of starts = filter (λ g. nat_lt 0 (length g.chunks)) (map (group_at chunks_of) starts)
 
-abbrev pub chunks_in : List Group → List (List ℕ)
-chunks_in groups = flat_map (λ g. g.chunks) groups
+abbrev pub chunks_of_groups : List Group → List (List ℕ)
+chunks_of_groups groups = flat_map (λ g. g.chunks) groups
 
 -- the row counts these chunks, and their records are its bytes
 pub record HoldsRow (s : Sizes) (image : List ℕ) (p : RowPlace) (g : Group) : Type 0 where
@@ -43,7 +43,7 @@ HoldsRows s image (p ∷ ps) (g ∷ gs) = HoldsRow s image p g × HoldsRows s im
 
 -- The rows hold the chunks of the layout: those of each closed volume the chunks of its recorded starts, and the open
 -- categories their own.
-pub record HoldsLayout (s : Sizes) (h : History) (phase : Phase) (c : Catalogue) (image : List ℕ) : Type 0 where
+pub record HoldsLayout (s : Sizes) (h : VersionHistory) (phase : Phase) (c : Catalogue) (image : List ℕ) : Type 0 where
   pub volumes : (j : ℕ) → oldest h ≤ j → j < newest h → HoldsRows s image (volume_rows c j) (groups_over (row_chunks h phase j) (numbers (oldest h) j))
   pub actives : HoldsRows s image (map open_row c.actives) (groups_over (open_category h phase) (numbers (h.base + 1) (newest h)))
 

@@ -13,8 +13,8 @@ extents_of c (Volume number) = volume_extents c number
 extents_of c (Active start) = active_extents c start
 
 -- the row that a piece names, with its owner's extents
-abbrev pub place_of : Catalogue → Piece → RowPlace
-place_of c p = row_place p.who (extents_of c p.who) p.from (record { start = p.start; chunks = p.chunks; bytes = p.to - p.from })
+abbrev pub row_of_piece : Catalogue → Piece → RowPlace
+row_of_piece c p = row_place p.who (extents_of c p.who) p.from (record { start = p.start; chunks = p.chunks; bytes = p.to - p.from })
 
 -- the piece that names a row
 abbrev pub piece_at : RowPlace → Piece

@@ -5,7 +5,7 @@ ghost use Rattle.bd_disk.specs.Runs.{Writes};
 ghost use Rattle.bd_model.specs.Sizes.{sizes_of, disk_bytes};
 ghost use Rattle.bd_category.specs.Records.{record_with};
 ghost use Rattle.bd_volume.specs.Copies.{bytes_on};
-ghost use Rattle.bd_volume.specs.Growing.{AddsExtents, Appends, AppendsFrom, AreCounted, Behind, CanGrow, HasFree, IsSource, KeepsRows, Moves, NoneLater, is_disk_fault, rows_after};
+ghost use Rattle.bd_volume.specs.Growing.{AddsExtents, Appends, AppendsFrom, AreCounted, Behind, CanGrow, HasFreeFor, IsSource, KeepsRows, MovesSection, NoneLater, is_disk_fault_of_append, rows_after};
 
 use crate::copy::{Section, copy_range};
 use crate::fault::AppendFault;
@@ -44,10 +44,10 @@ pub fn append_records<D: Disk>(
     requires order { NoneLater filling.old moved.now.start }
     requires counted { AreCounted (sizes_of shape.now) moved.now.chunks moved.now.from.bytes }
     requires source { IsSource (sizes_of shape.now) space.old filling.old moved.now.from }
-    requires free { HasFree (sizes_of shape.now) space.old filling.old moved.now.from.bytes }
+    requires free { HasFreeFor (sizes_of shape.now) space.old filling.old moved.now.from.bytes }
     requires buffer { 1 ≤ length buffer.old }
-    ensures disk { Moves D.Disk (sizes_of shape.now) filling.old filling.new moved.now.from disk.old disk.new }
-    ensures cause { FailsByCount is_disk_fault (D.faults disk.old) (D.faults disk.new) result }
+    ensures disk { MovesSection D.Disk (sizes_of shape.now) filling.old filling.new moved.now.from disk.old disk.new }
+    ensures cause { FailsByCount is_disk_fault_of_append (D.faults disk.old) (D.faults disk.new) result }
     ensures rows { OnOk result (filling.new.rows ≡ rows_after filling.old moved.now.start moved.now.chunks moved.now.from.bytes) }
     ensures refused { IfErr result (KeepsRows (sizes_of shape.now) space.new filling.old filling.new moved.now.from.bytes) }
     ensures adds { AddsExtents space.old space.new filling.old filling.new }
@@ -79,9 +79,9 @@ pub fn append_category<D: Disk>(
     requires order { NoneLater filling.old start }
     requires some { 1 ≤ length body.now }
     requires short { length body.now ≤ shape.now.max }
-    requires free { HasFree (sizes_of shape.now) space.old filling.old (36 + length body.now) }
+    requires free { HasFreeFor (sizes_of shape.now) space.old filling.old (36 + length body.now) }
     ensures disk { Writes D.Disk (Behind (sizes_of shape.now) filling.old filling.new (36 + length body.now)) disk.old disk.new }
-    ensures cause { FailsByCount is_disk_fault (D.faults disk.old) (D.faults disk.new) result }
+    ensures cause { FailsByCount is_disk_fault_of_append (D.faults disk.old) (D.faults disk.new) result }
     ensures rows { OnOk result (filling.new.rows ≡ rows_after filling.old start 1 (36 + length body.now)) }
     ensures refused { IfErr result (KeepsRows (sizes_of shape.now) space.new filling.old filling.new (36 + length body.now)) }
     ensures adds { AddsExtents space.old space.new filling.old filling.new }

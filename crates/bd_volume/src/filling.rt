@@ -5,7 +5,7 @@ ghost use Rattle.bd_model.specs.Room.{up};
 ghost use Rattle.bd_model.specs.Sizes.{sizes_of};
 ghost use Rattle.bd_roll.specs.Catalogue.{bytes_of_rows};
 ghost use Rattle.bd_space.specs.Allotment.{free_count, free_numbers};
-ghost use Rattle.bd_volume.specs.Growing.{AddsExtents, HasExtents, HasFree, Takes, rows_after};
+ghost use Rattle.bd_volume.specs.Growing.{AddsExtents, HasExtents, HasFreeFor, Takes, rows_after};
 
 use bd_catalog::{ClosedVolume, Rows};
 use bd_model::{CategoryRow, Shape};
@@ -96,7 +96,7 @@ impl Filling {
     ) -> Result<(), OutOfMemory>
         requires extents { HasExtents (sizes_of shape.now) space.old self.old (bytes_of_rows self.old.rows) }
         requires small { bytes_of_rows self.old.rows + bytes < 2 ^ 64 }
-        requires free { HasFree (sizes_of shape.now) space.old self.old bytes }
+        requires free { HasFreeFor (sizes_of shape.now) space.old self.old bytes }
         ensures rows { self.new.rows ≡ self.old.rows }
         ensures adds { AddsExtents space.old space.new self.old self.new }
         ensures spare { OnOk result (1 ≤ self.new.spare) }

@@ -4,7 +4,7 @@ ghost use Rattle.bd_roll.specs.Catalogue.{bytes_of_rows, oldest_in};
 ghost use Rattle.bd_catalog.specs.Rows.{open_row, volume_rows, walk};
 ghost use Rattle.bd_roll.specs.Rules.{obeys};
 ghost use Rattle.bd_roll.specs.Shown.{open_entry, volume_entry};
-ghost use Rattle.bd_volume.specs.Pieces.{closed_rows, pieces_of, place_of, rows_closed_from};
+ghost use Rattle.bd_volume.specs.Pieces.{closed_rows, pieces_of, row_of_piece, rows_closed_from};
 
 use crate::piece::{Piece, Pieces};
 use bd_catalog::{ActiveCategory, Catalog, ClosedVolume};
@@ -108,7 +108,7 @@ fn rows_ahead(catalog: &Catalog, version: u32) -> Option<usize>
 pub fn front(alloc: Global, catalog: &Catalog, version: u32) -> Result<Pieces, OutOfMemory>
     requires oldest { oldest_in catalog.now.found.catalogue ≤ version }
     requires newest { version ≤ catalog.now.found.catalogue.newest }
-    ensures { IfOk result (λ pieces. map (place_of catalog.now.found.catalogue) pieces.items ≡ walk catalog.now.found.catalogue version) }
+    ensures { IfOk result (λ pieces. map (row_of_piece catalog.now.found.catalogue) pieces.items ≡ walk catalog.now.found.catalogue version) }
 {
     let count = rows_ahead(catalog, version).ok_or(OutOfMemory)?;
     let mut pieces = Pieces::new(alloc);

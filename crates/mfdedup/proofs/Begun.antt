@@ -5,14 +5,14 @@ use Rattle.bd_disk.specs.History.{History, contents}
 use Rattle.bd_disk.specs.Made.{LeavesNow}
 use Rattle.bd_disk.specs.declared.disk.Disk.{Ghosts as DiskGhosts}
 use Rattle.bd_catalog.specs.Opening.{Found, opened}
-use Rattle.bd_recover.specs.Opens.{Rests, is_disk_fault}
+use Rattle.bd_recover.specs.Opens.{Rests, is_disk_fault_of_opening}
 use Rattle.bd_recover.specs.declared.fault.OpenFault.{OpenFault}
 use Rattle.bd_recover.specs.declared.fault.OpenFault.TheVariants.{NotAStore as OpenNotAStore, DiskFault as OpenDisk, OutOfMemory as OpenMemory}
 use Rattle.bd_store.specs.Openings.{AnswersOpening}
 use Rattle.bd_store.specs.Opens.{OpensWith}
 use Rattle.mfdedup.specs.Commands.{EndsUnopened, OpensNone, ReadsFront}
 use Rattle.bd_session.specs.Ends.{EndsOnlyByCount}
-use Rattle.bd_session.proofs.Turning.{by_nothing}
+use Rattle.bd_session.proofs.AnsweredLemmas.{by_nothing}
 use Rattle.mfdedup.specs.Failing.{end_cause, end_of_opening}
 use Rattle.mfdedup.specs.Noted.{NothingNoted}
 use Rattle.bd_files.specs.World.{Faults, World, with_disk}
@@ -35,12 +35,12 @@ unopened disk OpenDisk old answers = tt
 unopened disk OpenMemory old answers = tt
 
 -- by which count
-pub opening_cause : {T : Type 0} (fault : OpenFault) (c : Faults) (faults : ℕ) → FailsByCount {T = T} is_disk_fault c.disk faults (Err fault) → EndsOnlyByCount (end_cause (end_of_opening fault)) c (record c { disk = faults })
+pub opening_cause : {T : Type 0} (fault : OpenFault) (c : Faults) (faults : ℕ) → FailsByCount {T = T} is_disk_fault_of_opening c.disk faults (Err fault) → EndsOnlyByCount (end_cause (end_of_opening fault)) c (record c { disk = faults })
 opening_cause (OpenNotAStore place) c faults fails = by_nothing refl (λ i. record c { disk = fails.cause i })
 opening_cause OpenDisk c faults fails = record { later = record { disk = fails.later; sources = omega arith; targets = omega arith; sink = omega arith }; by = (fails.cause, refl, refl, refl) }
 opening_cause OpenMemory c faults fails = by_nothing refl (λ i. record c { disk = fails.cause i })
 
-pub no_store : {D T : Type 0} (d : DiskGhosts D) (p : Progress) (fault : OpenFault) (w : World) (now : D) → NothingNoted p → p.end ≡ end_of_opening fault → (d.tells → AnswersOpening (opened (contents w.disk)) (Err fault)) → FailsByCount {T = T} is_disk_fault w.counts.disk (d.faults now) (Err fault) →
+pub no_store : {D T : Type 0} (d : DiskGhosts D) (p : Progress) (fault : OpenFault) (w : World) (now : D) → NothingNoted p → p.end ≡ end_of_opening fault → (d.tells → AnswersOpening (opened (contents w.disk)) (Err fault)) → FailsByCount {T = T} is_disk_fault_of_opening w.counts.disk (d.faults now) (Err fault) →
     (d.tells → ReadsFront w.disk (d.history now)) → d.bytes now ≡ w.disk_bytes → OpensNone d.tells p w (with_disk d w now)
 no_store {D} {T} d p fault w now none e answers fails front same = record {
   nothing = none;

@@ -59,10 +59,10 @@ is_source_fault SourceFault = true
 is_source_fault ending = false
 
 -- how the count of missing sources goes on: at a fault of the source as at a fetch, and at every other end it stays
-abbrev pub CountsSource : FileMap → List ℕ → ℕ → ℕ → End → Type 0
-CountsSource files name before now SourceFault = CountsStrays files name before now
-CountsSource files name before now ending = now ≡ before
+abbrev pub CountsMissingSource : FileMap → List ℕ → ℕ → ℕ → End → Type 0
+CountsMissingSource files name before now SourceFault = CountsStrays files name before now
+CountsMissingSource files name before now ending = now ≡ before
 
 abbrev pub CountsScript : {T : Type 0} → FileMap → List ℕ → ℕ → ℕ → Result T End → Type 0
 CountsScript files name before now (Ok commands) = now ≡ before
-CountsScript files name before now (Err ending) = CountsSource files name before now ending
+CountsScript files name before now (Err ending) = CountsMissingSource files name before now ending

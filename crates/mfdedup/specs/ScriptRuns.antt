@@ -6,7 +6,7 @@ use Rattle.bd_session.specs.Ends.{EndsOnlyByCount}
 use Rattle.mfdedup.specs.Failing.{end_cause}
 use Rattle.mfdedup.specs.Noted.{NothingNoted}
 use Rattle.bd_files.specs.World.{World}
-use Rattle.mfdedup.specs.Script.{CountsSource, EndsUnread, HasScript}
+use Rattle.mfdedup.specs.Script.{CountsMissingSource, EndsUnread, HasScript}
 use Rattle.mfdedup.specs.declared.progress.Progress.{Progress}
 
 -- no script was read: no command was begun, the disk wasn't opened, and nothing changed but the counts of the source
@@ -14,7 +14,7 @@ pub record ReadsNoScript (files : Type 0) (name : List ℕ) (p : Progress) (befo
   pub nothing : NothingNoted p
   pub ends : EndsUnread files before.files name p.end
   pub cause : EndsOnlyByCount (end_cause p.end) before.counts now.counts
-  pub strays : files → CountsSource before.files name before.strays now.strays p.end
+  pub strays : files → CountsMissingSource before.files name before.strays now.strays p.end
   pub same : files → now.files ≡ before.files
   pub unfinished : files → now.unfinished ≡ before.unfinished
   pub beside : now ≡ record before { files = now.files; unfinished = now.unfinished; strays = now.strays; counts = record before.counts { sources = now.counts.sources } }

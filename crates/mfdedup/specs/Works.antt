@@ -27,7 +27,7 @@ WorksByWords disk files sink (ToSoak seed count) p before now = EndsAtOnce Unbui
 WorksByWords disk files sink (Refused fault) p before now = EndsAtOnce (end_of_words fault) p before now
 
 -- All that comes of the words, but for the text of the end. `disk`, `files` and `sink` are that these tell what they hold.
-pub record Works (disk files sink : Type 0) (reading : Reading) (p : Progress) (before now : World) : Type 0 where
+pub record ComesOfWords (disk files sink : Type 0) (reading : Reading) (p : Progress) (before now : World) : Type 0 where
   pub bytes : now.disk_bytes ≡ before.disk_bytes
   pub cause : EndsOnlyByCount (end_cause p.end) before.counts now.counts
   pub clocks : ClocksRise disk p.answers.items p.clocks.items before.disk now.disk
@@ -39,7 +39,7 @@ pub record Works (disk files sink : Type 0) (reading : Reading) (p : Progress) (
 -- And then the text of the end was put. For want of memory all words may end at once.
 pub record Did (disk files sink : Type 0) (reading : Reading) (p : Progress) (before now : World) : Type 0 where
   pub done : World
-  pub works : Works disk files sink reading p before done ⊎ EndsAtOnce OutOfMemory p before done
+  pub works : ComesOfWords disk files sink reading p before done ⊎ EndsAtOnce OutOfMemory p before done
   pub tells : TellsEnd sink (end_text p.end) done now
 
 abbrev pub progress_of : Report → Progress

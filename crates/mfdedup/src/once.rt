@@ -7,7 +7,7 @@ ghost use Rattle.bd_model.specs.Sizes.{sizes_of};
 ghost use Rattle.mfdedup.specs.Failing.{end_of_format};
 ghost use Rattle.bd_files.specs.World.{World, world, with_disk, with_sink};
 ghost use Rattle.bd_words.specs.Words.{ToFormat, ToBlank};
-ghost use Rattle.mfdedup.specs.Works.{Works};
+ghost use Rattle.mfdedup.specs.Works.{ComesOfWords};
 
 use crate::progress::Progress;
 use crate::report::End;
@@ -21,7 +21,7 @@ use std::alloc::Global;
 /// Makes the empty store of this shape. No file is touched.
 pub fn format<D: Disk, O: Sink>(alloc: Global, shape: Shape, disk: &mut D, out: &mut O) -> Progress
     requires takes { O.tells → D.tells → O.takes D D.history }
-    ensures works { (kept : World) → Works D.tells (Unit {0}) O.tells (ToFormat (sizes_of shape)) result (with_sink O.Sink (with_disk D.Disk kept disk.old) out.old) (with_sink O.Sink (with_disk D.Disk kept disk.new) out.new) }
+    ensures works { (kept : World) → ComesOfWords D.tells (Unit {0}) O.tells (ToFormat (sizes_of shape)) result (with_sink O.Sink (with_disk D.Disk kept disk.old) out.old) (with_sink O.Sink (with_disk D.Disk kept disk.new) out.new) }
 {
     match Progress::alone(alloc) {
         Ok(progress) => match Store::format(alloc, disk, shape) {
@@ -54,7 +54,7 @@ pub fn blank<D: Disk, F: Files, O: Sink>(
     out: &mut O,
 ) -> Progress
     requires takes { O.tells → D.tells → O.takes D D.history }
-    ensures works { Works D.tells F.tells O.tells (ToBlank length name.now) result (world D.Disk F.Files O.Sink disk.now files.old out.old) (world D.Disk F.Files O.Sink disk.now files.new out.new) }
+    ensures works { ComesOfWords D.tells F.tells O.tells (ToBlank length name.now) result (world D.Disk F.Files O.Sink disk.now files.old out.old) (world D.Disk F.Files O.Sink disk.now files.new out.new) }
 {
     match Progress::alone(alloc) {
         Ok(progress) => match put_zeros(length, name, files) {

@@ -8,7 +8,7 @@ ghost use Rattle.mfdedup.specs.Requests.{WordsUnread};
 ghost use Rattle.mfdedup.specs.ScriptRuns.{RunsScript};
 ghost use Rattle.mfdedup.specs.Statuses.{end_text, status_of};
 ghost use Rattle.bd_words.specs.Words.{AsksFor, Reading, ToRun, reading};
-ghost use Rattle.mfdedup.specs.Works.{Did, Works, progress_of};
+ghost use Rattle.mfdedup.specs.Works.{Did, ComesOfWords, progress_of};
 
 use crate::command::{is_built, run_commands};
 use crate::once::{blank, format};
@@ -32,7 +32,7 @@ fn run_asked<D: Disk, F: Files, O: Sink>(
     out: &mut O,
 ) -> Progress
     requires takes { O.tells → D.tells → O.takes D D.history }
-    ensures works { (command : Asked) → commands.now.items ≡ command ∷ [] → Works D.tells F.tells O.tells (ToRun command) result (world D.Disk F.Files O.Sink disk.old files.old out.old) (world D.Disk F.Files O.Sink disk.new files.new out.new) }
+    ensures works { (command : Asked) → commands.now.items ≡ command ∷ [] → ComesOfWords D.tells F.tells O.tells (ToRun command) result (world D.Disk F.Files O.Sink disk.old files.old out.old) (world D.Disk F.Files O.Sink disk.new files.new out.new) }
 {
     match commands.get(0) {
         Some(command) => {
@@ -75,7 +75,7 @@ fn act<D: Disk, F: Files, O: Sink>(
     out: &mut O,
 ) -> Progress
     requires takes { O.tells → D.tells → O.takes D D.history }
-    ensures works { (reading : Reading) → AsksFor reading (Some request.now) → Works D.tells F.tells O.tells reading result (world D.Disk F.Files O.Sink disk.old files.old out.old) (world D.Disk F.Files O.Sink disk.new files.new out.new) }
+    ensures works { (reading : Reading) → AsksFor reading (Some request.now) → ComesOfWords D.tells F.tells O.tells reading result (world D.Disk F.Files O.Sink disk.old files.old out.old) (world D.Disk F.Files O.Sink disk.new files.new out.new) }
 {
     match request {
         Request::Format { shape } => format(alloc, *shape, disk, out),

@@ -9,16 +9,16 @@ use Rattle.bd_space.specs.Allotment.{held_count}
 use Rattle.bd_catalog.specs.Agreement.{Agrees}
 use Rattle.bd_catalog.specs.Opening.{Found}
 use Rattle.bd_roll.specs.Rules.{obeys}
-use Rattle.bd_catalog.proofs.Committing.{number-small}
-use Rattle.bd_roll.proofs.Obeying.{IsBounded, bounded_in}
+use Rattle.bd_catalog.proofs.CommitLemmas.{number-small}
+use Rattle.bd_roll.proofs.RuleLemmas.{IsBounded, bounded_in}
 use Rattle.bd_recipe.specs.Reading.{recipe_found}
 use Rattle.bd_recipe.specs.declared.fault.ReadFault.{ReadFault}
 use Rattle.bd_recipe.specs.declared.fault.ReadFault.TheVariants.{OutOfMemory}
-use Rattle.bd_volume.proofs.Copying.{no_work, work_told}
+use Rattle.bd_volume.proofs.CopyLemmas.{no_work, work_told}
 use Rattle.bd_arrange.specs.Arranged.{AnswersDue, InDue, IsAllotted, IsDamageOfDue, IsSpared, KeepsStates}
 use Rattle.bd_arrange.specs.Opens.{IsSafeOpening}
 use Rattle.bd_arrange.proofs.StandsArranged.{arranged_store_stands}
-use Rattle.bd_arrange.proofs.Committing.{agrees_now, answers_named, answers_refused, but_refused, fits_desk, half_spared, if_told, keeps_all, keeps_either, keeps_refused, keeps_settled, opens_at_once, opens_named, opens_refused, staged_spared}
+use Rattle.bd_arrange.proofs.ArrangedStates.{agrees_now, answers_named, answers_refused, but_refused, fits_desk, half_spared, if_told, keeps_all, keeps_either, keeps_refused, keeps_settled, opens_at_once, opens_named, opens_refused, staged_spared}
 use Rattle.bd_arrange.proofs.arranging.arrange.Goals as goal
 
 pub returns-in-Settled-clause-disk : goal.returns-in-Settled-clause-disk

@@ -12,7 +12,7 @@ use Rattle.bd_roll.specs.Catalogue.{Catalogue, OpenEntry}
 use Rattle.bd_catalog.specs.Rows.{open_row}
 use Rattle.bd_roll.specs.Shown.{open_entry}
 use Rattle.bd_roll.specs.declared.rows.ActiveCategory.{ActiveCategory}
-use Rattle.bd_roll.proofs.Obeying.{IsBounded, bounded_in}
+use Rattle.bd_roll.proofs.RuleLemmas.{IsBounded, bounded_in}
 use Rattle.bd_arrange.specs.Cuts.{InCategory, IsDamageIn}
 use Rattle.bd_arrange.specs.Desks.{InRoom, IsCategory, OnDesk}
 use Rattle.bd_arrange.proofs.Laps.{Lap, Turn, damaged_due, is_category, lap_begin, lap_skip, lap_turn, works_wide}

@@ -6,8 +6,8 @@ use Rattle.bd_roll.specs.Catalogue.{Catalogue, oldest_in}
 use Rattle.bd_roll.specs.Shown.{volume_entry}
 use Rattle.bd_roll.specs.Splitting.{last_extents, last_rows}
 use Rattle.bd_roll.specs.declared.rows.ClosedVolume.{ClosedVolume}
-use Rattle.bd_roll.proofs.Obeying.{NumbersHold, numbers_of, rules_of}
-use Rattle.bd_roll.proofs.Owning.{waiting_volume}
+use Rattle.bd_roll.proofs.RuleLemmas.{NumbersHold, numbers_of, rules_of}
+use Rattle.bd_roll.proofs.OwnedByStep.{waiting_volume}
 use Rattle.bd_arrange.specs.Desks.{OnDesk}
 use Rattle.bd_arrange.specs.Underway.{HasSplits}
 use Rattle.bd_arrange.proofs.arranging.desk_for.Goals as goal

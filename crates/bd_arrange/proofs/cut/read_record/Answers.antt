@@ -14,8 +14,8 @@ use Rattle.bd_category.specs.Places.{ReadsHeader}
 use Rattle.bd_category.specs.Records.{AnswersHeader, header_at}
 use Rattle.bd_catalog.specs.Rows.{open_row, row_end, spot_in}
 use Rattle.bd_roll.specs.Shown.{open_entry}
-use Rattle.bd_recipe.proofs.Marking.{first_from-some}
-use Rattle.bd_volume.specs.Headers.{IsRefused}
+use Rattle.bd_recipe.proofs.EntriesByMark.{first_from-some}
+use Rattle.bd_volume.specs.Headers.{IsRefusedAt}
 use Rattle.bd_volume.proofs.ReadHeaders.{good_header, header_read, header_within, is_stored, refused_header}
 use Rattle.bd_arrange.specs.declared.cut.Stretch.{Stretch}
 use Rattle.bd_arrange.proofs.Faults.{header_damage}
@@ -78,7 +78,7 @@ returns-in-Err-clause-damage g c =
     let there = c.numbers-extents.ensures in
     let to : end ≡ row_end p = omega arith in
     let low : at ≤ row_end p = omega (arith, c.requires.inside.within) in
-    let P : Damage → Type 0 = λ damage. g.D.Disk.tells → IsRefused s p (spot_in s image p at) damage before now in
+    let P : Damage → Type 0 = λ damage. g.D.Disk.tells → IsRefusedAt s p (spot_in s image p at) damage before now in
     subst (λ f. IfDamaged {T = Stretch} (Err f) P) (sym c.read_fault.ensures) (header_damage Stretch P c.in-Err.fault (λ damage is told.
     refused_header s image p at damage low
     (subst (λ e. header_at s p.who at e owner ≡ Err damage) to (subst (λ l. header_at s p.who at end (owner_bytes s l image) ≡ Err damage) there (subst (λ f. AnswersHeader (header_at s p.who at end (owner_bytes s c.numbers-extents.result.now image)) (Err f)) is (c.in-Err.ensures.header told))))

@@ -6,12 +6,12 @@ use Rattle.bd_model.specs.declared.damage.Damage.{Damage}
 use Rattle.bd_roll.specs.Catalogue.{Catalogue}
 use Rattle.bd_catalog.specs.Rows.{open_row, spot_in}
 use Rattle.bd_roll.specs.Shown.{open_entry}
-use Rattle.bd_recipe.proofs.Answering.{damaged_on}
-use Rattle.bd_volume.specs.Headers.{IsRefused}
-use Rattle.bd_arrange.specs.Cuts.{IsDamageIn, IsFound}
+use Rattle.bd_recipe.proofs.DamageAnswers.{damaged_on}
+use Rattle.bd_volume.specs.Headers.{IsRefusedAt}
+use Rattle.bd_arrange.specs.Cuts.{IsDamageIn, IsFoundAt}
 use Rattle.bd_arrange.specs.declared.cut.Stretch.{Stretch}
 use Rattle.bd_arrange.proofs.Stretches.{cut_more, cut_none, sorts_none}
-use Rattle.bd_arrange.proofs.Telling.{Told, all_told, bad_header, bad_row, told_more, told_none}
+use Rattle.bd_arrange.proofs.CategoryRecords.{Told, all_told, bad_header, bad_row, told_more, told_none}
 use Rattle.bd_arrange.proofs.cut.tell_apart.Goals as goal
 
 pub loop-done-init : goal.loop-done-init
@@ -47,11 +47,11 @@ returns-in_err-record-clause-damage g c =
     let before = g.D.Disk.history c.loop-done.disk in
     let after = g.D.Disk.history c.read_record.new.disk in
     let image = contents first in
-    let P : Damage → Type 0 = λ damage. g.D.Disk.tells → IsRefused s p (spot_in s (contents before) p at) damage before after in
+    let P : Damage → Type 0 = λ damage. g.D.Disk.tells → IsRefusedAt s p (spot_in s (contents before) p at) damage before after in
     let Q : Damage → Type 0 = λ damage. g.D.Disk.tells → (c' : Catalogue) → IsDamageIn s c' image (p ∷ []) damage first after in
     damaged_on Stretch P Q c.in_err-record.field-0.0 c.from_residual.result c.from_residual.ensures.1 c.in_err-record.ensures.damage
     (λ damage met told c'. bad_header s image c.args.neighbour.now.entries a c.loop-done.cut c' c.loop-done.done at damage c.loop-done-test.true (nothing_written inv.disk told)
-    (subst (λ i. IsRefused s p (spot_in s i p at) damage before after) (same_contents inv.disk told) (met told)) (inv.told told))
+    (subst (λ i. IsRefusedAt s p (spot_in s i p at) damage before after) (same_contents inv.disk told) (met told)) (inv.told told))
 
 pub loop-done-preserved : goal.loop-done-preserved
 loop-done-preserved g c =
@@ -74,7 +74,7 @@ loop-done-preserved g c =
       high = is.within;
       cut = cut_more s done at c.loop-done.cut c.put.new.self x is.one is.counted puts inv.cut;
       told = λ told. told_more s (contents first) entries p done at c.loop-done.cut c.put.new.self x is.one puts
-          (subst (λ i. IsFound s i entries p at x before after) (same_contents inv.disk told) (c.in_ok-record.ensures.found told)) (inv.told told);
+          (subst (λ i. IsFoundAt s i entries p at x before after) (same_contents inv.disk told) (c.in_ok-record.ensures.found told)) (inv.told told);
     }
 
 pub returns-then-at-row-clause-damage : goal.returns-then-at-row-clause-damage

@@ -4,9 +4,9 @@ use Rattle.bd_disk.specs.Runs.{Reads}
 use Rattle.bd_model.specs.Sizes.{sizes_of}
 use Rattle.bd_catalog.specs.Rows.{open_row}
 use Rattle.bd_roll.specs.Shown.{open_entry}
-use Rattle.bd_arrange.specs.Cuts.{InCategory, IsCut}
+use Rattle.bd_arrange.specs.Cuts.{InCategory, IsCutOf}
 use Rattle.bd_arrange.proofs.Stretches.{row_read}
-use Rattle.bd_arrange.proofs.Telling.{Told}
+use Rattle.bd_arrange.proofs.CategoryRecords.{Told}
 use Rattle.bd_arrange.proofs.cut.tell_apart.Given as goal
 
 abbrev pub invariant-loop-done : goal.invariant-loop-done
@@ -15,6 +15,6 @@ invariant-loop-done g l = record {
   faults : g.D.Disk.faults l.disk ≡ g.D.Disk.faults l.fn.disk;
   row : l.row ≡ l.category.row;
   high : l.at ≤ l.category.row.bytes;
-  cut : IsCut (sizes_of l.shape) (row_read l.done l.at) l.cut;
+  cut : IsCutOf (sizes_of l.shape) (row_read l.done l.at) l.cut;
   told : g.D.Disk.tells → Told (sizes_of l.shape) (contents (g.D.Disk.history l.fn.disk)) l.neighbour.entries (open_row (open_entry l.category)) l.done l.at l.cut (g.D.Disk.history l.fn.disk) (g.D.Disk.history l.disk);
 }

@@ -5,7 +5,7 @@ use Rattle.std.proofs.lemmas.List.Concat.{flat_map-append}
 use Rattle.bd_roll.specs.declared.step.SplitRow.{SplitRow}
 use Rattle.bd_roll.specs.Giving.{AreOwned, GivesUp}
 use Rattle.bd_roll.specs.Splitting.{KeptEntry, kept_extents}
-use Rattle.bd_roll.specs.Steps.{fresh_entries, kept_entry}
+use Rattle.bd_roll.specs.Steps.{fresh_actives, kept_entry}
 use Rattle.bd_roll.proofs.GivenUp.{gives_both, gives_none, owned_first, owned_second}
 use Rattle.bd_arrange.proofs.ending.free_splits.Goals as goal
 use Rattle.bd_arrange.proofs.ending.free_splits.Goals.{in-Some, in_default}
@@ -14,7 +14,7 @@ abbrev all : List SplitRow → List ℕ
 all splits = kept_extents (map kept_entry splits)
 
 abbrev own : SplitRow → List ℕ
-own x = flat_map (λ a. a.extents) (fresh_entries x.kept)
+own x = flat_map (λ a. a.extents) (fresh_actives x.kept)
 
 parts : (rest : List SplitRow) (x : SplitRow) → all (rest ++ x ∷ []) ≡ all rest ++ own x
 parts rest x =

@@ -1,6 +1,6 @@
 use Rattle.std.proofs.Common.{arith, refl}
 use Rattle.bd_model.specs.Sizes.{sizes_of}
-use Rattle.bd_volume.proofs.Taking.{adds_none}
+use Rattle.bd_volume.proofs.GrownExtents.{adds_none}
 use Rattle.bd_arrange.proofs.OneStretch.{moves_kept, moves_on, works_archived, works_kept}
 use Rattle.bd_arrange.proofs.moving.move_records.Goals as goal
 

@@ -2,8 +2,8 @@ use Rattle.std.proofs.Common.{◌<◌, ◌∙◌, ◌+◌, false, true, arith, r
 use Rattle.bd_model.specs.Sizes.{sizes_of}
 use Rattle.std.proofs.lemmas.List.{take_more}
 use Rattle.bd_extio.proofs.Places.{range_small}
-use Rattle.bd_volume.proofs.Copying.{no_work}
-use Rattle.bd_volume.proofs.Taking.{adds_both, adds_none}
+use Rattle.bd_volume.proofs.CopyLemmas.{no_work}
+use Rattle.bd_volume.proofs.GrownExtents.{adds_both, adds_none}
 use Rattle.bd_arrange.specs.Cuts.{going}
 use Rattle.bd_arrange.specs.Moving.{Moves, bytes_of}
 use Rattle.bd_arrange.specs.declared.cut.Stretch.{Stretch}

@@ -1,7 +1,7 @@
 use Rattle.std.proofs.Common.{arith}
 use Rattle.bd_roll.specs.Shown.{catalogue_of_contents}
 use Rattle.bd_roll.specs.Spelling.{spelled}
-use Rattle.bd_catalog.proofs.Framing.{frame_put}
+use Rattle.bd_catalog.proofs.FrameLemmas.{frame_put}
 use Rattle.bd_catalog.proofs.frame.put_frame.Goals as goal
 
 pub returns-clause-written : goal.returns-clause-written

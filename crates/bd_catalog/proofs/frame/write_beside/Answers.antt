@@ -4,7 +4,7 @@ use Rattle.bd_gate.specs.Commits.{FailsWithin, commit_calls}
 use Rattle.bd_gate.specs.Standing.{KeepsOrCommits, LeavesCommitted}
 use Rattle.bd_gate.proofs.Commits.{part_made}
 use Rattle.bd_roll.specs.Shown.{catalogue_of_contents}
-use Rattle.bd_roll.proofs.Obeying.{bounded_of, spellable}
+use Rattle.bd_roll.proofs.RuleLemmas.{bounded_of, spellable}
 use Rattle.bd_roll.proofs.Lengths.{length-spelled}
 use Rattle.bd_catalog.proofs.frame.write_beside.Goals as goal
 

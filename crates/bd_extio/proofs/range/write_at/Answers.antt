@@ -1,7 +1,7 @@
 use Rattle.std.proofs.Common.{◌≡◌, ◌+◌, ◌-◌, ◌*◌, ◌%◌, ◌≤◌, ◌∙◌, ap, sym, arith, length, refl}
 use Rattle.bd_disk.specs.History.{contents}
 use Rattle.bd_disk.specs.Images.{bytes_at, overwritten}
-use Rattle.bd_disk.proofs.Agreeing.{length-bytes_at, overwritten-none}
+use Rattle.bd_disk.proofs.AgreeLemmas.{length-bytes_at, overwritten-none}
 use Rattle.bd_disk.proofs.RunLemmas.{both_writes, no_writes, wider_writes, write_once}
 use Rattle.bd_model.specs.Sizes.{sizes_of, disk_bytes}
 use Rattle.bd_model.specs.Extents.{owner_bytes}

@@ -1,6 +1,6 @@
 use Rattle.std.proofs.Common.{◌++◌}
 use Rattle.bd_space.proofs.Exact.{TakenExactly-left}
-use Rattle.bd_intake.proofs.Owning.{last_once, last_taken}
+use Rattle.bd_intake.proofs.OwnedExtents.{last_once, last_taken}
 use Rattle.bd_intake.proofs.finish.give_back.Goals as goal
 
 pub give_back-requires-clause-taken : goal.give_back-requires-clause-taken

@@ -6,7 +6,7 @@ use Rattle.bd_model.specs.Sizes.{sizes_of}
 use Rattle.bd_catalog.specs.Agreement.{InExtents}
 use Rattle.bd_intake.specs.Firsts.{with_new}
 use Rattle.bd_intake.specs.Places.{AddsEntry, AddsRecord}
-use Rattle.bd_intake.proofs.Writing.{one_writes, other_writes, still_put}
+use Rattle.bd_intake.proofs.ChunkWrites.{one_writes, other_writes, still_put}
 use Rattle.bd_intake.proofs.record.put_parts.Goals as goal
 
 pub returns-in_err-put_record-clause-disk : goal.returns-in_err-put_record-clause-disk

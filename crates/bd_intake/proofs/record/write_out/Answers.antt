@@ -2,14 +2,14 @@ use Rattle.std.proofs.Common.{subst, sym}
 use Rattle.bd_disk.specs.History.{contents}
 use Rattle.bd_disk.specs.Runs.{Writes}
 use Rattle.bd_disk.proofs.RunLemmas.{both_writes}
-use Rattle.bd_model.specs.Laws.{entries_in}
+use Rattle.bd_model.specs.Laws.{entries_of_chunks}
 use Rattle.bd_model.specs.Records.{records_of, spelled_recipe}
 use Rattle.bd_model.specs.Sizes.{sizes_of}
 use Rattle.bd_catalog.specs.Standing.{BeginWith}
 use Rattle.bd_catalog.specs.Agreement.{InExtents}
 use Rattle.bd_intake.specs.Firsts.{new_by_mark}
 use Rattle.bd_intake.specs.Putting.{IsPut, KeepsPut}
-use Rattle.bd_intake.proofs.Writing.{all_written, one_writes, other_writes, still_put}
+use Rattle.bd_intake.proofs.ChunkWrites.{all_written, one_writes, other_writes, still_put}
 use Rattle.bd_intake.proofs.record.write_out.Goals as goal
 
 pub returns-in_err-flush-clause-disk : goal.returns-in_err-flush-clause-disk
@@ -42,7 +42,7 @@ returns-clause-written g c = λ told t taken same was.
     let old = c.args.staging.now in
     let recipe = old.recipe.numbers in
     let fresh = old.fresh.numbers in
-    let entries = spelled_recipe (entries_in t.old t.version taken) in
+    let entries = spelled_recipe (entries_of_chunks t.old t.version taken) in
     let records = records_of (new_by_mark t.old taken) in
     let image = contents (g.D.Disk.history c.args.disk.now) in
     let image_now = contents (g.D.Disk.history c.flush-2.new.disk) in

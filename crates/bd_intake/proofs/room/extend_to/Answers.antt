@@ -1,7 +1,7 @@
 use Rattle.std.proofs.Common.{ap, sym, subst}
 use Rattle.bd_space.specs.Holding.{Holding}
 use Rattle.bd_intake.specs.Spaces.{Adds}
-use Rattle.bd_intake.proofs.Owning.{adds_none}
+use Rattle.bd_intake.proofs.OwnedExtents.{adds_none}
 use Rattle.bd_intake.proofs.room.extend_to.Goals as goal
 
 pub returns-in-Err-clause-added : goal.returns-in-Err-clause-added

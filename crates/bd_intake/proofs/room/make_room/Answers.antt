@@ -1,4 +1,4 @@
-use Rattle.bd_intake.proofs.Growing.{grows_first, grows_second}
+use Rattle.bd_intake.proofs.StagedChunks.{grows_first, grows_second}
 use Rattle.bd_intake.proofs.room.make_room.Goals as goal
 
 pub returns-in_err-extend_to-clause-grows : goal.returns-in_err-extend_to-clause-grows

@@ -7,11 +7,11 @@ use Rattle.bd_model.specs.Chunks.{chunks}
 use Rattle.bd_model.specs.Sizes.{sizes_of}
 use Rattle.bd_space.specs.Allotment.{held_count}
 use Rattle.bd_intake.specs.Firsts.{cut_in}
-use Rattle.bd_intake.specs.Given.{given}
+use Rattle.bd_intake.specs.Given.{given_of}
 use Rattle.bd_intake.specs.Needs.{RefusesChunks}
-use Rattle.bd_intake.proofs.Draining.{writes_on}
-use Rattle.bd_intake.proofs.Filling.{ended, filled_all, filled_small, fills_more, missing_more, rest_of}
-use Rattle.bd_intake.proofs.Growing.{grows_both, grows_none}
+use Rattle.bd_intake.proofs.DrainLemmas.{writes_on}
+use Rattle.bd_intake.proofs.FillLemmas.{ended, filled_all, filled_small, fills_more, missing_more, rest_of}
+use Rattle.bd_intake.proofs.StagedChunks.{grows_both, grows_none}
 use Rattle.bd_intake.proofs.source.fill.Goals as goal
 
 pub loop-count-init : goal.loop-count-init
@@ -34,7 +34,7 @@ pub returns-then-count-eq0-clause-filled : goal.returns-then-count-eq0-clause-fi
 returns-then-count-eq0-clause-filled g c =
     let files = g.F.Files.files c.args.files.now in
     let now = c.loop-count.invariant in
-    filled_all (given c.args.terms.now) c.loop-count.at c.loop-count.chunker c.loop-count.staging g.D.Disk.tells (contents (g.D.Disk.history c.loop-count.disk)) g.F.Files.tells files c.args.name.now now.fills
+    filled_all (given_of c.args.terms.now) c.loop-count.at c.loop-count.chunker c.loop-count.staging g.D.Disk.tells (contents (g.D.Disk.history c.loop-count.disk)) g.F.Files.tells files c.args.name.now now.fills
     (λ t stream holds.
     ended files c.args.name.now c.fetch_piece.new.into c.loop-count.at (length c.loop-count.buffer) c.in_ok-count.count c.if-count-eq0.true (omega arith)
     (subst (λ fs. Fetches fs c.args.name.now c.loop-count.at (length c.loop-count.buffer) c.in_ok-count.count c.fetch_piece.new.into) (now.same t) (c.in_ok-count.ensures.read t)) stream holds)
@@ -47,7 +47,7 @@ returns-in_err-take_piece-clause-grows g c = grows_both c.loop-count.invariant.g
 
 pub returns-in_err-take_piece-clause-refused : goal.returns-in_err-take_piece-clause-refused
 returns-in_err-take_piece-clause-refused g c = λ t stream holds.
-    let terms = given c.args.terms.now in
+    let terms = given_of c.args.terms.now in
     let cut = cut_in terms.sizes in
     let now = c.loop-count.invariant in
     let into = c.fetch_piece.new.into in
@@ -82,7 +82,7 @@ loop-count-smaller g c =
 
 pub loop-count-preserved : goal.loop-count-preserved
 loop-count-preserved g c =
-    let terms = given c.args.terms.now in
+    let terms = given_of c.args.terms.now in
     let files = g.F.Files.files c.args.files.now in
     let other = g.F.Files.files c.loop-count.files in
     let now = c.loop-count.invariant in

@@ -3,8 +3,8 @@ use Rattle.bd_disk.specs.History.{contents}
 use Rattle.bd_disk.specs.Runs.{Writes}
 use Rattle.bd_model.specs.Sizes.{sizes_of}
 use Rattle.bd_catalog.specs.Agreement.{InExtents}
-use Rattle.bd_intake.specs.Filling.{CountsMissing, Fills}
-use Rattle.bd_intake.specs.Given.{given}
+use Rattle.bd_intake.specs.Filling.{CountsMissing, ComesIn}
+use Rattle.bd_intake.specs.Given.{given_of}
 use Rattle.bd_intake.specs.Staging.{Grows, IsStaging, staged_extents}
 use Rattle.bd_intake.proofs.source.fill.Given as goal
 
@@ -17,11 +17,11 @@ invariant-loop-count g l = record {
   strays : g.F.Files.tells → CountsMissing (g.F.Files.files l.initial.files) l.name (g.F.Files.strays l.initial.files) (g.F.Files.strays l.files);
   same : g.F.Files.tells → g.F.Files.files l.files ≡ g.F.Files.files l.initial.files;
   unfinished : g.F.Files.tells → g.F.Files.unfinished l.files ≡ g.F.Files.unfinished l.initial.files;
-  staging : IsStaging (given l.terms) l.space l.staging;
+  staging : IsStaging (given_of l.terms) l.space l.staging;
   still_open : l.chunker.finished ≡ false;
   short : length l.chunker.held < 65536;
   grows : Grows l.initial.space l.space l.initial.staging l.staging;
-  fills : Fills (given l.terms) l.at l.chunker l.staging g.D.Disk.tells (contents (g.D.Disk.history l.disk)) g.F.Files.tells (g.F.Files.files l.initial.files) l.name;
+  fills : ComesIn (given_of l.terms) l.at l.chunker l.staging g.D.Disk.tells (contents (g.D.Disk.history l.disk)) g.F.Files.tells (g.F.Files.files l.initial.files) l.name;
 }
 
 abbrev pub decreases-loop-count : goal.decreases-loop-count

@@ -6,8 +6,8 @@ use Rattle.bd_gear.specs.Chunking.{Chunking}
 use Rattle.bd_gear.specs.Feeding.{HasFed}
 use Rattle.bd_model.specs.Sizes.{sizes_of}
 use Rattle.bd_intake.specs.Firsts.{cut_in}
-use Rattle.bd_intake.specs.Given.{given}
-use Rattle.bd_intake.proofs.Filling.{goes_on, piece_is}
+use Rattle.bd_intake.specs.Given.{given_of}
+use Rattle.bd_intake.proofs.FillLemmas.{goes_on, piece_is}
 use Rattle.bd_intake.proofs.source.take_piece.Goals as goal
 
 pub take_chunks-requires-clause-fed : goal.take_chunks-requires-clause-fed
@@ -21,7 +21,7 @@ returns-clause-taken g c =
     let piece = c.args.piece.now in
     let all : take c.feed.result piece ≡ piece = piece_is c.feed.result (length c.args.chunker.now.held) piece c.requires.few c.requires.short c.feed.ensures.count in
     on_ok_weaker c.take_chunks.result (λ goes stream taken fed has.
-    goes_on (c.feed.new.self.finished ≡ true) (given c.args.terms.now) (stream ++ piece) taken c.take_chunks.new.chunker c.args.staging.now c.take_chunks.new.staging g.D.Disk.tells
+    goes_on (c.feed.new.self.finished ≡ true) (given_of c.args.terms.now) (stream ++ piece) taken c.take_chunks.new.chunker c.args.staging.now c.take_chunks.new.staging g.D.Disk.tells
     (contents (g.D.Disk.history c.args.disk.now)) (contents (g.D.Disk.history c.take_chunks.new.disk))
     (goes (stream ++ piece) taken (subst (λ p. HasFed cut (stream ++ p) taken c.feed.new.self) all (c.feed.ensures.fed cut stream taken fed)) has)) c.take_chunks.ensures.taken
 

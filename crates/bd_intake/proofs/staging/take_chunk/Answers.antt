@@ -4,7 +4,7 @@ use Rattle.std.proofs.lemmas.Result.{err_from_is_err_and}
 use Rattle.bd_disk.specs.History.{contents}
 use Rattle.bd_disk.specs.Runs.{Writes}
 use Rattle.bd_disk.proofs.RunLemmas.{no_writes}
-use Rattle.bd_model.specs.Laws.{entries_in, start_in}
+use Rattle.bd_model.specs.Laws.{entries_of_chunks, start_in}
 use Rattle.bd_model.specs.Marks.{mark}
 use Rattle.bd_model.specs.Recipe.{has_mark}
 use Rattle.bd_model.specs.Records.{records_of, spelled_recipe}
@@ -15,16 +15,16 @@ use Rattle.bd_space.specs.Allotment.{held_count}
 use Rattle.bd_catalog.specs.Agreement.{InExtents}
 use Rattle.bd_intake.specs.declared.staging.Staging.{Staging}
 use Rattle.bd_intake.specs.Answers.{RefusesRoom}
-use Rattle.bd_intake.specs.Firsts.{new_by_mark, is_marked, knows, extents_of}
-use Rattle.bd_intake.specs.Given.{Given, given}
+use Rattle.bd_intake.specs.Firsts.{new_by_mark, any_marked, knows, extents_taken}
+use Rattle.bd_intake.specs.Given.{Given, given_of}
 use Rattle.bd_intake.specs.Putting.{IsPut, put_count}
 use Rattle.bd_intake.specs.Seen.{AreUsed, SeenMarks}
 use Rattle.bd_intake.specs.Spaces.{Owns}
 use Rattle.bd_intake.specs.Staging.{staged_extents}
 use Rattle.bd_intake.proofs.Firsts.{entry}
-use Rattle.bd_intake.proofs.Growing.{as_number, one_or_none, extents-after, grows_still, new_is, staging_is_small, took}
-use Rattle.bd_intake.proofs.Owning.{owns_apart}
-use Rattle.bd_intake.proofs.Writing.{entries-more, put_longer}
+use Rattle.bd_intake.proofs.StagedChunks.{as_number, one_or_none, extents-after, grows_still, new_is, staging_is_small, took}
+use Rattle.bd_intake.proofs.OwnedExtents.{owns_apart}
+use Rattle.bd_intake.proofs.ChunkWrites.{entries-more, put_longer}
 use Rattle.bd_model.proofs.RoomLemmas.{up-enough}
 use Rattle.bd_intake.proofs.staging.take_chunk.Goals as goal
 
@@ -36,12 +36,12 @@ returns-in_err-make_room-clause-disk g c = no_writes
 
 pub returns-in_err-make_room-clause-refused : goal.returns-in_err-make_room-clause-refused
 returns-in_err-make_room-clause-refused g c = λ taken has.
-    let t : Given = given c.args.terms.now in
+    let t : Given = given_of c.args.terms.now in
     let old = c.args.staging.now in
     let body = c.args.body.now in
     let is_new = c.in_ok-met.met.is_new in
     let is : is_new ≡ not (has_mark t.old (mark body) || knows old.seen.marks (mark body)) = c.in_ok-met.ensures.is_new ∙ ap (λ m. not (has_mark t.old m || knows old.seen.marks m)) c.mark_of-own.ensures in
-    let count : up t.sizes.extent (old.fresh_bytes + c.record_bytes.result) + up t.sizes.extent (40 * (old.chunks + 1)) ≡ extents_of t.sizes.extent t.old (taken ++ body ∷ []) =
+    let count : up t.sizes.extent (old.fresh_bytes + c.record_bytes.result) + up t.sizes.extent (40 * (old.chunks + 1)) ≡ extents_taken t.sizes.extent t.old (taken ++ body ∷ []) =
     ap (λ n. up t.sizes.extent (old.fresh_bytes + n) + up t.sizes.extent (40 * (old.chunks + 1))) c.record_bytes.ensures ∙ extents-after t taken old body is_new has is in
     let p = err_from_is_err_and c.from_residual-in_err-make_room.result c.from_residual-in_err-make_room.ensures.1 in
     rw (p.1, p.2) (subst (λ n. RefusesRoom n c.args.terms.now.free (held_count c.args.space.now) c.in_err-make_room.field-0.0) count c.in_err-make_room.ensures.refused)
@@ -103,7 +103,7 @@ overflow_add-staging-3 g c =
 
 pub returns-clause-taken : goal.returns-clause-taken
 returns-clause-taken g c = λ taken has.
-    let t : Given = given c.args.terms.now in
+    let t : Given = given_of c.args.terms.now in
     let old = c.args.staging.now in
     let body = c.args.body.now in
     let is_new = c.in_ok-met.met.is_new in
@@ -114,8 +114,8 @@ returns-clause-taken g c = λ taken has.
     let is : is_new ≡ not (has_mark t.old (mark body) || knows old.seen.marks (mark body)) = c.in_ok-met.ensures.is_new ∙ ap (λ m. not (has_mark t.old m || knows old.seen.marks m)) own in
     took t taken old _ body is_new has c.requires.some c.requires.short is
     (λ m. ap (λ (s : SeenMarks). knows s.marks m) seen ∙ c.in_ok-met.ensures.known m ∙ ap (λ o. knows old.seen.marks m || (bytes_eq m o && not (has_mark t.old m))) own)
-    (subst (λ (s : SeenMarks). AreUsed t.old (λ m. is_marked taken m || bytes_eq m (mark body)) s.used) (sym seen)
-    (subst (λ o. AreUsed t.old (λ m. is_marked taken m || bytes_eq m o) c.meet.new.self.used) own (c.in_ok-met.ensures.used (is_marked taken) has.used)))
+    (subst (λ (s : SeenMarks). AreUsed t.old (λ m. any_marked taken m || bytes_eq m (mark body)) s.used) (sym seen)
+    (subst (λ o. AreUsed t.old (λ m. any_marked taken m || bytes_eq m o) c.meet.new.self.used) own (c.in_ok-met.ensures.used (any_marked taken) has.used)))
     (ap (λ n. old.fresh_bytes + n) c.record_bytes.ensures)
     (omega (arith, ap (λ (a : Staging). a.fresh_chunks) last, ap (λ (a : Staging). a.fresh_chunks) same, c.from.ensures, as_number is_new))
     (omega (arith, ap (λ (a : Staging). a.chunks) last, ap (λ (a : Staging). a.chunks) same))
@@ -150,7 +150,7 @@ returns-clause-staging g c =
 
 pub returns-clause-put : goal.returns-clause-put
 returns-clause-put g c = λ told taken has was.
-    let t : Given = given c.args.terms.now in
+    let t : Given = given_of c.args.terms.now in
     let s = t.sizes in
     let old = c.args.staging.now in
     let body = c.args.body.now in
@@ -164,14 +164,14 @@ returns-clause-put g c = λ told taken has was.
     let image_now = contents (g.D.Disk.history c.put_parts.new.disk) in
     let own = c.mark_of-own.ensures in
     let is : is_new ≡ not (has_mark t.old (mark body) || knows old.seen.marks (mark body)) = c.in_ok-met.ensures.is_new ∙ ap (λ m. not (has_mark t.old m || knows old.seen.marks m)) own in
-    let before = entries_in t.old t.version taken in
+    let before = entries_of_chunks t.old t.version taken in
     let firsts = new_by_mark t.old taken in
     let e : RecipeEntry = record { mark = c.mark_of-own.result; length = length body; start = c.in_ok-met.met.start } in
     let start : c.in_ok-met.met.start ≡ start_in t.old (mark body) t.version = c.in_ok-met.ensures.start ∙ ap (λ m. start_in t.old m t.version) own in
     let here : e ≡ entry t.old t.version body = λ k. record { mark = record { 0 = own k }; length = length body; start = start k } in
-    let entries : before ++ e ∷ [] ≡ entries_in t.old t.version (taken ++ body ∷ []) = ap (λ x. before ++ x ∷ []) here ∙ sym (entries-more t.old t.version taken body) in
+    let entries : before ++ e ∷ [] ≡ entries_of_chunks t.old t.version (taken ++ body ∷ []) = ap (λ x. before ++ x ∷ []) here ∙ sym (entries-more t.old t.version taken body) in
     record {
-      recipe = subst (λ (a : Staging). IsPut s a.recipe.numbers end.entries (spelled_recipe (entries_in t.old t.version (taken ++ body ∷ []))) image_now) (sym last)
+      recipe = subst (λ (a : Staging). IsPut s a.recipe.numbers end.entries (spelled_recipe (entries_of_chunks t.old t.version (taken ++ body ∷ []))) image_now) (sym last)
           (subst (λ es. IsPut s now.recipe.numbers end.entries (spelled_recipe es) image_now) entries
           (c.in_ok-put_parts.ensures.entries told before
           (subst (λ (a : Staging). IsPut s now.recipe.numbers a.entries (spelled_recipe before) image) (sym same)

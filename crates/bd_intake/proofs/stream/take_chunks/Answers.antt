@@ -5,16 +5,16 @@ use Rattle.bd_disk.proofs.RunLemmas.{no_writes}
 use Rattle.bd_gear.specs.Chunking.{Chunking}
 use Rattle.bd_model.specs.Sizes.{sizes_of}
 use Rattle.bd_intake.specs.Firsts.{cut_in}
-use Rattle.bd_intake.specs.Given.{given}
-use Rattle.bd_intake.proofs.Draining.{advanced, drains_none, drains_one, next-short, refuses_one, writes_on}
-use Rattle.bd_intake.proofs.Growing.{grows_both}
+use Rattle.bd_intake.specs.Given.{given_of}
+use Rattle.bd_intake.proofs.DrainLemmas.{advanced, drains_none, drains_one, next-short, refuses_one, writes_on}
+use Rattle.bd_intake.proofs.StagedChunks.{grows_both}
 use Rattle.bd_intake.proofs.stream.take_chunks.Goals as goal
 
 pub loop-len-init : goal.loop-len-init
 loop-len-init g c = record {
   disk = no_writes;
   faults = refl;
-  drains = drains_none (given c.args.terms.now) g.D.Disk.tells c.args.space.now c.args.staging.now c.args.chunker.now (contents (g.D.Disk.history c.args.disk.now)) c.requires.staging c.requires.fed;
+  drains = drains_none (given_of c.args.terms.now) g.D.Disk.tells c.args.space.now c.args.staging.now c.args.chunker.now (contents (g.D.Disk.history c.args.disk.now)) c.requires.staging c.requires.fed;
 }
 
 pub take_chunk-taken-requires-clause-short : goal.take_chunk-taken-requires-clause-short
@@ -32,7 +32,7 @@ loop-len-preserved g c =
     record {
       disk = writes_on s c.take_chunk-taken.ensures.grows c.loop-len.invariant.disk c.take_chunk-taken.ensures.disk;
       faults = c.in_ok-taken.ensures.cause.cause ∙ c.loop-len.invariant.faults;
-      drains = drains_one (given c.args.terms.now) told body c.args.space.now c.loop-len.space c.take_chunk-taken.new.space
+      drains = drains_one (given_of c.args.terms.now) told body c.args.space.now c.loop-len.space c.take_chunk-taken.new.space
           c.args.staging.now c.loop-len.staging c.take_chunk-taken.new.staging c.args.chunker.now c.loop-len.chunker c.advance.new.self
           (contents (g.D.Disk.history c.args.disk.now)) (contents (g.D.Disk.history c.loop-len.disk)) (contents (g.D.Disk.history c.take_chunk-taken.new.disk))
           c.loop-len.invariant.drains
@@ -58,7 +58,7 @@ returns-in_err-taken-clause-refused g c = λ stream more taken fed has ended.
     let body = c.chunk.result.now in
     let p = err_from_is_err_and c.from_residual.result c.from_residual.ensures.1 in
     rw (p.1, p.2)
-    (refuses_one (given c.args.terms.now) g.D.Disk.tells c.args.space.now c.loop-len.space c.args.staging.now c.loop-len.staging c.args.chunker.now c.loop-len.chunker c.advance.new.self
+    (refuses_one (given_of c.args.terms.now) g.D.Disk.tells c.args.space.now c.loop-len.space c.args.staging.now c.loop-len.staging c.args.chunker.now c.loop-len.chunker c.advance.new.self
     (contents (g.D.Disk.history c.args.disk.now)) (contents (g.D.Disk.history c.loop-len.disk)) body c.in_err-taken.field-0.0 (omega (arith, c.args.terms.now.shape.in_range.extent_low)) c.requires.staging c.loop-len.invariant.drains
     (ap (λ (d : Chunking). d.finished) c.advance.ensures.removed ∙ c.next_length.ensures.finished)
     (advanced s c.loop-len.chunker c.next_length.new.self c.advance.new.self c.in-Some.len body c.chunk.ensures.bytes c.next_length.ensures.fed c.advance.ensures.taken)

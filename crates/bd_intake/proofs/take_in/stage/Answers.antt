@@ -8,12 +8,12 @@ use Rattle.bd_model.specs.Sizes.{sizes_of}
 use Rattle.bd_space.specs.Allotment.{held_count}
 use Rattle.bd_intake.specs.Firsts.{cut_in}
 use Rattle.bd_intake.specs.Filling.{HasStream}
-use Rattle.bd_intake.specs.Given.{Given, given}
+use Rattle.bd_intake.specs.Given.{Given, given_of}
 use Rattle.bd_intake.specs.Staging.{HasTaken}
-use Rattle.bd_intake.proofs.Draining.{writes_after, writes_on}
-use Rattle.bd_intake.proofs.Ending.{files_read, refuses_last, refuses_whole, whole_stream}
-use Rattle.bd_intake.proofs.Growing.{grows_both, grows_still, held_within, staging_still, taken_still}
-use Rattle.bd_intake.proofs.Owning.{owns_apart}
+use Rattle.bd_intake.proofs.DrainLemmas.{writes_after, writes_on}
+use Rattle.bd_intake.proofs.IntakeEnd.{files_read, refuses_last, refuses_whole, whole_stream}
+use Rattle.bd_intake.proofs.StagedChunks.{grows_both, grows_still, held_within, staging_still, taken_still}
+use Rattle.bd_intake.proofs.OwnedExtents.{owns_apart}
 use Rattle.bd_intake.proofs.take_in.stage.Goals as goal
 
 pub returns-in_err-chunker-clause-disk : goal.returns-in_err-chunker-clause-disk
@@ -45,7 +45,7 @@ returns-in_err-take_chunks-clause-refused g c = λ t stream holds.
     let held : held_count c.fill.new.space ≡ held_count c.args.space.now = (c.fill.ensures.grows.owners is.base is.first is.owns).held ∙ sym is.owns.held in
     let p = err_from_is_err_and c.from_residual-in_err-take_chunks.result c.from_residual-in_err-take_chunks.ensures.1 in
     rw (p.1, p.2)
-    (refuses_last (given c.args.terms.now) (held_count c.args.space.now) (held_count c.fill.new.space) filled.stream stream c.in_err-take_chunks.field-0.0 (filled.whole t stream holds) held
+    (refuses_last (given_of c.args.terms.now) (held_count c.args.space.now) (held_count c.fill.new.space) filled.stream stream c.in_err-take_chunks.field-0.0 (filled.whole t stream holds) held
     (c.in_err-take_chunks.ensures.refused filled.stream [] filled.taken (c.finish.ensures.fed (cut_in (sizes_of c.args.terms.now.shape)) filled.stream filled.taken filled.fed) filled.has (λ over. refl)))
 
 pub returns-in_err-need-clause-disk : goal.returns-in_err-need-clause-disk
@@ -92,12 +92,12 @@ returns-clause-grows g c = grows_still c.write_out.ensures.same (grows_both c.fi
 
 pub returns-clause-staging : goal.returns-clause-staging
 returns-clause-staging g c =
-    staging_still (given c.args.terms.now) c.take_chunks.new.space c.take_chunks.new.staging c.write_out.new.staging c.in_ok-take_chunks.ensures.staging
+    staging_still (given_of c.args.terms.now) c.take_chunks.new.space c.take_chunks.new.staging c.write_out.new.staging c.in_ok-take_chunks.ensures.staging
     c.write_out.ensures.same c.in_ok-write_out.ensures.record_count c.in_ok-write_out.ensures.entry_count
 
 pub returns-clause-whole : goal.returns-clause-whole
 returns-clause-whole g c = λ t stream holds.
-    let terms : Given = given c.args.terms.now in
+    let terms : Given = given_of c.args.terms.now in
     let filled = c.in_ok-fill.ensures.filled in
     let parts = chunks (cut_in terms.sizes) stream in
     let staged = c.take_chunks.new.staging in
@@ -112,7 +112,7 @@ returns-clause-whole g c = λ t stream holds.
 
 pub returns-in_err-need-clause-refused : goal.returns-in_err-need-clause-refused
 returns-in_err-need-clause-refused g c = λ t stream holds.
-    let terms : Given = given c.args.terms.now in
+    let terms : Given = given_of c.args.terms.now in
     let is = c.requires.staging in
     let filled = c.in_ok-fill.ensures.filled in
     let all : HasStream terms stream c.take_chunks.new.staging g.D.Disk.tells (contents (g.D.Disk.history c.take_chunks.new.disk)) =

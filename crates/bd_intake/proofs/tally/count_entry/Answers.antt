@@ -1,7 +1,7 @@
 use Rattle.std.proofs.Common.{◌≡◌, ◌+◌, ◌∷◌, ◌++◌, ◌∙◌, [], true, false, not, cond, ap, sym, nat_eq, Some, is_some}
 use Rattle.std.specs.Map.{lookup}
 use Rattle.bd_intake.specs.Tallies.{share_at, share_with}
-use Rattle.bd_intake.proofs.Tallying.{counts-push}
+use Rattle.bd_intake.proofs.TallyLemmas.{counts-push}
 use Rattle.bd_intake.proofs.tally.count_entry.Goals as goal
 
 pub returns-in_ok-push : goal.returns-in_ok-push

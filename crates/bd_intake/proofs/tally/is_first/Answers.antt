@@ -1,6 +1,6 @@
 use Rattle.std.proofs.Common.{◌∙◌, ap, sym, Some}
 use Rattle.std.proofs.lemmas.Bool.{eqb-true}
-use Rattle.bd_intake.proofs.Indexing.{is_first-none, is_first-some}
+use Rattle.bd_intake.proofs.FirstIndex.{is_first-none, is_first-some}
 use Rattle.bd_intake.proofs.tally.is_first.Goals as goal
 
 pub returns-in-Some : goal.returns-in-Some

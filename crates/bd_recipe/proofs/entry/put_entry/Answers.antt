@@ -1,7 +1,7 @@
 use Rattle.std.proofs.Common.{◌≡◌, ◌+◌, ◌∙◌, ◌++◌, refl, arith, length, ap, length-append}
 use Rattle.bd_disk.specs.Images.{overwritten}
 use Rattle.bd_model.specs.Records.{four}
-use Rattle.bd_recipe.proofs.Spelling.{paste-overwritten, overwritten_behind}
+use Rattle.bd_recipe.proofs.SpelledEntries.{paste-overwritten, overwritten_behind}
 use Rattle.bd_recipe.proofs.entry.put_entry.Goals as goal
 
 pub returns-clause-written : goal.returns-clause-written

@@ -1,5 +1,5 @@
 use Rattle.std.proofs.Common.{◌≡◌, ◌+◌, ◌-◌, ◌≤◌, arith, length}
-use Rattle.bd_recipe.proofs.Spelling.{put-overwritten}
+use Rattle.bd_recipe.proofs.SpelledEntries.{put-overwritten}
 use Rattle.bd_recipe.proofs.entry.put_mark.Goals as goal
 
 pub returns-clause-written : goal.returns-clause-written

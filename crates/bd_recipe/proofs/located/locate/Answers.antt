@@ -1,5 +1,5 @@
 use Rattle.std.proofs.Common.{arith}
-use Rattle.bd_recipe.proofs.Locating.{located}
+use Rattle.bd_recipe.proofs.RecipePlaces.{located}
 use Rattle.bd_recipe.proofs.located.locate.Goals as goal
 
 pub returns : goal.returns

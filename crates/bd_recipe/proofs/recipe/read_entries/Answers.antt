@@ -7,7 +7,7 @@ use Rattle.bd_model.specs.Extents.{owner_bytes}
 use Rattle.bd_model.specs.Records.{entries_in}
 use Rattle.bd_extio.proofs.Within.{reads_within}
 use Rattle.bd_recipe.specs.Entries.{first_bad, is_within}
-use Rattle.bd_recipe.proofs.Answering.{if_damaged_on}
+use Rattle.bd_recipe.proofs.DamageAnswers.{if_damaged_on}
 use Rattle.bd_recipe.proofs.Pieces.{items_more, reads_more, reads_to-piece}
 use Rattle.bd_recipe.proofs.recipe.read_entries.Goals as goal
 

@@ -5,7 +5,7 @@ use Rattle.bd_model.specs.Extents.{owner_bytes}
 use Rattle.bd_model.specs.Records.{entries_in}
 use Rattle.bd_extio.proofs.Places.{range_small}
 use Rattle.bd_recipe.specs.Entries.{first_bad, is_within}
-use Rattle.bd_recipe.proofs.Answering.{if_damaged}
+use Rattle.bd_recipe.proofs.DamageAnswers.{if_damaged}
 use Rattle.bd_recipe.proofs.Entries.{length-entries_in}
 use Rattle.bd_recipe.proofs.Pieces.{entries_of-range}
 use Rattle.bd_recipe.proofs.recipe.read_piece.Goals as goal

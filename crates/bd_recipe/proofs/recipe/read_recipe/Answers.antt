@@ -5,8 +5,8 @@ use Rattle.bd_model.specs.Sizes.{sizes_of}
 use Rattle.bd_model.specs.declared.layout.RecipeEntry.{RecipeEntry}
 use Rattle.bd_extio.proofs.Places.{range_small}
 use Rattle.bd_recipe.specs.Reading.{total}
-use Rattle.bd_recipe.proofs.Answering.{answers_on, damaged_on}
-use Rattle.bd_recipe.proofs.Locating.{reads_of_version, reads_there, finds_damage, sees_damage, finds_all, finds_sum, sees_sum, recipe_there}
+use Rattle.bd_recipe.proofs.DamageAnswers.{answers_on, damaged_on}
+use Rattle.bd_recipe.proofs.RecipePlaces.{reads_of_version, reads_there, finds_damage, sees_damage, finds_all, finds_sum, sees_sum, recipe_there}
 use Rattle.bd_recipe.proofs.recipe.read_recipe.Goals as goal
 
 pub returns-in_err-recipe-clause-disk : goal.returns-in_err-recipe-clause-disk

@@ -1,5 +1,5 @@
 use Rattle.std.specs.List.{flat_map}
-use Rattle.bd_space.proofs.Claiming.{claiming_all, next_free, next_distinct, next_claimed, all_claimed}
+use Rattle.bd_space.proofs.ClaimedNumbers.{claiming_all, next_free, next_distinct, next_claimed, all_claimed}
 use Rattle.bd_recover.proofs.claims.claim_owners.Goals as goal
 
 pub loop-owner-init : goal.loop-owner-init

@@ -1,6 +1,6 @@
 use Rattle.std.proofs.Common.{drop}
 use Rattle.std.specs.List.{flat_map}
-use Rattle.bd_space.proofs.Claiming.{IsClaiming}
+use Rattle.bd_space.proofs.ClaimedNumbers.{IsClaiming}
 use Rattle.bd_recover.proofs.claims.claim_owners.Given as goal
 
 abbrev pub invariant-loop-owner : goal.invariant-loop-owner

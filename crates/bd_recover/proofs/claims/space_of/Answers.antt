@@ -1,7 +1,7 @@
 use Rattle.std.proofs.Common.{map, refl, ◌∙◌, ap}
 use Rattle.bd_roll.specs.Shown.{version_entry, volume_entry, open_entry}
-use Rattle.bd_roll.proofs.Marking.{shown_numbers}
-use Rattle.bd_recover.proofs.Claiming.{owned, first_free, first_distinct, second_free, second_distinct, third_free, third_distinct, all_taken}
+use Rattle.bd_roll.proofs.SeenMarks.{shown_numbers}
+use Rattle.bd_recover.proofs.ClaimedCatalogue.{owned, first_free, first_distinct, second_free, second_distinct, third_free, third_distinct, all_taken}
 use Rattle.bd_recover.proofs.claims.space_of.Goals as goal
 
 pub claim_owners-requires-clause-free : goal.claim_owners-requires-clause-free

@@ -5,7 +5,7 @@ use Rattle.bd_disk.proofs.Frames.{unchanged}
 use Rattle.bd_disk.proofs.RunLemmas.{both_reads, nothing_written, sync_in_reads}
 use Rattle.bd_model.specs.Sizes.{sizes_of}
 use Rattle.bd_gate.specs.Superblock.{sizes_at}
-use Rattle.bd_recover.proofs.Answering.{load_fails, finds, ends_at_rest, front_before, load_before}
+use Rattle.bd_recover.proofs.OpeningAnswers.{load_fails, finds, ends_at_rest, front_before, load_before}
 use Rattle.bd_recover.proofs.FirstCalls.{sync_alone, sync_fails, syncs_on}
 use Rattle.bd_recover.proofs.opening.open_image.Goals as goal
 

@@ -9,10 +9,10 @@ use Rattle.bd_roll.specs.Shown.{open_entry, volume_entry}
 use Rattle.bd_model.specs.Sizes.{Sizes}
 use Rattle.bd_model.specs.declared.damage.Owner.TheVariants.{Active}
 use Rattle.bd_volume.specs.Pieces.{extents_of}
-use Rattle.bd_volume.proofs.Naming.{AreOwned, opens_owned}
+use Rattle.bd_volume.proofs.PieceLemmas.{AreOwned, opens_owned}
 use Rattle.bd_volume.proofs.RowLists.{ClosedIs, closed_is}
 use Rattle.bd_restore.specs.Owners.{starts_in, AreRising, IsOwner}
-use Rattle.bd_restore.proofs.Owning.{found_there, owned_at, starts_rise}
+use Rattle.bd_restore.proofs.WalkRows.{found_there, owned_at, starts_rise}
 use Rattle.bd_restore.proofs.owner.extents_of.Goals as goal
 
 pub begun_before-requires : goal.begun_before-requires

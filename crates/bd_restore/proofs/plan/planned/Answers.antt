@@ -4,7 +4,7 @@ use Rattle.bd_extio.proofs.Places.{range_small}
 use Rattle.bd_recipe.specs.Reading.{total}
 use Rattle.bd_recipe.specs.Entries.{limits_for}
 use Rattle.bd_recipe.specs.Located.{IsLocated}
-use Rattle.bd_recipe.proofs.Locating.{located}
+use Rattle.bd_recipe.proofs.RecipePlaces.{located}
 use Rattle.bd_restore.proofs.plan.planned.Goals as goal
 
 pub of-requires-clause-few : goal.of-requires-clause-few

@@ -1,7 +1,7 @@
 use Rattle.std.proofs.Common.{arith}
 use Rattle.bd_files.proofs.FileLemmas.{begins_only}
 use Rattle.bd_restore.proofs.Frames.{target_none, target_once}
-use Rattle.bd_restore.proofs.Putting.{place_within}
+use Rattle.bd_restore.proofs.PutLemmas.{place_within}
 use Rattle.bd_restore.specs.Target.{held}
 use Rattle.bd_restore.proofs.put.put_at.Goals as goal
 

@@ -1,8 +1,8 @@
 use Rattle.std.proofs.Common.{◌≡◌, ◌≢◌, ℕ, ◌<◌, ◌-◌, length, refl, ◌∙◌, ap, subst, arith}
-use Rattle.bd_restore.specs.Target.{held, mark_at, Fills, Puts}
+use Rattle.bd_restore.specs.Target.{held, mark_at, Fills, PutsBody}
 use Rattle.bd_restore.proofs.Marks.{limit_of, IsAt, first_at, none_first, next_at, none_next, next_later}
 use Rattle.bd_restore.proofs.Frames.{target_both, target_none}
-use Rattle.bd_restore.proofs.Putting.{target_after, puts_none, puts_more, fills_none, fills_more}
+use Rattle.bd_restore.proofs.PutLemmas.{target_after, puts_none, puts_more, fills_none, fills_more}
 use Rattle.bd_restore.proofs.put.put_everywhere.Goals as goal
 
 pub loop-next-init : goal.loop-next-init
@@ -41,7 +41,7 @@ loop-next-preserved g c =
       filled = fills_more entries m j (limit_of entries found) c.args.filled.now c.loop-next.filled _ at.0 (inv.filled.count ∙ c.requires.flags) at.1 gap c.in_ok-put_at.ensures.filled
           (subst (λ n. Fills entries m n c.args.filled.now c.loop-next.filled) reached inv.filled);
       put = λ told. puts_more entries name body j (g.F.Files.files c.loop-next.files) _ (inv.there told) (c.in_ok-put_at.ensures.put told) m first_file (limit_of entries found) at.0 c.in_ok-put_at.ensures.sized at.1 gap
-          (subst (λ n. Puts entries m body n first_file (held (g.F.Files.files c.loop-next.files) name)) reached (inv.put told));
+          (subst (λ n. PutsBody entries m body n first_file (held (g.F.Files.files c.loop-next.files) name)) reached (inv.put told));
     }
 
 pub loop-next-smaller : goal.loop-next-smaller

@@ -1,4 +1,4 @@
-use Rattle.bd_restore.proofs.Walking.{wanted_by, unwanted_by}
+use Rattle.bd_restore.proofs.WalkLemmas.{wanted_by, unwanted_by}
 use Rattle.bd_restore.proofs.record.wants.Goals as goal
 
 pub returns-in-Some : goal.returns-in-Some

@@ -10,11 +10,11 @@ use Rattle.bd_files.proofs.FileLemmas.{begins_only, finished, finishes_only}
 use Rattle.bd_recipe.specs.Reading.{total}
 use Rattle.bd_restore.specs.Met.{MetOn}
 use Rattle.bd_restore.specs.Plan.{Planned}
-use Rattle.bd_restore.specs.Restored.{GivesBack, IsMetBy, ReadsWalk}
+use Rattle.bd_restore.specs.Restored.{HasGivenBack, IsMetBy, ReadsWalk}
 use Rattle.bd_restore.specs.Target.{flag_at}
-use Rattle.bd_restore.proofs.Answering.{damaged_by, passed_counts}
-use Rattle.bd_restore.proofs.Ending.{gives_back, met_by, missing_by, reads_walk}
-use Rattle.bd_restore.proofs.Finishing.{err_of, ok_of, target_begun}
+use Rattle.bd_restore.proofs.FaultPassedOn.{damaged_by, passed_counts}
+use Rattle.bd_restore.proofs.WalkEnd.{gives_back, met_by, missing_by, reads_walk}
+use Rattle.bd_restore.proofs.FirstAndLast.{err_of, ok_of, target_begun}
 use Rattle.bd_restore.proofs.Frames.{same_others, target_both, target_once}
 use Rattle.bd_restore.proofs.run.run_plan.Goals as goal
 
@@ -156,7 +156,7 @@ returns-clause-file g c = λ told tells.
     let begun = g.F.Files.files c.begin.new.self in
     let now = g.F.Files.files c.walk.new.files in
     let ended = g.F.Files.files c.finish.new.self in
-    subst (λ p. GivesBack found p (contents old) name before ended) same
+    subst (λ p. HasGivenBack found p (contents old) name before ended) same
     (gives_back found plan progress.filled.items old new fresh c.walk.new.progress.filled.items (went.went.walk told) (went.good told) name before begun now ended
     (went.went.gives told tells) (went.went.ready.there tells)
     (subst (λ l. (k : ℕ) → k < length l → flag_at l k ≡ true) c.deref.ensures.value c.in_default.ensures.none)

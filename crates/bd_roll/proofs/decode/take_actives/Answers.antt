@@ -1,8 +1,8 @@
 use Rattle.std.proofs.Common.{rules}
 use Rattle.bd_roll.specs.Spelling.{read_active, spelled_active}
 use Rattle.bd_roll.specs.Widths.{FitsOpen}
-use Rattle.bd_roll.proofs.Spelling.{active_back}
-use Rattle.bd_roll.proofs.Reading.{counted_none, same_rest}
+use Rattle.bd_roll.proofs.ReadBack.{active_back}
+use Rattle.bd_roll.proofs.OneSpelling.{counted_none, same_rest}
 use Rattle.bd_roll.proofs.decode.take_actives.Goals as goal
 
 pub take_many-requires : goal.take_many-requires

@@ -2,8 +2,8 @@ use Rattle.std.proofs.Common.{rules, map}
 use Rattle.bd_roll.specs.Shown.{version_entry, volume_entry}
 use Rattle.bd_roll.specs.Spelling.{read_version, read_volume, spelled_version, spelled_volume}
 use Rattle.bd_roll.specs.Widths.{FitsVersion, FitsVolume}
-use Rattle.bd_roll.proofs.Spelling.{version_back, volume_back}
-use Rattle.bd_roll.proofs.Reading.{same_rest}
+use Rattle.bd_roll.proofs.ReadBack.{version_back, volume_back}
+use Rattle.bd_roll.proofs.OneSpelling.{same_rest}
 use Rattle.bd_roll.proofs.ReadingContents.{Numbers, none_volumes, none_actives}
 use Rattle.bd_roll.proofs.decode.take_contents.Goals as goal
 

@@ -5,8 +5,8 @@ use Rattle.bd_model.specs.Records.{four}
 use Rattle.bd_roll.specs.Spelling.{read_four}
 use Rattle.bd_roll.specs.Widths.{FitsFour}
 use Rattle.bd_roll.proofs.Lengths.{length-fours}
-use Rattle.bd_roll.proofs.Spelling.{four_back}
-use Rattle.bd_roll.proofs.Reading.{list_none, same_rest, too_short, fewer}
+use Rattle.bd_roll.proofs.ReadBack.{four_back}
+use Rattle.bd_roll.proofs.OneSpelling.{list_none, same_rest, too_short, fewer}
 use Rattle.bd_roll.proofs.decode.take_extents.Goals as goal
 
 pub returns-then-left-count : goal.returns-then-left-count

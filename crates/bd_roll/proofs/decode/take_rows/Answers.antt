@@ -7,8 +7,8 @@ use Rattle.bd_model.specs.declared.layout.CategoryRow.{CategoryRow}
 use Rattle.bd_roll.specs.Spelling.{read_row, spelled_row}
 use Rattle.bd_roll.specs.Widths.{FitsRow}
 use Rattle.bd_roll.proofs.Lengths.{length-rows}
-use Rattle.bd_roll.proofs.Spelling.{row_back}
-use Rattle.bd_roll.proofs.Reading.{list_none, same_rest, too_short, took_more}
+use Rattle.bd_roll.proofs.ReadBack.{row_back}
+use Rattle.bd_roll.proofs.OneSpelling.{list_none, same_rest, too_short, took_more}
 use Rattle.bd_roll.proofs.decode.take_rows.Goals as goal
 
 pub returns-then-left-count : goal.returns-then-left-count

@@ -7,7 +7,7 @@ use Rattle.bd_roll.specs.declared.rows.ActiveCategory.{ActiveCategory}
 use Rattle.bd_roll.specs.Shown.{version_entry, volume_entry, open_entry}
 use Rattle.bd_roll.specs.Spelling.{spelled_version, spelled_volume, spelled_active}
 use Rattle.bd_roll.specs.Writing.{put_at}
-use Rattle.bd_roll.proofs.Writing.{length-spelled_parts, written_parts}
+use Rattle.bd_roll.proofs.PutBytes.{length-spelled_parts, written_parts}
 use Rattle.bd_roll.proofs.encode.put_contents.Goals as goal
 
 pub put_many-place-requires-clause-room : goal.put_many-place-requires-clause-room

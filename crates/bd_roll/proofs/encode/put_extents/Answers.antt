@@ -1,7 +1,7 @@
 use Rattle.std.proofs.Common.{ℕ, get_or, refl, ◌+◌, ◌≤◌, length, ◌∙◌, arith}
 use Rattle.bd_model.specs.Records.{four}
 use Rattle.bd_roll.specs.Spelling.{spelled_extents}
-use Rattle.bd_roll.proofs.Writing.{put_at-more, place-more, room-more}
+use Rattle.bd_roll.proofs.PutBytes.{put_at-more, place-more, room-more}
 use Rattle.bd_roll.proofs.encode.put_extents.Goals as goal
 
 pub put_u32-requires-in-loop-number : goal.put_u32-requires-in-loop-number

@@ -1,7 +1,7 @@
 use Rattle.std.proofs.Common.{ℕ, ◌+◌, List, ◌++◌, ◌∙◌, ap, arith}
 use Rattle.bd_roll.specs.Writing.{put_at}
 use Rattle.bd_model.specs.Records.{four, eight}
-use Rattle.bd_roll.proofs.Writing.{put_at-append}
+use Rattle.bd_roll.proofs.PutBytes.{put_at-append}
 use Rattle.bd_roll.proofs.encode.put_row.Goals as goal
 
 pub returns-clause-written : goal.returns-clause-written

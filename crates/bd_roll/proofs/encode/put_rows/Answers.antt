@@ -2,7 +2,7 @@ use Rattle.std.proofs.Common.{get_or, refl, length, ◌∙◌, arith}
 use Rattle.bd_model.specs.Records.{four}
 use Rattle.bd_model.specs.declared.layout.CategoryRow.{CategoryRow}
 use Rattle.bd_roll.specs.Spelling.{spelled_row}
-use Rattle.bd_roll.proofs.Writing.{put_at-more, place-more, room-more}
+use Rattle.bd_roll.proofs.PutBytes.{put_at-more, place-more, room-more}
 use Rattle.bd_roll.proofs.encode.put_rows.Goals as goal
 
 abbrev no_row : CategoryRow

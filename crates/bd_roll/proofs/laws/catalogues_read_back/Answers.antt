@@ -1,8 +1,8 @@
 use Rattle.bd_model.specs.Sizes.{sizes_of}
-use Rattle.bd_roll.proofs.Decoding.{catalogue_of-spelled, accepted_by}
+use Rattle.bd_roll.proofs.DecodeLemmas.{catalogue_of-spelled, accepted_by}
 use Rattle.bd_roll.proofs.Lengths.{length-spelled}
-use Rattle.bd_roll.proofs.Obeying.{bounded_of, spellable}
-use Rattle.bd_roll.proofs.Spelling.{read_catalogue-spelled, spelled_same, rest_same}
+use Rattle.bd_roll.proofs.RuleLemmas.{bounded_of, spellable}
+use Rattle.bd_roll.proofs.ReadBack.{read_catalogue-spelled, spelled_same, rest_same}
 use Rattle.bd_roll.proofs.laws.catalogues_read_back.Goals as goal
 
 pub returns-clause-fields : goal.returns-clause-fields

@@ -1,7 +1,7 @@
 use Rattle.bd_model.specs.Sizes.{sizes_of}
-use Rattle.bd_roll.proofs.Expiring.{dropped_rules}
-use Rattle.bd_roll.proofs.Obeying.{bounded_of}
-use Rattle.bd_roll.proofs.Splitting.{split_rules}
+use Rattle.bd_roll.proofs.RulesAfterDrop.{dropped_rules}
+use Rattle.bd_roll.proofs.RuleLemmas.{bounded_of}
+use Rattle.bd_roll.proofs.RulesAfterSplit.{split_rules}
 use Rattle.bd_roll.proofs.laws.steps_keep_the_rules.Goals as goal
 
 pub returns-clause-split : goal.returns-clause-split

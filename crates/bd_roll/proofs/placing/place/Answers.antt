@@ -4,7 +4,7 @@ use Rattle.bd_roll.specs.declared.rows.ActiveCategory.{ActiveCategory}
 use Rattle.bd_roll.specs.Giving.{AreOwned, GivesUp}
 use Rattle.bd_roll.specs.Shown.{open_entry}
 use Rattle.bd_roll.specs.Splitting.{put_in_place}
-use Rattle.bd_roll.specs.Steps.{fresh_entries}
+use Rattle.bd_roll.specs.Steps.{fresh_actives}
 use Rattle.bd_roll.proofs.GivenUp.{gives_none}
 use Rattle.bd_roll.proofs.InPlace.{at_index, at_none, none_among, put_none, put_remove, put_set, starts}
 use Rattle.bd_roll.proofs.placing.place.Goals as goal
@@ -14,7 +14,7 @@ pub returns-in_default-clause-actives : goal.returns-in_default-clause-actives
 returns-in_default-clause-actives c =
     let i = c.args.split.start in
     let none : Contains (starts (map open_entry c.args.actives.now.items)) i → ⊥ = none_among c.args.actives.now.items i (c.index_of.ensures.none c.in_default.is) in
-    sym (put_none i (fresh_entries c.args.split.kept) (map open_entry c.args.actives.now.items) none)
+    sym (put_none i (fresh_actives c.args.split.kept) (map open_entry c.args.actives.now.items) none)
 
 pub returns-in_default-clause-gives : goal.returns-in_default-clause-gives
 returns-in_default-clause-gives c =
@@ -42,11 +42,11 @@ returns-clause-actives c =
       | in-Some-kept w ↦
           ap (λ rest. map open_entry rest.items) w.actives-is ∙ ap (map open_entry) w.set-before.ensures.items
           ∙ put_set xs k i w.in-Some-kept.kept c.requires.differ c.in-Some.ensures.some.0 c.in-Some.ensures.some.1
-          ∙ ap (λ o. put_in_place i (fresh_entries o) (map open_entry xs)) (sym w.in-Some-kept.is)
+          ∙ ap (λ o. put_in_place i (fresh_actives o) (map open_entry xs)) (sym w.in-Some-kept.is)
       | in-None w ↦
           ap (λ rest. map open_entry rest.items) w.actives-is ∙ ap (map open_entry) w.remove-before.ensures.items
           ∙ put_remove xs k i c.requires.differ c.in-Some.ensures.some.0 c.in-Some.ensures.some.1
-          ∙ ap (λ o. put_in_place i (fresh_entries o) (map open_entry xs)) (sym w.in-None.is)
+          ∙ ap (λ o. put_in_place i (fresh_actives o) (map open_entry xs)) (sym w.in-None.is)
     ]
 
 pub returns-clause-gives : goal.returns-clause-gives

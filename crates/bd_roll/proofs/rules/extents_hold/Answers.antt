@@ -2,7 +2,7 @@ use Rattle.std.proofs.Common.{Bool, List, ◌∙◌, ap, is_some, ℕ, replicate
 use Rattle.bd_roll.specs.Catalogue.{all_extents}
 use Rattle.bd_roll.specs.Checked.{marked}
 use Rattle.bd_roll.specs.Shown.{catalogue_of_contents}
-use Rattle.bd_roll.proofs.Marking.{marked_fresh}
+use Rattle.bd_roll.proofs.SeenMarks.{marked_fresh}
 use Rattle.bd_roll.proofs.rules.extents_hold.Goals as goal
 
 pub returns : goal.returns

@@ -8,7 +8,7 @@ use Rattle.bd_roll.specs.declared.rows.ActiveCategory.{ActiveCategory}
 use Rattle.bd_roll.specs.Catalogue.{Catalogue, oldest_in}
 use Rattle.bd_roll.specs.Rules.{phase_holds, version_holds, starts_hold, actives_hold, volume_holds, active_holds}
 use Rattle.bd_roll.specs.Shown.{version_entry, volume_entry, open_entry, catalogue_of_contents}
-use Rattle.bd_roll.proofs.Checking.{second_fails, fifth_fails, sixth_left}
+use Rattle.bd_roll.proofs.RowChecks.{second_fails, fifth_fails, sixth_left}
 use Rattle.bd_roll.proofs.rules.lists_hold.Goals as goal
 
 versions_is : (s : Sizes) (xs ys : List VersionRow) (b : Bool) → ys ≡ xs → b ≡ list_all (λ x. version_holds s (version_entry x)) ys → list_all (version_holds s) (map version_entry xs) ≡ b

@@ -4,7 +4,7 @@ use Rattle.bd_roll.specs.declared.contents.Contents.{Contents}
 use Rattle.bd_roll.specs.Catalogue.{VersionEntry, VolumeEntry, OpenEntry}
 use Rattle.bd_roll.specs.Checked.{marked}
 use Rattle.bd_roll.specs.Shown.{version_entry, volume_entry, open_entry}
-use Rattle.bd_roll.proofs.Marking.{shown_numbers, first_refused, second_refused, third_decides, is_some-cond}
+use Rattle.bd_roll.proofs.SeenMarks.{shown_numbers, first_refused, second_refused, third_decides, is_some-cond}
 use Rattle.bd_roll.proofs.rules.mark_owned.Goals as goal
 
 abbrev of_versions : Contents → List ℕ

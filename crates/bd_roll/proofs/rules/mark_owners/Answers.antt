@@ -1,5 +1,5 @@
 use Rattle.std.proofs.Common.{sym, ◌∙◌}
-use Rattle.bd_roll.proofs.Marking.{owner_refused, owner_passed}
+use Rattle.bd_roll.proofs.SeenMarks.{owner_refused, owner_passed}
 use Rattle.bd_roll.proofs.rules.mark_owners.Goals as goal
 
 pub returns-then-not-mark_all : goal.returns-then-not-mark_all

@@ -2,7 +2,7 @@ use Rattle.std.proofs.Common.{◌≡◌, ℕ, ◌-◌, ◌==◌, length, map, sy
 use Rattle.std.proofs.lemmas.List.{length-map}
 use Rattle.bd_model.specs.Sizes.{sizes_of}
 use Rattle.bd_roll.specs.Shown.{version_entry, volume_entry, catalogue_of_contents}
-use Rattle.bd_roll.proofs.Checking.{numbers_left}
+use Rattle.bd_roll.proofs.RowChecks.{numbers_left}
 use Rattle.bd_roll.proofs.rules.numbers_hold.Goals as goal
 use Rattle.bd_roll.proofs.rules.numbers_hold.Goals.{else-retained-eq0-via-then-retained-eq0+else-base-newest, else-retained-eq0-via-else-retained-eq0}
 

@@ -1,7 +1,7 @@
 use Rattle.std.proofs.Common.{◌≡◌, ◌<◌, [], length, map, get_or, sym, ◌∙◌, ap, subst, arith}
 use Rattle.std.proofs.lemmas.List.{length-map, get_or-map}
 use Rattle.std.proofs.lemmas.List.Elements.{All-get_or}
-use Rattle.bd_roll.proofs.Writing.{put_at-more, place-more, room-more}
+use Rattle.bd_roll.proofs.PutBytes.{put_at-more, place-more, room-more}
 use Rattle.bd_roll.proofs.spelled.put_many.Goals as goal
 
 pub put-place-requires-clause-room : goal.put-place-requires-clause-room

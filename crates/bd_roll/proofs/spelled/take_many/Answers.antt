@@ -1,6 +1,6 @@
 use Rattle.std.proofs.Common.{[], map, arith}
 use Rattle.std.proofs.lemmas.List.{length-map}
-use Rattle.bd_roll.proofs.Reading.{many_none, took_entry, fits_entry, longer_by_one}
+use Rattle.bd_roll.proofs.OneSpelling.{many_none, took_entry, fits_entry, longer_by_one}
 use Rattle.bd_roll.proofs.spelled.take_many.Goals as goal
 
 pub returns-in_default : goal.returns-in_default

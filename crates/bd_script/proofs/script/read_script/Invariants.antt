@@ -1,5 +1,5 @@
 use Rattle.std.proofs.Common.{length}
-use Rattle.bd_script.proofs.Reading.{HasRead}
+use Rattle.bd_script.proofs.ScriptLemmas.{HasRead}
 use Rattle.bd_script.proofs.script.read_script.Given as goal
 
 abbrev pub invariant-loop-rest : goal.invariant-loop-rest

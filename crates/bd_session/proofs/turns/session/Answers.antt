@@ -1,7 +1,7 @@
 use Rattle.std.proofs.Common.{◌∙◌, Err, Some, ap, arith, length, refl}
 use Rattle.bd_files.specs.World.{world}
 use Rattle.bd_session.specs.declared.report.SessionEnd.TheVariants.{OutputFault, OutOfMemory}
-use Rattle.bd_session.proofs.Stepping.{all_turned, command_at, ended, none_begun, not_begun, none_turned, turned}
+use Rattle.bd_session.proofs.LoopSteps.{all_turned, command_at, ended, none_begun, not_begun, none_turned, turned}
 use Rattle.bd_session.proofs.turns.session.Goals as goal
 
 pub returns-in-Err : goal.returns-in-Err

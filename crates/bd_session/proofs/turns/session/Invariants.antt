@@ -1,6 +1,6 @@
 use Rattle.bd_files.specs.World.{world}
 use Rattle.bd_store.specs.Attempts.{scene}
-use Rattle.bd_session.proofs.Turning.{HasTurned}
+use Rattle.bd_session.proofs.AnsweredLemmas.{HasTurned}
 use Rattle.bd_session.proofs.turns.session.Given as goal
 
 abbrev pub invariant-loop-command : goal.invariant-loop-command

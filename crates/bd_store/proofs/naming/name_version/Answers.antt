@@ -1,5 +1,5 @@
 use Rattle.std.proofs.Common.{sym, ◌∙◌}
-use Rattle.bd_store.proofs.TakingIn.{holds_ok}
+use Rattle.bd_store.proofs.BackupMeets.{holds_ok}
 use Rattle.bd_store.proofs.naming.name_version.Goals as goal
 
 pub returns-clause-done : goal.returns-clause-done

@@ -7,7 +7,7 @@ use Rattle.bd_category.specs.Records.{record_with}
 use Rattle.bd_roll.specs.Catalogue.{bytes_of_rows}
 use Rattle.bd_volume.specs.Growing.{AreCounted}
 use Rattle.bd_volume.proofs.Appended.{appended, grown, one_counted}
-use Rattle.bd_volume.proofs.Taking.{volume_small}
+use Rattle.bd_volume.proofs.GrownExtents.{volume_small}
 use Rattle.bd_volume.proofs.append.append_category.Goals as goal
 
 pub bytes-place-requires : goal.bytes-place-requires

@@ -5,8 +5,8 @@ use Rattle.bd_model.specs.declared.layout.CategoryRow.{CategoryRow}
 use Rattle.bd_roll.specs.Catalogue.{bytes_of_rows}
 use Rattle.bd_volume.specs.Copies.{AreApart, bytes_on}
 use Rattle.bd_volume.proofs.Appended.{appended, grown}
-use Rattle.bd_volume.proofs.Copying.{length-section, no_work}
-use Rattle.bd_volume.proofs.Taking.{section_small, still_apart, volume_small}
+use Rattle.bd_volume.proofs.CopyLemmas.{length-section, no_work}
+use Rattle.bd_volume.proofs.GrownExtents.{section_small, still_apart, volume_small}
 use Rattle.bd_volume.proofs.append.append_records.Goals as goal
 
 pub bytes-place-requires : goal.bytes-place-requires

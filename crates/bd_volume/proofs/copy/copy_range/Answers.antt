@@ -4,12 +4,12 @@ use Rattle.std.proofs.lemmas.List.Elements.{All-nil}
 use Rattle.bd_disk.specs.History.{contents}
 use Rattle.bd_disk.specs.Images.{overwritten}
 use Rattle.bd_disk.proofs.RunLemmas.{work_written}
-use Rattle.bd_disk.proofs.Agreeing.{overwritten-none}
+use Rattle.bd_disk.proofs.AgreeLemmas.{overwritten-none}
 use Rattle.bd_model.specs.Extents.{owner_bytes}
 use Rattle.bd_model.specs.Sizes.{disk_bytes, sizes_of}
 use Rattle.bd_extio.specs.Owned.{owned_on}
 use Rattle.bd_extio.proofs.Places.{length-owner_bytes, range_small}
-use Rattle.bd_volume.proofs.Copying.{bytes_more, copy_more, no_work, other_stays, works_on}
+use Rattle.bd_volume.proofs.CopyLemmas.{bytes_more, copy_more, no_work, other_stays, works_on}
 use Rattle.bd_volume.proofs.copy.copy_range.Goals as goal
 
 pub loop-done-init : goal.loop-done-init

@@ -1,6 +1,6 @@
 use Rattle.std.proofs.Common.{◌+◌, arith}
 use Rattle.bd_roll.specs.declared.rows.ActiveCategory.{ActiveCategory}
-use Rattle.bd_volume.proofs.Dropping.{one_more, part_le}
+use Rattle.bd_volume.proofs.ExtentsOfOldest.{one_more, part_le}
 use Rattle.bd_volume.proofs.dropped.category_extents.Goals as goal
 
 pub overflow_add-count : goal.overflow_add-count

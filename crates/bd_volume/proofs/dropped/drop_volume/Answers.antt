@@ -6,7 +6,7 @@ use Rattle.bd_roll.specs.declared.rows.VersionRow.{VersionRow}
 use Rattle.bd_roll.specs.Catalogue.{VolumeEntry}
 use Rattle.bd_roll.specs.Shown.{open_entry, volume_entry}
 use Rattle.bd_roll.specs.Splitting.{expired}
-use Rattle.bd_volume.proofs.Dropping.{few_expired, with_categories, with_volume}
+use Rattle.bd_volume.proofs.ExtentsOfOldest.{few_expired, with_categories, with_volume}
 use Rattle.bd_volume.proofs.dropped.drop_volume.Goals as goal
 use Rattle.bd_volume.proofs.dropped.drop_volume.Goals.{After-as_slice, After-category_extents, After-len}
 

@@ -6,7 +6,7 @@ use Rattle.bd_roll.specs.Shown.{open_entry}
 use Rattle.bd_roll.specs.declared.rows.ActiveCategory.{ActiveCategory}
 use Rattle.bd_volume.specs.declared.piece.Piece.{Piece}
 use Rattle.bd_volume.specs.Pieces.{pieces_of}
-use Rattle.bd_volume.proofs.Naming.{put_behind, put_one}
+use Rattle.bd_volume.proofs.PieceLemmas.{put_behind, put_one}
 use Rattle.bd_volume.proofs.walk.put_categories.Goals as goal
 
 -- the rows of the first open categories, with that of one more

@@ -3,7 +3,7 @@ use Rattle.bd_model.specs.declared.damage.Owner.TheVariants.{Volume}
 use Rattle.bd_model.specs.declared.layout.CategoryRow.{CategoryRow}
 use Rattle.bd_catalog.specs.Rows.{RowPlace, row_place, rows_from}
 use Rattle.bd_volume.specs.Pieces.{piece_at}
-use Rattle.bd_volume.proofs.Naming.{put_behind, put_one}
+use Rattle.bd_volume.proofs.PieceLemmas.{put_behind, put_one}
 use Rattle.bd_volume.proofs.RowLists.{owner_next, owner_place, owner_within}
 use Rattle.bd_volume.proofs.walk.put_volume.Goals as goal
 

@@ -5,7 +5,7 @@ use Rattle.bd_model.specs.Chunks.{numbers}
 use Rattle.bd_catalog.specs.Rows.{volume_rows}
 use Rattle.bd_roll.specs.Shown.{volume_entry}
 use Rattle.bd_volume.specs.Pieces.{closed_rows, pieces_of}
-use Rattle.bd_volume.proofs.Naming.{put_behind}
+use Rattle.bd_volume.proofs.PieceLemmas.{put_behind}
 use Rattle.bd_volume.proofs.RowLists.{all_numbers, length-closed, volumes_next, volumes_rest}
 use Rattle.bd_volume.proofs.walk.put_volumes.Goals as goal
 

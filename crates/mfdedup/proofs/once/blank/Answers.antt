@@ -1,7 +1,7 @@
 use Rattle.std.proofs.Common.{◌∙◌, ap, refl, arith}
 use Rattle.bd_files.specs.World.{counts, world}
 use Rattle.mfdedup.specs.declared.progress.Progress.{Progress}
-use Rattle.mfdedup.proofs.Blanking.{blanked_works, memory_works, untargeted_works}
+use Rattle.mfdedup.proofs.BlankLemmas.{blanked_works, memory_works, untargeted_works}
 use Rattle.mfdedup.proofs.once.blank.Goals as goal
 
 pub returns-in-Ok-put_zeros : goal.returns-in-Ok-put_zeros

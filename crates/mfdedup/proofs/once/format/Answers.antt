@@ -7,9 +7,9 @@ use Rattle.bd_recover.specs.declared.fault.FormatFault.TheVariants.{OutOfMemory}
 use Rattle.bd_model.specs.Sizes.{sizes_of}
 use Rattle.bd_files.specs.World.{with_disk, with_sink}
 use Rattle.bd_words.specs.Words.{ToFormat}
-use Rattle.mfdedup.specs.Works.{Works}
+use Rattle.mfdedup.specs.Works.{ComesOfWords}
 use Rattle.mfdedup.specs.declared.progress.Progress.{Progress}
-use Rattle.mfdedup.proofs.Making.{formatted_works, unformatted_works}
+use Rattle.mfdedup.proofs.FormatLemmas.{formatted_works, unformatted_works}
 use Rattle.mfdedup.proofs.once.format.Goals as goal
 use Rattle.mfdedup.proofs.once.format.Goals.{in-Ok-format, in-Err-format}
 
@@ -20,14 +20,14 @@ returns-after-format g c = record {
       elim c.match-format.branch [
         | in-Ok-format w ↦
             let ok = w.in-Ok-format.ensures in
-            subst (λ out. Works g.D.Disk.tells (Unit {0}) g.O.Sink.tells (ToFormat (sizes_of c.args.shape)) c.match-format.result o (with_sink g.O.Sink (with_disk g.D.Disk kept c.format.new.disk) out)) (sym w.out-is)
-            (subst (λ (p : Progress). Works g.D.Disk.tells (Unit {0}) g.O.Sink.tells (ToFormat (sizes_of c.args.shape)) p o (with_sink g.O.Sink (with_disk g.D.Disk kept c.format.new.disk) w.note_answer.new.out)) (sym w.result-is)
+            subst (λ out. ComesOfWords g.D.Disk.tells (Unit {0}) g.O.Sink.tells (ToFormat (sizes_of c.args.shape)) c.match-format.result o (with_sink g.O.Sink (with_disk g.D.Disk kept c.format.new.disk) out)) (sym w.out-is)
+            (subst (λ (p : Progress). ComesOfWords g.D.Disk.tells (Unit {0}) g.O.Sink.tells (ToFormat (sizes_of c.args.shape)) p o (with_sink g.O.Sink (with_disk g.D.Disk kept c.format.new.disk) w.note_answer.new.out)) (sym w.result-is)
             (formatted_works c.args.shape w.note_answer.result o (with_sink g.O.Sink (with_disk g.D.Disk kept c.format.new.disk) c.args.out.now) (with_sink g.O.Sink (with_disk g.D.Disk kept c.format.new.disk) w.note_answer.new.out)
             (w.note_answer.ensures.notes kept) ok.disk.bytes (λ i. record kept.counts { disk = ok.cause.cause i; sink = g.O.Sink.faults c.args.out.now }) refl refl refl refl refl ok.answer.refused ok.made.stands (λ told. (ok.made.rests told).settled) (work_written ok.disk) ok.stops))
         | in-Err-format w ↦
             let failed = w.in-Err-format.ensures in
-            subst (λ out. Works g.D.Disk.tells (Unit {0}) g.O.Sink.tells (ToFormat (sizes_of c.args.shape)) c.match-format.result o (with_sink g.O.Sink (with_disk g.D.Disk kept c.format.new.disk) out)) (sym w.out-is)
-            (subst (λ (p : Progress). Works g.D.Disk.tells (Unit {0}) g.O.Sink.tells (ToFormat (sizes_of c.args.shape)) p o (with_sink g.O.Sink (with_disk g.D.Disk kept c.format.new.disk) c.args.out.now)) (sym w.result-is)
+            subst (λ out. ComesOfWords g.D.Disk.tells (Unit {0}) g.O.Sink.tells (ToFormat (sizes_of c.args.shape)) c.match-format.result o (with_sink g.O.Sink (with_disk g.D.Disk kept c.format.new.disk) out)) (sym w.out-is)
+            (subst (λ (p : Progress). ComesOfWords g.D.Disk.tells (Unit {0}) g.O.Sink.tells (ToFormat (sizes_of c.args.shape)) p o (with_sink g.O.Sink (with_disk g.D.Disk kept c.format.new.disk) c.args.out.now)) (sym w.result-is)
             (unformatted_works g.D.Disk c.args.shape w.ending.result w.in-Err-format.fault o c.format.new.disk
             (record { commands = ap (λ (p : Progress). p.commands.items) w.ending.ensures ∙ c.in-Ok.ensures.commands; answers = ap (λ (p : Progress). p.answers.items) w.ending.ensures ∙ c.in-Ok.ensures.answers; clocks = ap (λ (p : Progress). p.clocks.items) w.ending.ensures ∙ c.in-Ok.ensures.clocks })
             (ap (λ (p : Progress). p.end) w.ending.ensures ∙ w.end_of_format.ensures) failed.disk.bytes failed.cause failed.answer.refused failed.answer.untouched (λ told e. failed.memory (ap Err e) told) (work_written failed.disk) failed.stops))

@@ -2,8 +2,8 @@ use Rattle.std.proofs.Common.{Some, subst}
 use Rattle.bd_session.proofs.Apart.{distinct_marks_tell_apart}
 use Rattle.bd_files.specs.World.{world}
 use Rattle.bd_words.specs.Words.{AsksFor}
-use Rattle.mfdedup.proofs.Asking.{format_asks, run_asks, script_asks, soak_asks}
-use Rattle.mfdedup.proofs.Scripting.{script_works}
+use Rattle.mfdedup.proofs.UnbuiltWords.{format_asks, run_asks, script_asks, soak_asks}
+use Rattle.mfdedup.proofs.ScriptWords.{script_works}
 use Rattle.mfdedup.proofs.run.act.Goals as goal
 
 pub returns-in-Format : goal.returns-in-Format

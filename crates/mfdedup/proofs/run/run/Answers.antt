@@ -4,7 +4,7 @@ use Rattle.mfdedup.specs.Noted.{NothingNoted}
 use Rattle.bd_words.specs.Words.{reading}
 use Rattle.mfdedup.specs.Works.{Did}
 use Rattle.mfdedup.specs.declared.progress.Progress.{Progress}
-use Rattle.mfdedup.proofs.Asking.{ends_early, shows_none}
+use Rattle.mfdedup.proofs.UnbuiltWords.{ends_early, shows_none}
 use Rattle.mfdedup.proofs.run.run.Goals as goal
 
 pub returns-in-Ok-clause-did : goal.returns-in-Ok-clause-did

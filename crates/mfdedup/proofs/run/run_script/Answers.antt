@@ -1,6 +1,6 @@
 use Rattle.std.proofs.Common.{inl, inr}
 use Rattle.bd_files.specs.World.{world}
-use Rattle.mfdedup.proofs.Fetching.{read_none, read_one}
+use Rattle.mfdedup.proofs.FetchLemmas.{read_none, read_one}
 use Rattle.mfdedup.proofs.run.run_script.Goals as goal
 
 pub returns-in-Ok : goal.returns-in-Ok

@@ -1,6 +1,6 @@
 use Rattle.std.proofs.Common.{[], ◌∷◌, ◌++◌, ◌∙◌, ap, refl}
 use Rattle.bd_files.specs.World.{with_disk, with_sink}
-use Rattle.mfdedup.proofs.Noting.{alone_noted, alone_untold, untold}
+use Rattle.mfdedup.proofs.NotedLemmas.{alone_noted, alone_untold, untold}
 use Rattle.mfdedup.proofs.telling.note_answer.Goals as goal
 
 pub returns-in-Ok : goal.returns-in-Ok

@@ -3,7 +3,7 @@ use Rattle.bd_files.specs.Sinks.{HandsOn, HandsPart}
 use Rattle.std.specs.Prelude.{IfOk, OnErr}
 use Rattle.bd_files.specs.World.{with_disk, with_sink}
 use Rattle.mfdedup.specs.Statuses.{end_text}
-use Rattle.mfdedup.proofs.Noting.{tells_text}
+use Rattle.mfdedup.proofs.NotedLemmas.{tells_text}
 use Rattle.mfdedup.proofs.telling.put_end.Goals as goal
 
 not_empty : (b : Bool) → IsTrue b → b ≡ false → ⊥

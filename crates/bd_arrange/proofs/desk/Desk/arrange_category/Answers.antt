@@ -6,11 +6,11 @@ use Rattle.bd_space.specs.Allotment.{free_count}
 use Rattle.bd_roll.specs.Catalogue.{bytes_of_rows}
 use Rattle.bd_roll.specs.Shown.{open_entry}
 use Rattle.bd_volume.specs.Filled.{Filled}
-use Rattle.bd_volume.proofs.Taking.{volume_small}
+use Rattle.bd_volume.proofs.GrownExtents.{volume_small}
 use Rattle.bd_arrange.specs.Desks.{OnDesk}
 use Rattle.bd_arrange.specs.Moving.{CanSplit}
 use Rattle.bd_arrange.proofs.SplitMoves.{archived_small, kept_small}
-use Rattle.bd_arrange.proofs.Turning.{can_at, row_in_owner, turned_left, turned_split}
+use Rattle.bd_arrange.proofs.TurnCalls.{can_at, row_in_owner, turned_left, turned_split}
 use Rattle.bd_arrange.proofs.desk.Desk.arrange_category.Goals as goal
 
 pub returns-in_err-cut-clause-disk : goal.returns-in_err-cut-clause-disk

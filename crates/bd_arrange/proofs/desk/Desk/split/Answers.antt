@@ -6,11 +6,11 @@ use Rattle.bd_roll.specs.Splitting.{KeptEntry}
 use Rattle.bd_roll.specs.Catalogue.{OpenEntry}
 use Rattle.bd_roll.specs.declared.step.SplitRow.{SplitRow}
 use Rattle.std.proofs.lemmas.List.{map_push}
-use Rattle.bd_volume.proofs.Copying.{no_work}
+use Rattle.bd_volume.proofs.CopyLemmas.{no_work}
 use Rattle.bd_volume.specs.Growing.{AddsExtents}
 use Rattle.bd_roll.specs.Shown.{open_entry}
 use Rattle.bd_arrange.specs.Desks.{OnDesk}
-use Rattle.bd_arrange.specs.Moving.{kept_entries}
+use Rattle.bd_arrange.specs.Moving.{kept_actives}
 use Rattle.bd_arrange.proofs.SplitExtents.{keeps_back, keeps_both, taken_then}
 use Rattle.bd_arrange.proofs.SplitMoves.{can_move, entries_extents, kept_small, splits_by-at, works_split-at}
 use Rattle.bd_arrange.proofs.desk.Desk.split.Goals as goal
@@ -65,7 +65,7 @@ returns-clause-extents g c =
     let known : map kept_entry c.self.inside.splits.items ≡ c.args.self.now.splits = ap (λ (d : OnDesk). d.splits) c.self.view_is in
     let adds : AddsExtents c.take_extents.new.space c.move_stretches-moved.new.space c.self.inside.filling c.move_stretches-moved.new.filling = c.move_stretches-moved.ensures.adds in
     let row : SplitRow = record { start = c.args.category.now.row.start; kept = c.kept_category.result } in
-    let entries = kept_entries c.args.category.now.row.start c.args.cut.now.kept numbers in
+    let entries = kept_actives c.args.category.now.row.start c.args.cut.now.kept numbers in
     let entry : KeptEntry = record { start = c.args.category.now.row.start; kept = entries } in
     keeps_both c.args.space.now c.take_extents.new.space c.move_stretches-moved.new.space c.args.self.now numbers adds.more c.in_ok-kept.ensures.takes adds.takes _ entry
     (adds.added ∙ ap (λ (f : Filled). f.added ++ adds.more) same)

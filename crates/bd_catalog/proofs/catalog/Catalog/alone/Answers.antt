@@ -1,7 +1,7 @@
 use Rattle.std.proofs.Common.{arith}
 use Rattle.bd_model.specs.Sizes.{sizes_of}
 use Rattle.bd_roll.specs.Shown.{catalogue_of_contents}
-use Rattle.bd_roll.proofs.Obeying.{bounded_of}
+use Rattle.bd_roll.proofs.RuleLemmas.{bounded_of}
 use Rattle.bd_roll.proofs.Lengths.{length-spelled, payload_room-small}
 use Rattle.bd_catalog.proofs.catalog.Catalog.alone.Goals as goal
 

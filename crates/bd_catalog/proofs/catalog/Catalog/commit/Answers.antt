@@ -19,10 +19,10 @@ use Rattle.bd_roll.specs.Shown.{catalogue_of_contents}
 use Rattle.bd_roll.specs.Spelling.{spelled}
 use Rattle.bd_roll.specs.Steps.{stepped}
 use Rattle.bd_catalog.specs.Steps.{catalogue_calls, InOtherHalf, LeavesBeside, StopsBeside}
-use Rattle.bd_catalog.proofs.Committing.{other-beside, other-next, is-made, leaves-either}
-use Rattle.bd_catalog.proofs.Framing.{length-written_back}
+use Rattle.bd_catalog.proofs.CommitLemmas.{other-beside, other-next, is-made, leaves-either}
+use Rattle.bd_catalog.proofs.FrameLemmas.{length-written_back}
 use Rattle.bd_roll.proofs.Lengths.{length-spelled}
-use Rattle.bd_roll.proofs.Obeying.{IsBounded, bounded_in, bounded_of}
+use Rattle.bd_roll.proofs.RuleLemmas.{IsBounded, bounded_in, bounded_of}
 use Rattle.bd_catalog.proofs.catalog.Catalog.commit.Goals as goal
 
 pub write_beside-requires-clause-ready : goal.write_beside-requires-clause-ready

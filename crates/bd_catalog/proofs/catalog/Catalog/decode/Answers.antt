@@ -2,8 +2,8 @@ use Rattle.std.proofs.Common.{sym, ◌∙◌, ap, arith, Some}
 use Rattle.bd_model.specs.Sizes.{sizes_of}
 use Rattle.bd_catalog.specs.Opening.{Found}
 use Rattle.bd_roll.specs.Shown.{catalogue_of_contents}
-use Rattle.bd_roll.proofs.Obeying.{bounded_of}
-use Rattle.bd_roll.proofs.Decoding.{none_unread, none_longer, none_broken, some_obeyed}
+use Rattle.bd_roll.proofs.RuleLemmas.{bounded_of}
+use Rattle.bd_roll.proofs.DecodeLemmas.{none_unread, none_longer, none_broken, some_obeyed}
 use Rattle.bd_catalog.proofs.catalog.Catalog.decode.Goals as goal
 
 pub returns-in_default-clause-none : goal.returns-in_default-clause-none

@@ -2,7 +2,7 @@ use Rattle.std.proofs.Common.{ap, arith}
 use Rattle.bd_model.specs.Sizes.{sizes_of, payload_room}
 use Rattle.bd_catalog.specs.Ledger.{Ledger}
 use Rattle.bd_roll.specs.Shown.{catalogue_of_contents}
-use Rattle.bd_roll.proofs.Obeying.{bounded_of, spellable}
+use Rattle.bd_roll.proofs.RuleLemmas.{bounded_of, spellable}
 use Rattle.bd_roll.proofs.Lengths.{length-spelled}
 use Rattle.bd_catalog.proofs.catalog.Catalog.encode.Goals as goal
 

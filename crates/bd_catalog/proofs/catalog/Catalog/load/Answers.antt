@@ -4,7 +4,7 @@ use Rattle.bd_disk.proofs.RunLemmas.{same_contents}
 use Rattle.bd_model.specs.Sizes.{sizes_of}
 use Rattle.bd_gate.specs.Halves.{payload_of}
 use Rattle.bd_catalog.specs.Opening.{Found}
-use Rattle.bd_catalog.proofs.Loading.{load_finds, placed_finds, filled, fronts_read, load_read}
+use Rattle.bd_catalog.proofs.LoadLemmas.{load_finds, placed_finds, filled, fronts_read, load_read}
 use Rattle.bd_catalog.proofs.catalog.Catalog.load.Goals as goal
 
 pub returns-in-Some-clause-loaded : goal.returns-in-Some-clause-loaded

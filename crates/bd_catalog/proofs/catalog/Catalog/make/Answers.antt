@@ -10,11 +10,11 @@ use Rattle.bd_roll.specs.Shown.{catalogue_of_contents, volume_entry}
 use Rattle.bd_roll.specs.Splitting.{FitsArrange, FitsExpire, expired, replaced}
 use Rattle.bd_roll.specs.Giving.{AreOwned, GivesUp}
 use Rattle.bd_roll.specs.Steps.{Fits, NeedsRoom, dropped, kept_entry}
-use Rattle.bd_roll.proofs.Expiring.{dropped_rules}
-use Rattle.bd_roll.proofs.Making.{all_sums_fit, few_added, step_owned, step_owners}
+use Rattle.bd_roll.proofs.RulesAfterDrop.{dropped_rules}
+use Rattle.bd_roll.proofs.StepNeeds.{all_sums_fit, few_added, step_owned, step_owners}
 use Rattle.bd_roll.proofs.GivenUp.{gives_none}
-use Rattle.bd_roll.proofs.Obeying.{bounded_of, rules_of}
-use Rattle.bd_roll.proofs.Owning.{fit_splits, waiting_volume}
+use Rattle.bd_roll.proofs.RuleLemmas.{bounded_of, rules_of}
+use Rattle.bd_roll.proofs.OwnedByStep.{fit_splits, waiting_volume}
 use Rattle.bd_catalog.proofs.catalog.Catalog.make.Goals as goal
 
 pub expire-requires-clause-sums : goal.expire-requires-clause-sums

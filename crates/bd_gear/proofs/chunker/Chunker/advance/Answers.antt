@@ -1,5 +1,5 @@
 use Rattle.std.proofs.Common.{[], ◌∷◌, ◌++◌, drop, take, ap, sym, ◌∙◌, subst, arith, false}
-use Rattle.bd_gear.specs.Chunking.{Chunking, given}
+use Rattle.bd_gear.specs.Chunking.{Chunking, next_given}
 use Rattle.bd_gear.specs.Feeding.{HasFed}
 use Rattle.bd_gear.proofs.BufferLemmas.{slice_range-rest}
 use Rattle.bd_gear.proofs.NextLemmas.{given-parts}
@@ -10,7 +10,7 @@ pub returns-clause-removed : goal.returns-clause-removed
 returns-clause-removed c =
     let is = c.self.view_is in
     let inside = c.self.inside in
-    let got = given-parts inside.found inside.scanned c.args.len (ap given is ∙ c.requires) in
+    let got = given-parts inside.found inside.scanned c.args.len (ap next_given is ∙ c.requires) in
     let rest = slice_range-rest inside.buffer.items inside.start inside.end c.args.len (omega (arith, c.self.invariant.held, got.1)) ∙ ap (λ (v : Chunking). drop c.args.len v.held) is in
     (λ k. record { cut = (is k).cut; held = rest k; scanned = 0; hash = (is k).hash; found = false; finished = (is k).finished })
 

@@ -5,7 +5,7 @@ use Rattle.bd_model.specs.Extents.{owner_bytes}
 use Rattle.bd_model.specs.Sizes.{sizes_of, disk_bytes}
 use Rattle.bd_extio.proofs.Places.{range_small}
 use Rattle.bd_intake.specs.Putting.{Held}
-use Rattle.bd_intake.proofs.Writing.{owner_writes, written_out}
+use Rattle.bd_intake.proofs.ChunkWrites.{owner_writes, written_out}
 use Rattle.bd_intake.proofs.pending.Pending.flush.Goals as goal
 
 pub returns-in_err-write_at-clause-disk : goal.returns-in_err-write_at-clause-disk

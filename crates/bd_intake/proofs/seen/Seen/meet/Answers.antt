@@ -6,7 +6,7 @@ use Rattle.bd_model.specs.declared.layout.RecipeEntry.{RecipeEntry}
 use Rattle.bd_model.proofs.ChunkListLemmas.{bytes_eq-same, bytes_eq-sym}
 use Rattle.bd_intake.specs.Firsts.{knows}
 use Rattle.bd_intake.specs.Seen.{AreUsed, SeenMarks}
-use Rattle.bd_intake.proofs.Meeting.{flag_set, known_more, start-known, start-unknown}
+use Rattle.bd_intake.proofs.KnownChunk.{flag_set, known_more, start-known, start-unknown}
 use Rattle.bd_intake.proofs.seen.Seen.meet.Goals as goal
 
 pub returns-in-Some-clause-start : goal.returns-in-Some-clause-start

@@ -1,6 +1,6 @@
 use Rattle.std.proofs.Common.{◌∙◌, [], ap, sym}
 use Rattle.bd_model.specs.declared.layout.RecipeEntry.{RecipeEntry}
-use Rattle.bd_recipe.proofs.Marking.{first_with-none, found}
+use Rattle.bd_recipe.proofs.EntriesByMark.{first_with-none, found}
 use Rattle.bd_recipe.proofs.neighbour.Neighbour.find.Goals as goal
 
 pub returns-in_err-index-clause-entry : goal.returns-in_err-index-clause-entry

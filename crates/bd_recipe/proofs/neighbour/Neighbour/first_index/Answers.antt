@@ -1,6 +1,6 @@
 use Rattle.std.proofs.Common.{◌∙◌, ap, Some, None}
 use Rattle.bd_recipe.specs.Marked.{first_from}
-use Rattle.bd_recipe.proofs.Marking.{index_within, none_exactly}
+use Rattle.bd_recipe.proofs.EntriesByMark.{index_within, none_exactly}
 use Rattle.bd_recipe.proofs.neighbour.Neighbour.first_index.Goals as goal
 
 pub returns-in-Some-clause-within : goal.returns-in-Some-clause-within

@@ -1,5 +1,5 @@
 use Rattle.std.proofs.Common.{ap, sym}
-use Rattle.bd_recipe.proofs.Marking.{next_none, next_noted, next_some, next_within}
+use Rattle.bd_recipe.proofs.EntriesByMark.{next_none, next_noted, next_some, next_within}
 use Rattle.bd_recipe.proofs.neighbour.Neighbour.next_index.Goals as goal
 
 pub returns-then-later-eq0-clause-index : goal.returns-then-later-eq0-clause-index

@@ -2,7 +2,7 @@ use Rattle.std.proofs.Common.{◌≡◌, ◌∙◌, ◌+◌, ◌-◌, ◌<◌, [
 use Rattle.std.specs.Str.{bytes_eq}
 use Rattle.bd_model.specs.declared.layout.RecipeEntry.{RecipeEntry}
 use Rattle.bd_recipe.specs.Marked.{first_from}
-use Rattle.bd_recipe.proofs.Marking.{first_more, nexts_more}
+use Rattle.bd_recipe.proofs.EntriesByMark.{first_more, nexts_more}
 use Rattle.bd_recipe.proofs.neighbour.Neighbour.of.Goals as goal
 
 pub loop-index-preserved : goal.loop-index-preserved

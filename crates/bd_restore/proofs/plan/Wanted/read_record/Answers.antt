@@ -15,24 +15,24 @@ use Rattle.bd_category.specs.Places.{ReadsHeader, ReadsBody}
 use Rattle.bd_category.specs.Records.{AnswersBody, AnswersHeader, body_at, header_at}
 use Rattle.bd_catalog.specs.Rows.{row_end, spot_in}
 use Rattle.bd_restore.specs.Met.{HasEntry, MetAt}
-use Rattle.bd_restore.specs.Target.{held, Fills, Puts}
+use Rattle.bd_restore.specs.Target.{held, Fills, PutsBody}
 use Rattle.bd_restore.specs.Walk.{is_wanted, AreFlags, Walks}
-use Rattle.bd_restore.specs.Went.{placed_row, sizes_at, sought_by}
-use Rattle.bd_restore.proofs.Answering.{damaged_by, record_damage}
+use Rattle.bd_restore.specs.Went.{placed_row, placed_sizes, sought_by}
+use Rattle.bd_restore.proofs.FaultPassedOn.{damaged_by, record_damage}
 use Rattle.bd_volume.proofs.ReadHeaders.{good_header, header_read, header_within, is_stored}
-use Rattle.bd_restore.proofs.Meeting.{body_met, header_met, length_met}
-use Rattle.bd_restore.proofs.Reading.{written_back}
-use Rattle.bd_restore.proofs.Walking.{walks_unwanted, gives_unwanted, walks_wanted, gives_wanted}
+use Rattle.bd_restore.proofs.MetByRecord.{body_met, header_met, length_met}
+use Rattle.bd_restore.proofs.WrittenOver.{written_back}
+use Rattle.bd_restore.proofs.WalkLemmas.{walks_unwanted, gives_unwanted, walks_wanted, gives_wanted}
 use Rattle.bd_restore.proofs.plan.Wanted.read_record.Goals as goal
 
 pub overflow_add-end : goal.overflow_add-end
-overflow_add-end g c = omega (arith, range_small (sizes_at c.args.placed.now) c.args.placed.now.extents.now c.requires.inside.numbers (omega arith) (omega arith), c.requires.inside.room)
+overflow_add-end g c = omega (arith, range_small (placed_sizes c.args.placed.now) c.args.placed.now.extents.now c.requires.inside.numbers (omega arith) (omega arith), c.requires.inside.room)
 
 pub overflow_add-next : goal.overflow_add-next
-overflow_add-next g c = omega (arith, range_small (sizes_at c.args.placed.now) c.args.placed.now.extents.now c.requires.inside.numbers (omega arith) (omega arith), c.requires.inside.room, c.requires.to)
+overflow_add-next g c = omega (arith, range_small (placed_sizes c.args.placed.now) c.args.placed.now.extents.now c.requires.inside.numbers (omega arith) (omega arith), c.requires.inside.room, c.requires.to)
 
 pub overflow_add-next-2 : goal.overflow_add-next-2
-overflow_add-next-2 g c = omega (arith, range_small (sizes_at c.args.placed.now) c.args.placed.now.extents.now c.requires.inside.numbers (omega arith) (omega arith), c.requires.inside.room, c.in_ok-header.ensures.within)
+overflow_add-next-2 g c = omega (arith, range_small (placed_sizes c.args.placed.now) c.args.placed.now.extents.now c.requires.inside.numbers (omega arith) (omega arith), c.requires.inside.room, c.in_ok-header.ensures.within)
 
 -- ---- where it was read
 
@@ -68,7 +68,7 @@ returns-clause-disk g c =
 
 pub returns-in_err-header-clause-damage : goal.returns-in_err-header-clause-damage
 returns-in_err-header-clause-damage g c =
-    let s = sizes_at c.args.placed.now in
+    let s = placed_sizes c.args.placed.now in
     let p = placed_row c.args.placed.now in
     let at = c.args.at in
     let w = sought_by s c.args.self.now in
@@ -84,7 +84,7 @@ returns-in_err-header-clause-damage g c =
 
 pub returns-in_err-read_front-clause-damage : goal.returns-in_err-read_front-clause-damage
 returns-in_err-read_front-clause-damage g c =
-    let s = sizes_at c.args.placed.now in
+    let s = placed_sizes c.args.placed.now in
     let p = placed_row c.args.placed.now in
     let at = c.args.at in
     let w = sought_by s c.args.self.now in
@@ -105,7 +105,7 @@ returns-in_err-read_front-clause-damage g c =
 
 pub returns-in_err-put_everywhere-clause-damage : goal.returns-in_err-put_everywhere-clause-damage
 returns-in_err-put_everywhere-clause-damage g c =
-    let s = sizes_at c.args.placed.now in
+    let s = placed_sizes c.args.placed.now in
     let p = placed_row c.args.placed.now in
     let at = c.args.at in
     let w = sought_by s c.args.self.now in
@@ -135,7 +135,7 @@ returns-then-not-wants-clause-next g c = record {
   goes = omega arith;
   within = omega (arith, c.from.ensures, c.in_ok-header.ensures.within);
   over = λ told.
-      let s = sizes_at c.args.placed.now in
+      let s = placed_sizes c.args.placed.now in
       let p = placed_row c.args.placed.now in
       let image = contents (g.D.Disk.history c.args.disk.now) in
       let h = c.in_ok-header.header in
@@ -151,7 +151,7 @@ returns-clause-next g c = record {
   goes = omega arith;
   within = omega (arith, c.from.ensures, c.in_ok-header.ensures.within);
   over = λ told.
-      let s = sizes_at c.args.placed.now in
+      let s = placed_sizes c.args.placed.now in
       let p = placed_row c.args.placed.now in
       let image = contents (g.D.Disk.history c.args.disk.now) in
       let h = c.in_ok-header.header in
@@ -164,7 +164,7 @@ returns-clause-next g c = record {
 
 pub returns-then-not-wants-clause-went : goal.returns-then-not-wants-clause-went
 returns-then-not-wants-clause-went g c =
-    let s = sizes_at c.args.placed.now in
+    let s = placed_sizes c.args.placed.now in
     let p = placed_row c.args.placed.now in
     let at = c.args.at in
     let w = sought_by s c.args.self.now in
@@ -187,7 +187,7 @@ returns-then-not-wants-clause-went g c =
 
 pub returns-clause-went : goal.returns-clause-went
 returns-clause-went g c =
-    let s = sizes_at c.args.placed.now in
+    let s = placed_sizes c.args.placed.now in
     let p = placed_row c.args.placed.now in
     let at = c.args.at in
     let w = sought_by s c.args.self.now in
@@ -232,6 +232,6 @@ returns-clause-went g c =
           let given : body ≡ r.body = body_is ∙ read.0 ∙ ap (λ i. body_at h (owner_bytes s p.extents i)) same ∙ st.body in
           let marked : mark r.body ≡ r.mark = ap mark (sym (ap (λ i. body_at h (owner_bytes s p.extents i)) same ∙ st.body)) ∙ read.1 ∙ st.mark in
           gives_wanted s entries p.extents at r filled (λ seen flags. sym c.if-not-wants.false ∙ c.wants.ensures seen (subst (AreFlags entries seen) (sym c.deref.ensures.value) flags) ∙ ap (is_wanted entries seen) st.mark) marked old_file new_file
-          (subst (λ b. Puts entries r.mark b (length entries) old_file new_file) given
-          (subst (λ m. Puts entries m body (length entries) old_file new_file) st.mark (c.in_ok-put_everywhere.ensures.put tells)));
+          (subst (λ b. PutsBody entries r.mark b (length entries) old_file new_file) given
+          (subst (λ m. PutsBody entries m body (length entries) old_file new_file) st.mark (c.in_ok-put_everywhere.ensures.put tells)));
     }

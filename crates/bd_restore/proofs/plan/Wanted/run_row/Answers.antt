@@ -7,17 +7,17 @@ use Rattle.bd_disk.proofs.RunLemmas.{both_reads, no_reads, nothing_written, same
 use Rattle.bd_catalog.specs.Damages.{header_holds}
 use Rattle.bd_catalog.specs.Rows.{first_spots, past, row_bytes, spot_in}
 use Rattle.bd_restore.specs.Met.{MetAt, MetOn}
-use Rattle.bd_restore.specs.Went.{aim_of, moment, placed_row, sizes_at, sought_by, Went}
-use Rattle.bd_restore.proofs.Answering.{damaged_by}
+use Rattle.bd_restore.specs.Went.{aim_of, moment, placed_row, placed_sizes, sought_by, Went}
+use Rattle.bd_restore.proofs.FaultPassedOn.{damaged_by}
 use Rattle.bd_restore.proofs.Frames.{target_both, target_none}
-use Rattle.bd_restore.proofs.Going.{over_row, went_both, went_none}
+use Rattle.bd_restore.proofs.WentLemmas.{over_row, went_both, went_none}
 use Rattle.bd_volume.proofs.Spots.{past-more, spots-more}
-use Rattle.bd_restore.proofs.Joining.{met_here}
+use Rattle.bd_restore.proofs.JoinedWalks.{met_here}
 use Rattle.bd_restore.proofs.plan.Wanted.run_row.Goals as goal
 
 pub loop-done-init : goal.loop-done-init
 loop-done-init g c =
-    let a = aim_of (sizes_at c.args.placed.now) c.args.self.now c.args.name.now in
+    let a = aim_of (placed_sizes c.args.placed.now) c.args.self.now c.args.name.now in
     record {
       disk = no_reads;
       faults = refl;
@@ -32,7 +32,7 @@ loop-done-init g c =
 
 pub returns-in_err-at-clause-damage : goal.returns-in_err-at-clause-damage
 returns-in_err-at-clause-damage g c =
-    let s = sizes_at c.args.placed.now in
+    let s = placed_sizes c.args.placed.now in
     let p = placed_row c.args.placed.now in
     let w = sought_by s c.args.self.now in
     let inv = c.loop-done.invariant in
@@ -50,7 +50,7 @@ returns-in_err-at-clause-damage g c =
 
 pub loop-done-preserved : goal.loop-done-preserved
 loop-done-preserved g c =
-    let s = sizes_at c.args.placed.now in
+    let s = placed_sizes c.args.placed.now in
     let p = placed_row c.args.placed.now in
     let a = aim_of s c.args.self.now c.args.name.now in
     let inv = c.loop-done.invariant in
@@ -90,7 +90,7 @@ loop-done-preserved g c =
 
 pub returns-clause-went : goal.returns-clause-went
 returns-clause-went g c =
-    let s = sizes_at c.args.placed.now in
+    let s = placed_sizes c.args.placed.now in
     let p = placed_row c.args.placed.now in
     let a = aim_of s c.args.self.now c.args.name.now in
     let image = contents (g.D.Disk.history c.args.disk.now) in

@@ -9,35 +9,35 @@ use Rattle.bd_model.specs.Sizes.{Sizes}
 use Rattle.bd_model.specs.declared.damage.Owner.TheVariants.{Volume}
 use Rattle.bd_roll.specs.Catalogue.{Catalogue}
 use Rattle.bd_catalog.specs.Rows.{RowPlace, walk}
-use Rattle.bd_volume.specs.Pieces.{place_of}
+use Rattle.bd_volume.specs.Pieces.{row_of_piece}
 use Rattle.bd_volume.specs.declared.piece.Piece.{Piece}
 use Rattle.bd_restore.specs.Met.{MeetsOn}
 use Rattle.bd_restore.specs.Walk.{InRow, InRows}
 use Rattle.bd_restore.specs.Went.{aim_of, moment}
-use Rattle.bd_restore.proofs.Answering.{damaged_by}
+use Rattle.bd_restore.proofs.FaultPassedOn.{damaged_by}
 use Rattle.bd_restore.proofs.Frames.{target_both, target_none}
-use Rattle.bd_restore.proofs.Going.{meets_behind, over_both, over_none}
-use Rattle.bd_restore.proofs.Joining.{row_next, row_rest}
+use Rattle.bd_restore.proofs.WentLemmas.{meets_behind, over_both, over_none}
+use Rattle.bd_restore.proofs.JoinedWalks.{row_next, row_rest}
 use Rattle.bd_restore.proofs.plan.Wanted.walk.Goals as goal
 
 abbrev none : Piece
 none = record { who = Volume 0; start = 0; from = 0; to = 0; chunks = 0 }
 
 -- the row that the piece at this index names
-module _ (s : Sizes) (c : Catalogue) (v : ℕ) (pieces items : List Piece) (i : ℕ) (rows : map (place_of c) pieces ≡ walk c v) (same : items ≡ pieces) (lt : i < length items) where
+module _ (s : Sizes) (c : Catalogue) (v : ℕ) (pieces items : List Piece) (i : ℕ) (rows : map (row_of_piece c) pieces ≡ walk c v) (same : items ≡ pieces) (lt : i < length items) where
   abbrev places : List RowPlace
-  places = map (place_of c) pieces
+  places = map (row_of_piece c) pieces
 
   abbrev mine : RowPlace
-  mine = place_of c (get_or items i none)
+  mine = row_of_piece c (get_or items i none)
 
   among : i < length places
-  among = omega (arith, lt, ap (λ (l : List Piece). length l) same, length-map pieces (place_of c))
+  among = omega (arith, lt, ap (λ (l : List Piece). length l) same, length-map pieces (row_of_piece c))
 
   here : get_or places i mine ≡ mine
   here =
       let inside : i < length pieces = omega (arith, lt, ap (λ (l : List Piece). length l) same) in
-      get_or-map (place_of c) pieces i none mine inside ∙ ap (λ (l : List Piece). place_of c (get_or l i none)) (sym same)
+      get_or-map (row_of_piece c) pieces i none mine inside ∙ ap (λ (l : List Piece). row_of_piece c (get_or l i none)) (sym same)
 
   is_walked : Contains (walk c v) mine
   is_walked = subst (λ (l : List RowPlace). Contains l mine) rows (subst (Contains places) here (Contains-get_or places i mine among))
@@ -79,9 +79,9 @@ returns-in_err-run_piece-clause-damage g c =
     let pieces = c.args.self.now.pieces.items in
     let items = c.as_slice-piece-items.result.now in
     let i = c.loop-piece.piece-index in
-    let p = place_of cat (get_or items i none) in
-    let before = take i (map (place_of cat) pieces) in
-    let behind = drop (i + 1) (map (place_of cat) pieces) in
+    let p = row_of_piece cat (get_or items i none) in
+    let before = take i (map (row_of_piece cat) pieces) in
+    let behind = drop (i + 1) (map (row_of_piece cat) pieces) in
     let a = aim_of found.sizes c.args.self.now c.args.name.now in
     let x = moment c.args.progress.now c.args.disk.now c.args.files.now in
     let y = moment c.loop-piece.progress c.loop-piece.disk c.loop-piece.files in
@@ -100,8 +100,8 @@ loop-piece-preserved g c =
     let items = c.as_slice-piece-items.result.now in
     let i = c.loop-piece.piece-index in
     let inv = c.loop-piece.invariant in
-    let p = place_of cat (get_or items i none) in
-    let places = map (place_of cat) pieces in
+    let p = row_of_piece cat (get_or items i none) in
+    let places = map (row_of_piece cat) pieces in
     let a = aim_of found.sizes c.args.self.now c.args.name.now in
     let x = moment c.args.progress.now c.args.disk.now c.args.files.now in
     let y = moment c.loop-piece.progress c.loop-piece.disk c.loop-piece.files in

@@ -1,7 +1,7 @@
 use Rattle.std.proofs.Common.{◌≡◌, map, take}
 use Rattle.bd_disk.specs.Runs.{Reads}
 use Rattle.bd_catalog.specs.Rows.{walk}
-use Rattle.bd_volume.specs.Pieces.{place_of}
+use Rattle.bd_volume.specs.Pieces.{row_of_piece}
 use Rattle.bd_restore.specs.Target.{ChangesTarget}
 use Rattle.bd_restore.specs.Walk.{InRows}
 use Rattle.bd_restore.specs.Went.{aim_of, moment, WentOver}
@@ -13,5 +13,5 @@ invariant-loop-piece g l = record {
   faults : g.D.Disk.faults l.disk ≡ g.D.Disk.faults l.fn.disk;
   targets : g.F.Files.target_faults l.files ≡ g.F.Files.target_faults l.fn.files;
   files : ChangesTarget g.F.Files l.name l.fn.files l.files;
-  went : WentOver g.D.Disk g.F.Files (aim_of l.catalog.found.sizes l.self l.name) (take l.piece-index (map (place_of l.catalog.found.catalogue) l.self.pieces.items)) (moment l.fn.progress l.fn.disk l.fn.files) (moment l.progress l.disk l.files);
+  went : WentOver g.D.Disk g.F.Files (aim_of l.catalog.found.sizes l.self l.name) (take l.piece-index (map (row_of_piece l.catalog.found.catalogue) l.self.pieces.items)) (moment l.fn.progress l.fn.disk l.fn.files) (moment l.progress l.disk l.files);
 }

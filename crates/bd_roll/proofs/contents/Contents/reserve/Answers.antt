@@ -1,7 +1,7 @@
 use Rattle.std.proofs.Common.{rules, ◌≡◌, ◌+◌, ◌-◌, length, map, set, ◌∙◌, ap, arith}
 use Rattle.bd_roll.specs.declared.rows.ClosedVolume.{ClosedVolume}
 use Rattle.bd_roll.specs.Shown.{volume_entry}
-use Rattle.bd_roll.proofs.Reserving.{same_entries, same_volume, same_lists_make, last_room-set}
+use Rattle.bd_roll.proofs.LastInPlace.{same_entries, same_volume, same_lists_make, last_room-set}
 use Rattle.bd_roll.proofs.contents.Contents.reserve.Goals as goal
 
 pub returns-in_err-reserve-5-clause-same : goal.returns-in_err-reserve-5-clause-same

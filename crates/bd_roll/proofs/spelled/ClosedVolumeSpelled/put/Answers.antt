@@ -4,7 +4,7 @@ use Rattle.bd_model.specs.Records.{four}
 use Rattle.bd_model.specs.declared.layout.CategoryRow.{CategoryRow}
 use Rattle.bd_roll.specs.Spelling.{spelled_extents, spelled_row}
 use Rattle.bd_roll.specs.Writing.{put_at}
-use Rattle.bd_roll.proofs.Writing.{put_at-append}
+use Rattle.bd_roll.proofs.PutBytes.{put_at-append}
 use Rattle.bd_roll.proofs.spelled.ClosedVolumeSpelled.put.Goals as goal
 
 pub returns-clause-written : goal.returns-clause-written

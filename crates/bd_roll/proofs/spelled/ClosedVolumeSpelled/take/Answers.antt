@@ -1,4 +1,4 @@
-use Rattle.bd_roll.proofs.Reading.{volume_none}
+use Rattle.bd_roll.proofs.OneSpelling.{volume_none}
 use Rattle.bd_roll.proofs.spelled.ClosedVolumeSpelled.take.Goals as goal
 
 pub returns-in_default-owned : goal.returns-in_default-owned

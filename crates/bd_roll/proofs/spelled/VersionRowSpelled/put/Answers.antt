@@ -2,7 +2,7 @@ use Rattle.std.proofs.Common.{ℕ, ◌+◌, List, ◌++◌, ◌∙◌, ap, arith
 use Rattle.bd_model.specs.Records.{eight}
 use Rattle.bd_roll.specs.Spelling.{spelled_extents}
 use Rattle.bd_roll.specs.Writing.{put_at}
-use Rattle.bd_roll.proofs.Writing.{put_at-append}
+use Rattle.bd_roll.proofs.PutBytes.{put_at-append}
 use Rattle.bd_roll.proofs.spelled.VersionRowSpelled.put.Goals as goal
 
 pub returns-clause-written : goal.returns-clause-written

@@ -7,8 +7,8 @@ use Rattle.bd_roll.specs.Catalogue.{VersionEntry, retained_in}
 use Rattle.bd_store.specs.Attempts.{Meets, attempt, scene}
 use Rattle.bd_store.specs.Shown.{Shown}
 use Rattle.bd_store.specs.declared.fault.StoreFault.{StoreFault}
-use Rattle.bd_store.proofs.Ending.{first_two}
-use Rattle.bd_store.proofs.Following.{followed, made_ready, ready_sound}
+use Rattle.bd_store.proofs.CommandEnds.{first_two}
+use Rattle.bd_store.proofs.FollowingLemmas.{followed, made_ready, ready_sound}
 use Rattle.bd_store.proofs.LeanExpiry.{lean_follows}
 use Rattle.bd_store.proofs.Unready.{refused}
 use Rattle.bd_store.proofs.store.Store.arrange_and_give_up.Goals as goal

@@ -4,8 +4,8 @@ use Rattle.bd_model.specs.declared.command.Command.TheVariants.{Backup}
 use Rattle.bd_store.specs.Attempts.{attempt, scene, Meets}
 use Rattle.bd_store.specs.Touches.{is_full}
 use Rattle.bd_store.specs.declared.fault.StoreFault.{StoreFault}
-use Rattle.bd_store.proofs.Following.{followed, made_ready}
-use Rattle.bd_store.proofs.Refusing.{backup_goes_on}
+use Rattle.bd_store.proofs.FollowingLemmas.{followed, made_ready}
+use Rattle.bd_store.proofs.RefusalStep.{backup_goes_on}
 use Rattle.bd_store.proofs.Unready.{refused}
 use Rattle.bd_store.proofs.store.Store.back_up.Goals as goal
 

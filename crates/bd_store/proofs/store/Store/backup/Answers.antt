@@ -3,9 +3,9 @@ use Rattle.bd_disk.proofs.Frames.{made_none}
 use Rattle.bd_model.specs.State.{last_number}
 use Rattle.bd_roll.specs.Catalogue.{retained_in}
 use Rattle.bd_store.specs.Shown.{Shown}
-use Rattle.bd_store.proofs.Meeting.{meets_untouched, same_versions}
+use Rattle.bd_store.proofs.NothingTouched.{meets_untouched, same_versions}
 use Rattle.std.proofs.lemmas.Bool.{eq-eqb, ne_eqb}
-use Rattle.bd_store.proofs.Refusing.{numbers_refuse, versions_refuse, refused_step, refused_stops}
+use Rattle.bd_store.proofs.RefusalStep.{numbers_refuse, versions_refuse, refused_step, refused_stops}
 use Rattle.bd_store.proofs.Taken.{takes_nothing}
 use Rattle.bd_store.proofs.store.Store.backup.Goals as goal
 

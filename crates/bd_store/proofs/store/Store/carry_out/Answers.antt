@@ -6,7 +6,7 @@ use Rattle.bd_store.specs.Attempts.{scene, KeepsVersions, SettlesBy, TellsFigure
 use Rattle.bd_store.specs.Shown.{Shown}
 use Rattle.bd_store.specs.Writes.{StepsTo}
 use Rattle.bd_store.proofs.Listed.{as_list, listed_step, listed_stops}
-use Rattle.bd_store.proofs.Meeting.{meets_as, meets_told, meets_untouched, memory_step, same_versions}
+use Rattle.bd_store.proofs.NothingTouched.{meets_as, meets_told, meets_untouched, memory_step, same_versions}
 use Rattle.bd_store.proofs.Quiet.{safe_untouched}
 use Rattle.bd_store.proofs.store.Store.carry_out.Goals as goal
 

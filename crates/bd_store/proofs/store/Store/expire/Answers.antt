@@ -6,8 +6,8 @@ use Rattle.bd_roll.specs.Splitting.{FitsExpire}
 use Rattle.bd_catalog.specs.Opening.{Found}
 use Rattle.bd_store.specs.Shown.{Shown}
 use Rattle.bd_store.proofs.LeanExpiry.{fits_but_two, nothing_expires}
-use Rattle.bd_store.proofs.Meeting.{meets_untouched, same_versions}
-use Rattle.bd_store.proofs.Refusing.{refused_step, refused_stops}
+use Rattle.bd_store.proofs.NothingTouched.{meets_untouched, same_versions}
+use Rattle.bd_store.proofs.RefusalStep.{refused_step, refused_stops}
 use Rattle.bd_store.proofs.store.Store.expire.Goals as goal
 use Rattle.bd_store.proofs.store.Store.expire.Goals.{else-retained-eq2-via-then-retained-eq2+else-ne, else-retained-eq2-via-else-retained-eq2}
 

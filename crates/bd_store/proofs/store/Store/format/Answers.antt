@@ -1,7 +1,7 @@
 use Rattle.std.proofs.Common.{arith, ap, refl}
 use Rattle.std.proofs.lemmas.Bool.{ltb-false}
 use Rattle.bd_catalog.specs.Opening.{Found}
-use Rattle.bd_store.proofs.Making.{format_stops, formatted_stands}
+use Rattle.bd_store.proofs.EmptyStore.{format_stops, formatted_stands}
 use Rattle.bd_store.proofs.store.Store.format.Goals as goal
 
 pub returns-in_err-catalog-clause-stops : goal.returns-in_err-catalog-clause-stops

@@ -12,8 +12,8 @@ use Rattle.bd_store.specs.Naming.{fault_of_reading, fault_of_restore}
 use Rattle.bd_store.specs.Shown.{Shown}
 use Rattle.bd_store.specs.declared.fault.StoreFault.{StoreFault}
 use Rattle.bd_store.specs.declared.fault.StoreFault.TheVariants.{DiskFault}
-use Rattle.bd_store.proofs.Meeting.{shown_is}
-use Rattle.bd_store.proofs.Restoring.{meets_unread, meets_restored, meets_stopped}
+use Rattle.bd_store.proofs.NothingTouched.{shown_is}
+use Rattle.bd_store.proofs.RestoreMeets.{meets_unread, meets_restored, meets_stopped}
 use Rattle.bd_store.proofs.store.Store.give_back.Goals as goal
 
 pub returns-in-Err : goal.returns-in-Err

@@ -11,7 +11,7 @@ use Rattle.bd_store.specs.Attempts.{Meets, attempt, scene}
 use Rattle.bd_store.specs.Shown.{Shown}
 use Rattle.bd_store.specs.declared.fault.StoreFault.{StoreFault}
 use Rattle.bd_store.proofs.LeanExpiry.{answer_of, expiry_meets, kept_expired}
-use Rattle.bd_store.proofs.Meeting.{shown_is}
+use Rattle.bd_store.proofs.NothingTouched.{shown_is}
 use Rattle.bd_store.proofs.store.Store.give_up_oldest.Goals as goal
 use Rattle.bd_store.proofs.store.Store.give_up_oldest.Goals.{in-Ok, in-Err}
 

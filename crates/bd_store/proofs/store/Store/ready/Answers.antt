@@ -8,7 +8,7 @@ use Rattle.bd_arrange.specs.Arranged.{IsSpared}
 use Rattle.bd_store.specs.Readying.{IsReady, ReadiesOn}
 use Rattle.bd_store.specs.Shown.{Shown}
 use Rattle.bd_store.specs.Touches.{InArranging}
-use Rattle.bd_store.proofs.Readying.{agrees_behind, arranged_told, due_ready, kept_refused, reads_ready, recipe_as_before, recipe_behind, unarranged_told, unread_told, waits_with_two}
+use Rattle.bd_store.proofs.ReadyingLemmas.{agrees_behind, arranged_told, due_ready, kept_refused, reads_ready, recipe_as_before, recipe_behind, unarranged_told, unread_told, waits_with_two}
 use Rattle.bd_store.proofs.store.Store.ready.Goals as goal
 
 pub returns-in-Err-clause-disk : goal.returns-in-Err-clause-disk

@@ -6,8 +6,8 @@ use Rattle.bd_store.specs.Attempts.{attempt, scene, Meets}
 use Rattle.bd_store.specs.Shown.{Shown}
 use Rattle.bd_store.specs.Touches.{is_waiting, waits}
 use Rattle.bd_store.specs.declared.fault.StoreFault.{StoreFault}
-use Rattle.bd_store.proofs.Following.{followed, made_ready, ready_sound}
-use Rattle.bd_store.proofs.Reorganising.{arranged_follows, meets_arranged}
+use Rattle.bd_store.proofs.FollowingLemmas.{followed, made_ready, ready_sound}
+use Rattle.bd_store.proofs.ReorganiseStep.{arranged_follows, meets_arranged}
 use Rattle.bd_store.proofs.Unready.{refused}
 use Rattle.bd_store.proofs.store.Store.reorganise.Goals as goal
 

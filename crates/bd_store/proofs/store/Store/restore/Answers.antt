@@ -1,9 +1,9 @@
 use Rattle.std.proofs.Common.{◌≡◌, ◌-◌, ◌<◌, ◌∙◌, ⊎_elim, inl, inr, refl, sym, ap, arith}
 use Rattle.bd_roll.specs.Catalogue.{oldest_in, retained_in}
 use Rattle.bd_store.specs.Shown.{Shown}
-use Rattle.bd_store.proofs.Asking.{none_beside, nothing_refuses, number_refuses}
-use Rattle.bd_store.proofs.Meeting.{meets_untouched, same_versions}
-use Rattle.bd_store.proofs.Refusing.{refused_step, refused_stops}
+use Rattle.bd_store.proofs.AskedVersion.{none_beside, nothing_refuses, number_refuses}
+use Rattle.bd_store.proofs.NothingTouched.{meets_untouched, same_versions}
+use Rattle.bd_store.proofs.RefusalStep.{refused_step, refused_stops}
 use Rattle.bd_store.proofs.store.Store.restore.Goals as goal
 
 pub returns-then-retained-eq0 : goal.returns-then-retained-eq0

@@ -17,9 +17,9 @@ use Rattle.bd_store.specs.Newest.{IsNewestRecipe}
 use Rattle.bd_store.specs.Shown.{HasFree, Shown}
 use Rattle.bd_store.specs.declared.fault.StoreFault.{StoreFault}
 use Rattle.bd_store.specs.declared.fault.StoreFault.TheVariants.{DiskFault, OutOfMemory}
-use Rattle.bd_store.proofs.Meeting.{shown_is}
-use Rattle.bd_store.proofs.Refusing.{backup_goes_on}
-use Rattle.bd_store.proofs.TakingIn.{Begun, begun_from, follows_without_memory, holds_ok, kept_named, named_or_failed, refused_follows}
+use Rattle.bd_store.proofs.NothingTouched.{shown_is}
+use Rattle.bd_store.proofs.RefusalStep.{backup_goes_on}
+use Rattle.bd_store.proofs.BackupMeets.{Begun, begun_from, follows_without_memory, holds_ok, kept_named, named_or_failed, refused_follows}
 use Rattle.bd_store.proofs.store.Store.take_in.Goals as goal
 
 pub returns-then-is_err : goal.returns-then-is_err

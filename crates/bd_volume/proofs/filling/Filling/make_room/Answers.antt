@@ -4,7 +4,7 @@ use Rattle.bd_model.specs.Sizes.{sizes_of}
 use Rattle.bd_space.specs.Allotment.{free_numbers}
 use Rattle.bd_roll.specs.Catalogue.{bytes_of_rows}
 use Rattle.bd_volume.specs.Filled.{Filled}
-use Rattle.bd_volume.proofs.Taking.{adds_none, more_extents}
+use Rattle.bd_volume.proofs.GrownExtents.{adds_none, more_extents}
 use Rattle.bd_volume.proofs.filling.Filling.make_room.Goals as goal
 
 pub returns-in_err-reserve-clause-adds : goal.returns-in_err-reserve-clause-adds
