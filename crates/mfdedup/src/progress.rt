@@ -1,9 +1,9 @@
 //! What came of the commands so far.
-ghost use Rattle.std.specs.Prelude.{◌≡◌, ◌≤◌, [], ◌∷◌, IfOk};
+ghost use Rattle.std.specs.Prelude.{◌≡◌, ◌≤◌, [], IfOk};
 ghost use Rattle.mfdedup.specs.declared.report.End.TheVariants.{Done};
 
 use crate::report::End;
-use bd_model::{Answers, Command, Commands, Moments, Name, NameFault};
+use bd_model::{Answers, Commands, Moments};
 use std::alloc::{AllocError as OutOfMemory, Global};
 
 /// The commands that the store was given, and what came of them so far.
@@ -60,47 +60,5 @@ impl Progress {
             clocks: self.clocks,
             end,
         }
-    }
-}
-
-/// A list of this command alone.
-pub fn copy_of(alloc: Global, command: &Command) -> Result<Commands, OutOfMemory>
-    ensures { IfOk result (λ commands. commands.items ≡ command.now ∷ []) }
-{
-    let mut commands = Commands::new(alloc);
-    commands.reserve(1)?;
-    commands.push(twin_of(alloc, command)?);
-    Ok(commands)
-}
-
-fn twin_of(alloc: Global, command: &Command) -> Result<Command, OutOfMemory>
-    ensures { IfOk result (λ copy. copy ≡ command.now) }
-{
-    match command {
-        Command::Backup { name } => {
-            let name = name_of(alloc, name)?;
-            Ok(Command::Backup { name })
-        }
-        Command::Restore { version, name } => {
-            let name = name_of(alloc, name)?;
-            Ok(Command::Restore {
-                version: *version,
-                name,
-            })
-        }
-        Command::Expire => Ok(Command::Expire),
-        Command::Reorganise => Ok(Command::Reorganise),
-        Command::Scrub => Ok(Command::Scrub),
-        Command::List => Ok(Command::List),
-    }
-}
-
-fn name_of(alloc: Global, name: &Name) -> Result<Name, OutOfMemory>
-    ensures { IfOk result (λ copy. copy ≡ name.now) }
-{
-    match Name::new(alloc, name.text()) {
-        Ok(name) => Ok(name),
-        Err(NameFault::OutOfMemory) => Err(OutOfMemory),
-        Err(NameFault::BadName) => unreachable!(),
     }
 }

@@ -1,5 +1,5 @@
 //! A run, from its words to its last line.
-ghost use Rattle.std.specs.Prelude.{◌≡◌, ◌⊎◌, [], ◌∷◌, map, string_bytes, Some};
+ghost use Rattle.std.specs.Prelude.{◌≡◌, ◌⊎◌, [], ◌∷◌, map, string_bytes, IfOk, Some};
 ghost use Rattle.bd_model.specs.declared.command.Command.{Command as Asked};
 ghost use Rattle.mfdedup.specs.Failing.{end_of_words};
 ghost use Rattle.mfdedup.specs.Noted.{TellsEnd};
@@ -12,16 +12,16 @@ ghost use Rattle.mfdedup.specs.Works.{Did, ComesOfWords, progress_of};
 
 use crate::command::{is_built, run_commands};
 use crate::once::{blank, format};
-use crate::progress::{Progress, copy_of};
+use crate::progress::Progress;
 use crate::report::{End, Report, Request};
 use crate::script::script_under;
 use crate::status::status_of;
 use crate::telling::put_end;
 use bd_disk::Disk;
 use bd_files::{Files, Sink};
-use bd_model::{Commands, Name};
+use bd_model::{Command, Commands, Name};
 use bd_words::{WordsFault, read};
-use std::alloc::Global;
+use std::alloc::{AllocError as OutOfMemory, Global};
 
 // Carries out the command that is asked for, where it is built.
 fn run_asked<D: Disk, F: Files, O: Sink>(
@@ -37,8 +37,8 @@ fn run_asked<D: Disk, F: Files, O: Sink>(
     match commands.get(0) {
         Some(command) => {
             if is_built(command) {
-                match copy_of(alloc, command) {
-                    Ok(copy) => run_commands(alloc, copy, disk, files, out),
+                match alone(alloc, command) {
+                    Ok(commands) => run_commands(alloc, commands, disk, files, out),
                     Err(_) => Progress::none(alloc, End::OutOfMemory),
                 }
             } else {
@@ -47,6 +47,16 @@ fn run_asked<D: Disk, F: Files, O: Sink>(
         }
         None => Progress::none(alloc, End::Unbuilt),
     }
+}
+
+// A list of this command alone.
+fn alone(alloc: Global, command: &Command) -> Result<Commands, OutOfMemory>
+    ensures { IfOk result (λ commands. commands.items ≡ command.now ∷ []) }
+{
+    let mut commands = Commands::new(alloc);
+    commands.reserve(1)?;
+    commands.push(command.try_clone(alloc)?);
+    Ok(commands)
 }
 
 // Reads the script under a name, and carries out its commands.
