@@ -15,7 +15,7 @@ ghost use Rattle.bd_roll.specs.Catalogue.{oldest_in};
 ghost use Rattle.bd_catalog.specs.Opening.{opened};
 ghost use Rattle.bd_catalog.specs.Standing.{lines_from};
 ghost use Rattle.bd_recover.specs.Answers.{is_disk_fault_of_format as is_format_disk_fault, IsFormatAnswer};
-ghost use Rattle.bd_recover.specs.Opens.{is_disk_fault_of_opening as is_open_disk_fault, Rests};
+ghost use Rattle.bd_recover.specs.Opens.{is_disk_fault_of_opening as is_open_disk_fault, Rests, SyncsFirst};
 ghost use Rattle.bd_files.specs.World.{World, with_disk, with_files};
 ghost use Rattle.bd_store.specs.Attempts.{Meets, attempt, scene};
 ghost use Rattle.bd_store.specs.Openings.{AnswersOpening, IsNewStore, MakingStops};
@@ -63,6 +63,7 @@ impl Store {
         ensures answer { IsFormatAnswer D.Disk (sizes_of shape) disk.old disk.new result }
         ensures memory { result ≡ Err FormatFault.OutOfMemory → D.tells → TouchesNothing (D.history disk.old) (D.history disk.new) }
         ensures made { IfOk result (λ store. IsNewStore D.Disk shape store disk.new) }
+        ensures synced { result ≢ Err FormatFault.OutOfMemory → D.tells → SyncsFirst (D.history disk.old) (D.history disk.new) }
         // A stop at any moment leaves no store or the empty one.
         ensures stops { D.tells → MakingStops shape (D.history disk.old) (D.history disk.new) }
     {
@@ -83,6 +84,7 @@ impl Store {
         ensures opened { D.tells → AnswersOpening (opened (contents (D.history disk.old))) result }
         ensures rests { IfOk result (λ store. D.tells → Rests store.found (D.history disk.new)) }
         ensures fresh { IfOk result (λ store. (store.worn ≡ false) × (store.held ≡ 0)) }
+        ensures synced { D.tells → SyncsFirst (D.history disk.old) (D.history disk.new) }
     {
         let Opened { catalog, space } = open_image(alloc, disk)?;
         Ok(Store {

@@ -1,11 +1,11 @@
 -- What an opening leaves of what lies round it.
-use Rattle.std.proofs.Common.{◌≡◌, ◌∙◌, ℕ, ap, refl, sym, subst, arith, Err}
+use Rattle.std.proofs.Common.{◌≡◌, ◌∙◌, ℕ, ap, refl, sym, subst, arith, Err, inr}
 use Rattle.bd_disk.specs.Calls.{FailsByCount}
 use Rattle.bd_disk.specs.History.{History, contents}
 use Rattle.bd_disk.specs.Made.{LeavesNow}
 use Rattle.bd_disk.specs.declared.disk.Disk.{Ghosts as DiskGhosts}
 use Rattle.bd_catalog.specs.Opening.{Found, opened}
-use Rattle.bd_recover.specs.Opens.{Rests, is_disk_fault_of_opening}
+use Rattle.bd_recover.specs.Opens.{Rests, SyncsFirst, is_disk_fault_of_opening}
 use Rattle.bd_recover.specs.declared.fault.OpenFault.{OpenFault}
 use Rattle.bd_recover.specs.declared.fault.OpenFault.TheVariants.{NotAStore as OpenNotAStore, DiskFault as OpenDisk, OutOfMemory as OpenMemory}
 use Rattle.bd_store.specs.Openings.{AnswersOpening}
@@ -41,11 +41,12 @@ opening_cause OpenDisk c faults fails = record { later = record { disk = fails.l
 opening_cause OpenMemory c faults fails = by_nothing refl (λ i. record c { disk = fails.cause i })
 
 pub no_store : {D T : Type 0} (d : DiskGhosts D) (p : Progress) (fault : OpenFault) (w : World) (now : D) → NothingNoted p → p.end ≡ end_of_opening fault → (d.tells → AnswersOpening (opened (contents w.disk)) (Err fault)) → FailsByCount {T = T} is_disk_fault_of_opening w.counts.disk (d.faults now) (Err fault) →
-    (d.tells → ReadsFront w.disk (d.history now)) → d.bytes now ≡ w.disk_bytes → OpensNone d.tells p w (with_disk d w now)
-no_store {D} {T} d p fault w now none e answers fails front same = record {
+    (d.tells → ReadsFront w.disk (d.history now)) → (d.tells → SyncsFirst w.disk (d.history now)) → d.bytes now ≡ w.disk_bytes → OpensNone d.tells p w (with_disk d w now)
+no_store {D} {T} d p fault w now none e answers fails front sync same = record {
   nothing = none;
   ends = subst (EndsUnopened d.tells w.disk) (sym e) (unopened d.tells fault w.disk answers);
   cause = subst (λ x. EndsOnlyByCount (end_cause x) w.counts (with_disk d w now).counts) (sym e) (opening_cause {T = T} fault w.counts (d.faults now) fails);
   reads = front;
+  synced = λ told. inr (sync told);
   beside = λ i. record w { disk_bytes = same i; disk = d.history now; counts = record w.counts { disk = d.faults now } };
 }

@@ -1,5 +1,5 @@
 -- What a format leaves.
-use Rattle.std.proofs.Common.{◌≡◌, ◌∙◌, ℕ, ◌<◌, List, [], length, inl, inr, ⊎_elim, refl, sym, subst, ap, arith, get_or, None, Some, Err}
+use Rattle.std.proofs.Common.{◌≡◌, ◌≢◌, ◌∙◌, ℕ, ◌<◌, List, [], length, inl, inr, ⊎_elim, refl, sym, subst, ap, arith, get_or, None, Some, Err}
 use Rattle.bd_disk.specs.Calls.{FailsByCount}
 use Rattle.bd_disk.specs.History.{History, clock, contents, Since}
 use Rattle.bd_disk.specs.Made.{IsSettled, WritesNothing, WritesOnly}
@@ -13,6 +13,7 @@ use Rattle.bd_model.specs.declared.layout.Phase.TheVariants.{Settled}
 use Rattle.bd_model.specs.declared.shape.Shape.{Shape}
 use Rattle.bd_catalog.specs.Standing.{StandsFor}
 use Rattle.bd_recover.specs.Answers.{format_refusal, AnswersFormat, is_disk_fault_of_format}
+use Rattle.bd_recover.specs.Opens.{SyncsFirst}
 use Rattle.bd_recover.specs.declared.fault.FormatFault.{FormatFault}
 use Rattle.bd_recover.specs.declared.fault.FormatFault.TheVariants.{AlreadyAStore as FormatMarked, TooSmall as FormatSmall, DiskFault as FormatDisk, OutOfMemory as FormatMemory}
 use Rattle.bd_store.specs.Openings.{MakingStops}
@@ -48,12 +49,13 @@ module _ (shape : Shape) (bytes : ℕ) (e : End) (clocks : List ℕ) (old new : 
       let now = since_now new image (subst (λ t. Since new t image) (all k below) since) in
       subst (StandsFor shape empty Settled 0) (sym (settled.each image now)) made
 
-  pub formats_done : WritesOnly (λ place. place < extent_place (sizes_of shape) 0) old new → MakingStops shape old new → Formats shape bytes e clocks old new
-  formats_done writes stops = record {
+  pub formats_done : WritesOnly (λ place. place < extent_place (sizes_of shape) 0) old new → MakingStops shape old new → SyncsFirst old new → Formats shape bytes e clocks old new
+  formats_done writes stops sync = record {
     ends = ends e done;
     made = λ _. made;
     untouched = λ fault is. let clash : None ≡ Some fault = sym none ∙ is in absurd (cc clash);
     memory = λ other. absurd (no_memory e done other);
+    synced = λ _. sync;
     writes = writes;
     stops = stops;
     acknowledged = acknowledged;
@@ -66,8 +68,8 @@ making x (inr is) = subst EndsMaking (sym is) tt
 pub formatted_works : {disk sink : Type 0} (shape : Shape) (p : Progress) (o mid now : World) → NotesAlone disk sink Formatted p mid now → now.disk_bytes ≡ o.disk_bytes → record now.counts { sink = o.counts.sink } ≡ o.counts → mid.counts.sink ≡ o.counts.sink → mid.handed ≡ o.handed →
     now.files ≡ o.files → now.unfinished ≡ o.unfinished → now.strays ≡ o.strays →
     (disk → format_refusal (sizes_of shape) o.disk_bytes (contents o.disk) ≡ None) → (disk → StandsFor shape empty Settled 0 (contents now.disk)) → (disk → IsSettled now.disk) → (disk → WritesOnly (λ place. place < extent_place (sizes_of shape) 0) o.disk now.disk) →
-    (disk → MakingStops shape o.disk now.disk) → ComesOfWords disk (Unit {0}) sink (ToFormat (sizes_of shape)) p o now
-formatted_works {disk} {sink} shape p o mid now alone bytes counts faults handed files unfinished strays none made settled writes stops =
+    (disk → MakingStops shape o.disk now.disk) → (disk → SyncsFirst o.disk now.disk) → ComesOfWords disk (Unit {0}) sink (ToFormat (sizes_of shape)) p o now
+formatted_works {disk} {sink} shape p o mid now alone bytes counts faults handed files unfinished strays none made settled writes stops sync =
     let done = carried p.end mid now alone.ends in
     record {
       bytes = bytes;
@@ -80,7 +82,7 @@ formatted_works {disk} {sink} shape p o mid now alone bytes counts faults handed
         commands = alone.commands;
         ends = making p.end done;
         answers = alone.answers;
-        on_disk = λ told. formats_done shape o.disk_bytes p.end p.clocks.items o.disk now.disk done (none told) (made told) (settled told) (alone.clocks told) (writes told) (stops told);
+        on_disk = λ told. formats_done shape o.disk_bytes p.end p.clocks.items o.disk now.disk done (none told) (made told) (settled told) (alone.clocks told) (writes told) (stops told) (sync told);
         files = files;
         unfinished = unfinished;
         strays = strays;
@@ -95,22 +97,23 @@ module _ (shape : Shape) (bytes : ℕ) (old new : History) (untouched : (fault :
   abbrev Failed : End → Type 0
   Failed e = (clocks : List ℕ) → clocks ≡ [] → Formats shape bytes e clocks old new
 
-  unmade : (e : End) → EndsFormat (format_refusal (sizes_of shape) bytes (contents old)) e → (IsCarriedOut e → ⊥) → (e ≡ OutOfMemory → new ≡ old) → Failed e
-  unmade e ends undone memory clocks none = record {
+  unmade : (e : End) → EndsFormat (format_refusal (sizes_of shape) bytes (contents old)) e → (IsCarriedOut e → ⊥) → (e ≡ OutOfMemory → new ≡ old) → (e ≢ OutOfMemory → SyncsFirst old new) → Failed e
+  unmade e ends undone memory sync clocks none = record {
     ends = ends;
     made = λ done. absurd (undone done);
     untouched = untouched;
     memory = memory;
+    synced = sync;
     writes = writes;
     stops = stops;
     acknowledged = λ k below image since. absurd (omega (arith, below, ap length none));
   }
 
-  pub formats_failed : (fault : FormatFault) → AnswersFormat {T = Shown} (format_refusal (sizes_of shape) bytes (contents old)) (Err fault) → (fault ≡ FormatMemory → new ≡ old) → Failed (end_of_format fault)
-  formats_failed FormatMarked answers memory = unmade AlreadyAStore answers (λ done. ⊎_elim (λ e. cc e) (λ e. cc e) done) (λ e. absurd (cc e))
-  formats_failed (FormatSmall need have) answers memory = unmade (TooSmall need have) answers (λ done. ⊎_elim (λ e. cc e) (λ e. cc e) done) (λ e. absurd (cc e))
-  formats_failed FormatDisk answers memory = unmade DiskFault tt (λ done. ⊎_elim (λ e. cc e) (λ e. cc e) done) (λ e. absurd (cc e))
-  formats_failed FormatMemory answers memory = unmade OutOfMemory tt (λ done. ⊎_elim (λ e. cc e) (λ e. cc e) done) (λ _. memory refl)
+  pub formats_failed : (fault : FormatFault) → AnswersFormat {T = Shown} (format_refusal (sizes_of shape) bytes (contents old)) (Err fault) → (fault ≡ FormatMemory → new ≡ old) → (fault ≢ FormatMemory → SyncsFirst old new) → Failed (end_of_format fault)
+  formats_failed FormatMarked answers memory sync = unmade AlreadyAStore answers (λ done. ⊎_elim (λ e. cc e) (λ e. cc e) done) (λ e. absurd (cc e)) (λ _. sync (λ e. cc e))
+  formats_failed (FormatSmall need have) answers memory sync = unmade (TooSmall need have) answers (λ done. ⊎_elim (λ e. cc e) (λ e. cc e) done) (λ e. absurd (cc e)) (λ _. sync (λ e. cc e))
+  formats_failed FormatDisk answers memory sync = unmade DiskFault tt (λ done. ⊎_elim (λ e. cc e) (λ e. cc e) done) (λ e. absurd (cc e)) (λ _. sync (λ e. cc e))
+  formats_failed FormatMemory answers memory sync = unmade OutOfMemory tt (λ done. ⊎_elim (λ e. cc e) (λ e. cc e) done) (λ _. memory refl) (λ no. absurd (no refl))
 
 failed_ends : (fault : FormatFault) → EndsMaking (end_of_format fault)
 failed_ends FormatMarked = tt
@@ -132,8 +135,8 @@ failed_cause FormatMemory c faults fails = by_nothing refl (λ i. record c { dis
 
 pub unformatted_works : {D sink : Type 0} (d : DiskGhosts D) (shape : Shape) (p : Progress) (fault : FormatFault) (w : World) (now : D) → NothingNoted p → p.end ≡ end_of_format fault → d.bytes now ≡ w.disk_bytes → FailsByCount {T = Shown} is_disk_fault_of_format w.counts.disk (d.faults now) (Err fault) →
     (d.tells → AnswersFormat {T = Shown} (format_refusal (sizes_of shape) w.disk_bytes (contents w.disk)) (Err fault)) → (d.tells → (fault : FormatFault) → format_refusal (sizes_of shape) w.disk_bytes (contents w.disk) ≡ Some fault → WritesNothing w.disk (d.history now)) → (d.tells → fault ≡ FormatMemory → d.history now ≡ w.disk) →
-    (d.tells → WritesOnly (λ place. place < extent_place (sizes_of shape) 0) w.disk (d.history now)) → (d.tells → MakingStops shape w.disk (d.history now)) → ComesOfWords d.tells (Unit {0}) sink (ToFormat (sizes_of shape)) p w (with_disk d w now)
-unformatted_works {D} {sink} d shape p fault w now none e same fails answers untouched memory writes stops = record {
+    (d.tells → WritesOnly (λ place. place < extent_place (sizes_of shape) 0) w.disk (d.history now)) → (d.tells → MakingStops shape w.disk (d.history now)) → (d.tells → fault ≢ FormatMemory → SyncsFirst w.disk (d.history now)) → ComesOfWords d.tells (Unit {0}) sink (ToFormat (sizes_of shape)) p w (with_disk d w now)
+unformatted_works {D} {sink} d shape p fault w now none e same fails answers untouched memory writes stops sync = record {
   bytes = same;
   cause = subst (λ x. EndsOnlyByCount (end_cause x) w.counts (with_disk d w now).counts) (sym e) (failed_cause {T = Shown} fault w.counts (d.faults now) fails);
   clocks = no_clocks none (λ told. later (writes told));
@@ -144,7 +147,7 @@ unformatted_works {D} {sink} d shape p fault w now none e same fails answers unt
     commands = none.commands;
     ends = subst EndsMaking (sym e) (failed_ends fault);
     answers = subst (λ x. AnswersAlone Formatted x p.answers.items) (sym e) (failed_answers fault p.answers.items none.answers);
-    on_disk = λ told. subst (λ x. Formats shape w.disk_bytes x p.clocks.items w.disk (d.history now)) (sym e) (formats_failed shape w.disk_bytes w.disk (d.history now) (untouched told) (writes told) (stops told) fault (answers told) (memory told) p.clocks.items none.clocks);
+    on_disk = λ told. subst (λ x. Formats shape w.disk_bytes x p.clocks.items w.disk (d.history now)) (sym e) (formats_failed shape w.disk_bytes w.disk (d.history now) (untouched told) (writes told) (stops told) fault (answers told) (memory told) (sync told) p.clocks.items none.clocks);
     files = refl;
     unfinished = refl;
     strays = refl;

@@ -58,6 +58,7 @@ unopened_memory {disk} p o none e = record {
   ends = subst (EndsUnopened disk o.disk) (sym e) tt;
   cause = by_nothing (ap end_cause e) refl;
   reads = λ told. record { writes = made_none _ o.disk; looks = looks_from _ {places = []} tt (record { made = made_none _ o.disk; so = sym (append-nil _) }) };
+  synced = λ told. inl refl;
   beside = refl;
 }
 

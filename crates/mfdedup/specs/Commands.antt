@@ -7,7 +7,7 @@ use Rattle.bd_model.specs.declared.command.Command.{Command}
 use Rattle.bd_gate.specs.Halves.{BeforeExtents}
 use Rattle.bd_gate.specs.Superblock.{sizes_at}
 use Rattle.bd_catalog.specs.Opening.{opened}
-use Rattle.bd_recover.specs.Opens.{Rests}
+use Rattle.bd_recover.specs.Opens.{Rests, SyncsFirst}
 use Rattle.bd_store.specs.Attempts.{scene}
 use Rattle.bd_store.specs.Shown.{Shown}
 use Rattle.bd_session.specs.Course.{Course}
@@ -42,6 +42,7 @@ pub record OpensNone (disk : Type 0) (p : Progress) (before now : World) : Type 
   pub ends : EndsUnopened disk before.disk p.end
   pub cause : EndsOnlyByCount (end_cause p.end) before.counts now.counts
   pub reads : disk → ReadsFront before.disk now.disk
+  pub synced : disk → (now.disk ≡ before.disk) ⊎ SyncsFirst before.disk now.disk
   pub beside : now ≡ record before { disk = now.disk; counts = record before.counts { disk = now.counts.disk } }
 
 -- ---- a store
@@ -52,6 +53,7 @@ pub record Opens (disk : Type 0) (store : Shown) (before now : World) : Type 0 w
   pub worn : store.worn ≡ false
   pub held : store.held ≡ 0
   pub reads : disk → ReadsFront before.disk now.disk
+  pub synced : disk → SyncsFirst before.disk now.disk
   pub rests : disk → Rests store.found now.disk
   pub beside : now ≡ record before { disk = now.disk }
 

@@ -1,5 +1,5 @@
 -- What comes of the requests that need no store.
-use Rattle.std.specs.Prelude.{◌≡◌, ◌⊎◌, ℕ, ◌<◌, List, [], length, get_or, replicate, Option, Some, None}
+use Rattle.std.specs.Prelude.{◌≡◌, ◌≢◌, ◌⊎◌, ℕ, ◌<◌, List, [], length, get_or, replicate, Option, Some, None}
 use Rattle.std.specs.FinMap as map
 use Rattle.bd_disk.specs.History.{History, contents, Since}
 use Rattle.bd_disk.specs.Made.{WritesNothing, WritesOnly}
@@ -12,6 +12,7 @@ use Rattle.bd_model.specs.declared.layout.Phase.TheVariants.{Settled}
 use Rattle.bd_model.specs.declared.shape.Shape.{Shape}
 use Rattle.bd_catalog.specs.Standing.{StandsFor}
 use Rattle.bd_recover.specs.Answers.{format_refusal}
+use Rattle.bd_recover.specs.Opens.{SyncsFirst}
 use Rattle.bd_recover.specs.declared.fault.FormatFault.{FormatFault}
 use Rattle.bd_recover.specs.declared.fault.FormatFault.TheVariants.{AlreadyAStore as FormatMarked, TooSmall as FormatSmall}
 use Rattle.bd_store.specs.Openings.{MakingStops}
@@ -72,6 +73,7 @@ pub record Formats (shape : Shape) (bytes : ℕ) (ending : End) (clocks : List �
   -- a disk that is a store already or too small isn't written, whatever the end; and none is, for want of memory
   pub untouched : (fault : FormatFault) → format_refusal (sizes_of shape) bytes (contents old) ≡ Some fault → WritesNothing old new
   pub memory : ending ≡ OutOfMemory → new ≡ old
+  pub synced : ending ≢ OutOfMemory → SyncsFirst old new
   pub writes : WritesOnly (λ place. place < extent_place (sizes_of shape) 0) old new
   pub stops : MakingStops shape old new
   pub acknowledged : (k : ℕ) → k < length clocks → (image : List ℕ) → Since new (get_or clocks k 0) image → StandsFor shape empty Settled 0 image
