@@ -1,15 +1,17 @@
 use Rattle.std.proofs.Common.{◌≡◌, ◌+◌, ◌-◌, ◌*◌, ◌%◌, ◌≤◌, ◌∙◌, sym, subst, arith, refl, length, take, ◌++◌, length-append, length-take}
 use Rattle.bd_disk.specs.History.{contents}
 use Rattle.bd_disk.specs.Images.{bytes_at}
+use Rattle.bd_disk.specs.Runs.{Reads}
 use Rattle.bd_disk.specs.Trace.{ReadsOnly, upward}
 use borrow.Rule.Slice.PartMut.{post_of}
 use Rattle.bd_disk.proofs.RunLemmas.{both_reads, no_reads, read_once, same_contents, wider_reads}
 use Rattle.bd_disk.proofs.Traces.{reads_none, reads_both, read_reads}
 use Rattle.bd_model.specs.Sizes.{sizes_of, disk_bytes}
-use Rattle.bd_extio.specs.Ranges.{place_of}
+use Rattle.bd_extio.specs.Ranges.{InOwner, place_of}
 use Rattle.bd_extio.proofs.Places.{range_small}
 use Rattle.bd_extio.proofs.Ranges.{read_more, places_more, piece_in_owner, upward-range}
 use Rattle.bd_extio.proofs.range.read_at.Goals as goal
+use Rattle.bd_extio.proofs.range.read_at.Goals.{After-read}
 
 pub loop-done-init : goal.loop-done-init
 loop-done-init g c = record { disk = no_reads; faults = refl; within = omega arith; taken = λ told. refl; places = λ told. reads_none _ }
@@ -17,17 +19,18 @@ loop-done-init g c = record { disk = no_reads; faults = refl; within = omega ari
 pub overflow_add-at : goal.overflow_add-at
 overflow_add-at g c = omega (arith, range_small (sizes_of c.args.shape.now) c.args.extents.now c.requires.numbers (omega arith) (omega arith), c.requires.range)
 
-pub returns-in_err-read-clause-disk : goal.returns-in_err-read-clause-disk
-returns-in_err-read-clause-disk g c =
-    let s = sizes_of c.args.shape.now in
-    let done = c.loop-done.done in
-    let n = c.piece_at-piece.result.length in
-    let within : done + n ≤ length c.args.into.now = omega (arith, c.piece_at-piece.ensures.length) in
-    let inside : (c.args.at + done) % s.extent + n ≤ s.extent = omega (arith, c.piece_at-piece.ensures.length) in
+-- What the reads so far and this one did, whatever it answered.
+worked : (g : _) (c : After-read g) → Reads g.D.Disk (InOwner (sizes_of c.args.shape.now) c.args.extents.now c.args.at (length c.args.into.now)) c.args.disk.now c.read.new.self
+worked g c =
+    let within : c.loop-done.done + c.piece_at-piece.result.length ≤ length c.args.into.now = omega (arith, c.piece_at-piece.ensures.length) in
     let start = c.piece_at-piece.ensures.place in
     both_reads c.loop-done.invariant.disk
-    (wider_reads _ (λ place r. piece_in_owner s c.args.extents.now (omega arith) c.args.at done n (length c.args.into.now) place within inside (omega (arith, r.0, start), omega (arith, r.1, start, c.read.auto.into)))
+    (wider_reads _ (λ place r. piece_in_owner (sizes_of c.args.shape.now) c.args.extents.now (omega arith) c.args.at c.loop-done.done c.piece_at-piece.result.length (length c.args.into.now) place within (omega (arith, c.piece_at-piece.ensures.length))
+    (omega (arith, r.0, start), omega (arith, r.1, start, c.read.auto.into)))
     (read_once g.D.Disk _ _ c.read.result c.read.ensures.bytes c.read.ensures.ok c.read.ensures.err c.read.ensures.writes))
+
+pub returns-in_err-read-clause-disk : goal.returns-in_err-read-clause-disk
+returns-in_err-read-clause-disk g c = worked g (goal.at.returns-in_err-read-clause-disk g c).After-read
 
 pub loop-done-preserved : goal.loop-done-preserved
 loop-done-preserved g c =
@@ -39,17 +42,11 @@ loop-done-preserved g c =
     let fits : at + done + n ≤ length extents * s.extent = omega (arith, c.piece_at-piece.ensures.length, c.requires.range) in
     let inside : (at + done) % s.extent + n ≤ s.extent = omega (arith, c.piece_at-piece.ensures.length) in
     let some : 1 ≤ s.extent = omega arith in
-    let piece : n ≡ done + n - done = omega arith in
     let sized : length c.read.new.into ≡ n = omega (arith, c.read.auto.into) in
     let long = sym c.read.auto.into ∙ sized in
     let contents_same : g.D.Disk.tells → contents (g.D.Disk.history c.loop-done.disk) ≡ contents (g.D.Disk.history c.args.disk.now) = λ told. same_contents c.loop-done.invariant.disk told in
     record {
-      disk =
-          let within : done + n ≤ length c.args.into.now = omega (arith, c.piece_at-piece.ensures.length) in
-          let start = c.piece_at-piece.ensures.place in
-          both_reads c.loop-done.invariant.disk
-          (wider_reads _ (λ place r. piece_in_owner s extents some at done n (length c.args.into.now) place within inside (omega (arith, r.0, start), omega (arith, r.1, start, long)))
-          (read_once g.D.Disk _ _ c.read.result c.read.ensures.bytes c.read.ensures.ok c.read.ensures.err c.read.ensures.writes));
+      disk = worked g (goal.at.loop-done-preserved g c).After-read;
       faults = c.in_ok-read.ensures.cause.kept ∙ c.loop-done.invariant.faults;
       within = omega (arith, length-append (take done c.loop-done.into) (c.read.new.into ++ post_of done (done + n - done) c.loop-done.into), length-append c.read.new.into (post_of done (done + n - done) c.loop-done.into), length-take done c.loop-done.into, sized, c.loop-done.invariant.within);
       taken = λ told.
