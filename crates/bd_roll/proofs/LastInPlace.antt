@@ -9,7 +9,7 @@ use Rattle.bd_roll.specs.Catalogue.{Catalogue, VersionEntry, VolumeEntry, OpenEn
 use Rattle.bd_roll.specs.Capacity.{last_room}
 use Rattle.bd_roll.specs.Shown.{version_entry, volume_entry, open_entry}
 
-abbrev made : ℕ → ℕ → Phase → List VersionEntry → List VolumeEntry → List OpenEntry → Catalogue
+abbrev pub made : ℕ → ℕ → Phase → List VersionEntry → List VolumeEntry → List OpenEntry → Catalogue
 made base newest phase versions volumes actives = record { base = base; newest = newest; phase = phase; versions = versions; volumes = volumes; actives = actives }
 
 -- more room in a volume leaves the entries

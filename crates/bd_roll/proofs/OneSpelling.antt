@@ -1,5 +1,5 @@
 -- Bytes begin with one spelling at most.
-use Rattle.std.proofs.Common.{◌≡◌, ℕ, ◌+◌, ◌^◌, ◌<◌, ◌≤◌, List, [], ◌∷◌, ◌++◌, length, map, true, false, ⊎_elim, refl, sym, ◌∙◌, ap, arith, append_assoc, length-append}
+use Rattle.std.proofs.Common.{◌≡◌, ℕ, ◌+◌, ◌*◌, ◌^◌, ◌<◌, ◌≤◌, List, [], ◌∷◌, ◌++◌, length, map, true, false, ⊎_elim, refl, sym, ◌∙◌, ap, arith, append_assoc, length-append}
 use Rattle.std.specs.List.{All, flat_map}
 use Rattle.std.proofs.lemmas.Bool.{cases_lt}
 use Rattle.std.proofs.lemmas.List.{flat_map_more, map-append}
@@ -30,6 +30,12 @@ pub counted_none : {A : Type 0} (spell : A → List ℕ) (fits : A → Type 0) (
 counted_none spell fits count old behind small is none = λ xs rest fit same.
     let both = u32_same count (length xs) behind (flat_map spell xs ++ rest) small fit.count (sym is ∙ same ∙ append_assoc (four (length xs)) (flat_map spell xs) rest) in
     none xs rest (record { count_is = sym both.0; each = fit.each }) both.1
+
+-- the same where the bytes behind their number are too few for items of so many bytes each
+pub list_short : {A : Type 0} (spell : A → List ℕ) (fits : A → Type 0) (width count : ℕ) (old behind : List ℕ) → ((xs : List A) → length (flat_map spell xs) ≡ width * length xs)
+    → count < 2 ^ 32 → old ≡ four count ++ behind → length behind < width * count → SpellsNone (λ xs. four (length xs) ++ flat_map spell xs) (FitList fits) old
+list_short spell fits width count old behind long small is less =
+    counted_none spell fits count old behind small is (λ xs rest fit same. omega (arith, less, ap length same, length-append (flat_map spell xs) rest, long xs, ap (λ n. width * n) fit.count_is))
 
 module _ {A : Type 0} (spell : A → List ℕ) (fits : A → Type 0) (ends : EndsItself spell fits) where
   -- an item that isn't there ends each longer list

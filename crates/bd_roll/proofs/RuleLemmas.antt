@@ -152,21 +152,14 @@ pub record OwnFew (top : ℕ) (numbers : List ℕ) : Type 0 where
   pub below : list_all (λ n. nat_lt n top) numbers ≡ true
   pub few : length numbers ≤ top
 
-few_left : (top : ℕ) (ms ns : List ℕ) → OwnFew top (ms ++ ns) → OwnFew top ms
-few_left top ms ns own =
+few_parts : (top : ℕ) (ms ns : List ℕ) → OwnFew top (ms ++ ns) → OwnFew top ms × OwnFew top ns
+few_parts top ms ns own =
     let test : ℕ → Bool = λ n. nat_lt n top in
-    record {
-      below = left_and (list_all test ms) (list_all test ns) (sym (list_all-append test ms ns) ∙ own.below);
-      few = omega (arith, own.few, length-append ms ns);
-    }
-
-few_right : (top : ℕ) (ms ns : List ℕ) → OwnFew top (ms ++ ns) → OwnFew top ns
-few_right top ms ns own =
-    let test : ℕ → Bool = λ n. nat_lt n top in
-    record {
-      below = right_and (list_all test ms) (list_all test ns) (sym (list_all-append test ms ns) ∙ own.below);
-      few = omega (arith, own.few, length-append ms ns);
-    }
+    let all = sym (list_all-append test ms ns) ∙ own.below in
+    let long = length-append ms ns in (
+      record { below = left_and (list_all test ms) (list_all test ns) all; few = omega (arith, own.few, long) },
+      record { below = right_and (list_all test ms) (list_all test ns) all; few = omega (arith, own.few, long) },
+    )
 
 fit_list : (top : ℕ) (numbers : List ℕ) → top ≤ 65536 → OwnFew top numbers → FitList FitsFour numbers
 fit_list top numbers small own = record {
@@ -260,9 +253,9 @@ module _ (s : Sizes) (bounded : IsBounded s) where
         length = holds.fits;
         chunks = omega (arith, holds.chunks, holds.fits);
         fresh = omega (arith, holds.fresh, holds.chunks, holds.fits);
-        extents = fit_list s.extents e.extents bounded.extents (few_left s.extents e.extents rest own);
+        extents = fit_list s.extents e.extents bounded.extents (few_parts s.extents e.extents rest own).0;
       })
-      (versions_fit es (right_and (version_holds s e) (list_all (version_holds s) es) h) (few_right s.extents e.extents rest own))
+      (versions_fit es (right_and (version_holds s e) (list_all (version_holds s) es) h) (few_parts s.extents e.extents rest own).1)
 
   -- rows whose starts ascend from `low` to `high`
   rows_fit : (low high : ℕ) (rows : List CategoryRow) → high < 2 ^ 32 → ascends low high (row_starts rows) ≡ true → list_all (row_holds s) rows ≡ true → All FitsRow rows
@@ -293,10 +286,10 @@ module _ (s : Sizes) (bounded : IsBounded s) where
           count = omega (arith, ascends_count oldest j (row_starts e.rows) up_to, length-map e.rows (λ (row : CategoryRow). row.start));
           each = rows_fit oldest j e.rows (omega arith) up_to (rows_of e holds);
         };
-        extents = fit_list s.extents e.extents bounded.extents (few_left s.extents e.extents rest own);
+        extents = fit_list s.extents e.extents bounded.extents (few_parts s.extents e.extents rest own).0;
       })
       (volumes_fit oldest (j + 1) es (λ some. omega arith) (right_and (ascends oldest j (row_starts e.rows)) (starts_hold oldest (j + 1) es) starts)
-      (right_and (volume_holds s e) (list_all (volume_holds s) es) h) (few_right s.extents e.extents rest own))
+      (right_and (volume_holds s e) (list_all (volume_holds s) es) h) (few_parts s.extents e.extents rest own).1)
 
   -- the parts of an open category's rule
   pub open_row_of : (e : OpenEntry) → active_holds s e ≡ true → row_holds s e.row ≡ true
@@ -313,9 +306,9 @@ module _ (s : Sizes) (bounded : IsBounded s) where
       let rest = flat_map (λ (o : OpenEntry). o.extents) es in
       All-cons FitsOpen e es (record {
         row = row_fits e.row (omega arith) (open_row_of e (left_and (active_holds s e) (list_all (active_holds s) es) h));
-        extents = fit_list s.extents e.extents bounded.extents (few_left s.extents e.extents rest own);
+        extents = fit_list s.extents e.extents bounded.extents (few_parts s.extents e.extents rest own).0;
       })
-      (actives_fit (n + 1) high es small (right_and here (ascends (n + 1) high others) up_to) (right_and (active_holds s e) (list_all (active_holds s) es) h) (few_right s.extents e.extents rest own))
+      (actives_fit (n + 1) high es small (right_and here (ascends (n + 1) high others) up_to) (right_and (active_holds s e) (list_all (active_holds s) es) h) (few_parts s.extents e.extents rest own).1)
 
   pub owned_of : (c : Catalogue) → extents_hold s c ≡ true → OwnFew s.extents (all_extents c)
   owned_of c h =
@@ -340,15 +333,14 @@ module _ (s : Sizes) (bounded : IsBounded s) where
       let versions = flat_map (λ (e : VersionEntry). e.extents) c.versions in
       let volumes = flat_map (λ (e : VolumeEntry). e.extents) c.volumes in
       let actives = flat_map (λ (e : OpenEntry). e.extents) c.actives in
-      let closed = few_left s.extents (versions ++ volumes) actives own in
-      let opens = few_right s.extents (versions ++ volumes) actives own in
+      let (closed, opens) = few_parts s.extents (versions ++ volumes) actives own in
       let starts = open_ascend c rules.open_starts in
       record {
         base = omega (arith, numbers.base, numbers.newest);
         newest = numbers.newest;
         phase = phase_fits c c.phase numbers.newest rules.phase;
-        versions = record { count = omega (arith, numbers.few, bounded.retain); each = versions_fit c.versions rules.versions (few_left s.extents versions volumes closed) };
-        volumes = volumes_fit (oldest_in c) (oldest_in c) c.volumes (λ some. omega (arith, numbers.base, numbers.newest, numbers.volumes)) rules.starts rules.volumes (few_right s.extents versions volumes closed);
+        versions = record { count = omega (arith, numbers.few, bounded.retain); each = versions_fit c.versions rules.versions (few_parts s.extents versions volumes closed).0 };
+        volumes = volumes_fit (oldest_in c) (oldest_in c) c.volumes (λ some. omega (arith, numbers.base, numbers.newest, numbers.volumes)) rules.starts rules.volumes (few_parts s.extents versions volumes closed).1;
         volume_count = numbers.volumes;
         actives = record {
           count = omega (arith, numbers.newest, ascends_count (c.base + 1) c.newest (map (λ (e : OpenEntry). e.row.start) c.actives) starts, length-map c.actives (λ (e : OpenEntry). e.row.start));

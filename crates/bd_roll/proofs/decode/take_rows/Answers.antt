@@ -1,21 +1,17 @@
 use Rattle.std.proofs.Common.{rules, ◌^◌, ◌<◌, [], ◌∷◌, ◌++◌, List, length, sym, ◌∙◌, ap, arith, length-append}
 use Rattle.std.specs.List.{flat_map}
 use Rattle.std.proofs.lemmas.List.Elements.{All-push, All-same}
-use Rattle.bd_wire.proofs.ReadingBack.{u32_same}
 use Rattle.bd_model.specs.Records.{four}
 use Rattle.bd_model.specs.declared.layout.CategoryRow.{CategoryRow}
 use Rattle.bd_roll.specs.Spelling.{read_row, spelled_row}
 use Rattle.bd_roll.specs.Widths.{FitsRow}
 use Rattle.bd_roll.proofs.Lengths.{length-rows}
 use Rattle.bd_roll.proofs.ReadBack.{row_back}
-use Rattle.bd_roll.proofs.OneSpelling.{list_none, same_rest, too_short, took_more}
+use Rattle.bd_roll.proofs.OneSpelling.{list_none, list_short, same_rest, too_short, took_more}
 use Rattle.bd_roll.proofs.decode.take_rows.Goals as goal
 
 pub returns-then-left-count : goal.returns-then-left-count
-returns-then-left-count c = λ xs rest fit same.
-    let small : c.in-Some.count < 2 ^ 32 = search rules in
-    let both = u32_same c.in-Some.count (length xs) c.take_u32.new.self (flat_map spelled_row xs ++ rest) small fit.count (sym c.in-Some.ensures.field ∙ same) in
-    omega (arith, both.0, ap length both.1, length-append (flat_map spelled_row xs) rest, length-rows xs)
+returns-then-left-count c = list_short spelled_row FitsRow 20 c.in-Some.count c.args.cursor.now c.take_u32.new.self length-rows (search rules) c.in-Some.ensures.field (omega arith)
 
 pub returns-in_default-take_row : goal.returns-in_default-take_row
 returns-in_default-take_row c =
