@@ -8,15 +8,8 @@ ghost use Rattle.bd_arrange.specs.Desks.{new_extents};
 
 use crate::desk::Desk;
 use bd_catalog::{ActiveCategory, ClosedVolume, Splits};
-use bd_space::{Owned, Space};
-
-// The owner's extents are free.
-fn free_extents(space: &mut Space, owner: Owned)
-    requires { AreOwned space.old owner.numbers }
-    ensures { GivesUp owner.numbers space.old space.new }
-{
-    space.give_back(owner);
-}
+use bd_roll::release;
+use bd_space::Space;
 
 // The extents of what is kept of a category are free.
 fn free_kept(space: &mut Space, kept: Option<ActiveCategory>)
@@ -24,7 +17,7 @@ fn free_kept(space: &mut Space, kept: Option<ActiveCategory>)
     ensures { GivesUp (flat_map (λ a. a.extents) (fresh_actives kept)) space.old space.new }
 {
     if let Some(category) = kept {
-        free_extents(space, category.extents);
+        release(space, category.extents);
     }
 }
 
@@ -58,6 +51,6 @@ impl Desk {
     {
         let (volume, mut splits) = self.finish();
         free_splits(space, &mut splits);
-        free_extents(space, volume.extents);
+        release(space, volume.extents);
     }
 }

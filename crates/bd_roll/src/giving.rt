@@ -12,8 +12,8 @@ use crate::rows::{Actives, ClosedVolume, Rows, VersionRow};
 use bd_model::{CategoryRow, Phase};
 use bd_space::{Owned, Space};
 
-// The owner's extents are free.
-pub(crate) fn release(space: &mut Space, owner: Owned)
+/// The owner's extents are free.
+pub fn release(space: &mut Space, owner: Owned)
     requires { AreOwned space.old owner.numbers }
     ensures { GivesUp owner.numbers space.old space.new }
 {

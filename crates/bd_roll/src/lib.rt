@@ -16,6 +16,7 @@ pub use bd_model::{CategoryRow, Phase};
 pub use contents::Contents;
 pub use decode::take_contents;
 pub use encode::put_contents;
+pub use giving::release;
 pub use laws::{catalogues_read_back, steps_keep_the_rules};
 pub use rows::{ActiveCategory, Actives, ClosedVolume, OwnsExtents, Rows, VersionRow};
 pub use rules::obeys;

@@ -21,20 +21,20 @@ use Rattle.bd_arrange.specs.declared.cut.Stretch.{Stretch}
 use Rattle.bd_arrange.proofs.Faults.{header_damage}
 use Rattle.bd_recipe.specs.Reading.{IfDamaged}
 use Rattle.bd_arrange.proofs.cut.read_record.Goals as goal
+use Rattle.bd_arrange.proofs.cut.read_record.Goals.{After-read_header}
+
+-- What the reading did to the disk, whatever it answered.
+worked : (g : _) (c : After-read_header g) → Reads g.D.Disk (InOwner (sizes_of c.args.shape.now) c.args.category.now.extents.numbers 0 c.args.category.now.row.bytes) c.args.disk.now c.read_header.new.disk
+worked g c =
+    let row = c.args.category.now.row in
+    subst (λ l. Reads g.D.Disk (InOwner (sizes_of c.args.shape.now) l 0 row.bytes) c.args.disk.now c.read_header.new.disk) c.numbers-extents.ensures
+    (reads_within 0 row.bytes (omega arith) (omega (arith, header_within c.args.at row.bytes c.requires.inside.within)) c.read_header.ensures.disk)
 
 pub returns-in-Ok-clause-disk : goal.returns-in-Ok-clause-disk
-returns-in-Ok-clause-disk g c =
-    let s = sizes_of c.args.shape.now in
-    let row = c.args.category.now.row in
-    subst (λ l. Reads g.D.Disk (InOwner s l 0 row.bytes) c.args.disk.now c.read_header.new.disk) c.numbers-extents.ensures
-    (reads_within 0 row.bytes (omega arith) (omega (arith, header_within c.args.at row.bytes c.requires.inside.within)) c.read_header.ensures.disk)
+returns-in-Ok-clause-disk g c = worked g (goal.at.returns-in-Ok-clause-disk g c).After-read_header
 
 pub returns-in-Err-clause-disk : goal.returns-in-Err-clause-disk
-returns-in-Err-clause-disk g c =
-    let s = sizes_of c.args.shape.now in
-    let row = c.args.category.now.row in
-    subst (λ l. Reads g.D.Disk (InOwner s l 0 row.bytes) c.args.disk.now c.read_header.new.disk) c.numbers-extents.ensures
-    (reads_within 0 row.bytes (omega arith) (omega (arith, header_within c.args.at row.bytes c.requires.inside.within)) c.read_header.ensures.disk)
+returns-in-Err-clause-disk g c = worked g (goal.at.returns-in-Err-clause-disk g c).After-read_header
 
 pub returns-in-Ok-clause-found : goal.returns-in-Ok-clause-found
 returns-in-Ok-clause-found g c = λ told.

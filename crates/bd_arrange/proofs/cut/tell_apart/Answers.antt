@@ -13,6 +13,7 @@ use Rattle.bd_arrange.specs.declared.cut.Stretch.{Stretch}
 use Rattle.bd_arrange.proofs.Stretches.{cut_more, cut_none, sorts_none}
 use Rattle.bd_arrange.proofs.CategoryRecords.{Told, all_told, bad_header, bad_row, told_more, told_none}
 use Rattle.bd_arrange.proofs.cut.tell_apart.Goals as goal
+use Rattle.bd_arrange.proofs.cut.tell_apart.Goals.{After-loop-done}
 
 pub loop-done-init : goal.loop-done-init
 loop-done-init g c =
@@ -77,30 +78,22 @@ loop-done-preserved g c =
           (subst (λ i. IsFoundAt s i entries p at x before after) (same_contents inv.disk told) (c.in_ok-record.ensures.found told)) (inv.told told);
     }
 
+-- Behind the last record all of them are told.
+told_all : (g : _) (c : After-loop-done g) → g.D.Disk.tells → Told (sizes_of c.args.shape.now) (contents (g.D.Disk.history c.args.disk.now)) c.args.neighbour.now.entries (open_row (open_entry c.args.category.now)) c.args.category.now.row.chunks c.loop-done.at c.loop-done.cut
+    (g.D.Disk.history c.args.disk.now) (g.D.Disk.history c.loop-done.disk)
+told_all g c = λ told.
+    let all : c.loop-done.done ≡ c.args.category.now.row.chunks = omega (arith, c.loop-done-test.false) in
+    subst (λ n. Told (sizes_of c.args.shape.now) (contents (g.D.Disk.history c.args.disk.now)) c.args.neighbour.now.entries (open_row (open_entry c.args.category.now)) n c.loop-done.at c.loop-done.cut (g.D.Disk.history c.args.disk.now) (g.D.Disk.history c.loop-done.disk))
+    all (c.loop-done.invariant.told told)
+
 pub returns-then-at-row-clause-damage : goal.returns-then-at-row-clause-damage
 returns-then-at-row-clause-damage g c = λ told c'.
-    let s = sizes_of c.args.shape.now in
-    let a = open_entry c.args.category.now in
-    let p = open_row a in
-    let entries = c.args.neighbour.now.entries in
-    let first = g.D.Disk.history c.args.disk.now in
-    let now = g.D.Disk.history c.loop-done.disk in
-    let image = contents first in
-    let at = c.loop-done.at in
-    let all : c.loop-done.done ≡ a.row.chunks = omega (arith, c.loop-done-test.false) in
-    let differs : at ≢ a.row.bytes = λ same. c.if-at-row.true same in
-    bad_row s image entries a c.loop-done.cut c' at differs (subst (λ n. Told s image entries p n at c.loop-done.cut first now) all (c.loop-done.invariant.told told))
+    let differs : c.loop-done.at ≢ c.args.category.now.row.bytes = λ same. c.if-at-row.true same in
+    bad_row (sizes_of c.args.shape.now) (contents (g.D.Disk.history c.args.disk.now)) c.args.neighbour.now.entries (open_entry c.args.category.now) c.loop-done.cut c' c.loop-done.at differs
+    (told_all g (goal.at.returns-then-at-row-clause-damage g c).After-loop-done told)
 
 pub returns-clause-apart : goal.returns-clause-apart
 returns-clause-apart g c = λ told.
-    let s = sizes_of c.args.shape.now in
-    let a = open_entry c.args.category.now in
-    let p = open_row a in
-    let entries = c.args.neighbour.now.entries in
-    let first = g.D.Disk.history c.args.disk.now in
-    let now = g.D.Disk.history c.loop-done.disk in
-    let image = contents first in
-    let at = c.loop-done.at in
-    let all : c.loop-done.done ≡ a.row.chunks = omega (arith, c.loop-done-test.false) in
-    let full : at ≡ a.row.bytes = omega (arith, c.if-at-row.false) in
-    all_told s image entries a c.loop-done.cut at full (subst (λ n. Told s image entries p n at c.loop-done.cut first now) all (c.loop-done.invariant.told told))
+    let full : c.loop-done.at ≡ c.args.category.now.row.bytes = omega (arith, c.if-at-row.false) in
+    all_told (sizes_of c.args.shape.now) (contents (g.D.Disk.history c.args.disk.now)) c.args.neighbour.now.entries (open_entry c.args.category.now) c.loop-done.cut c.loop-done.at full
+    (told_all g (goal.at.returns-clause-apart g c).After-loop-done told)

@@ -1,4 +1,4 @@
-use Rattle.std.proofs.Common.{rules, ◌^◌, ◌<◌, length, arith}
+use Rattle.std.proofs.Common.{rules, length, arith}
 use Rattle.bd_model.specs.Records.{four}
 use Rattle.bd_roll.specs.Spelling.{read_four}
 use Rattle.bd_roll.specs.Widths.{FitsFour}
@@ -12,6 +12,5 @@ returns-then-left-count c = list_short four FitsFour 4 c.in-Some.count c.args.cu
 
 pub returns-in_default-take_u32 : goal.returns-in_default-take_u32
 returns-in_default-take_u32 c =
-    let small : c.in-Some.count < 2 ^ 32 = search rules in
-    list_none four FitsFour (same_rest read_four four FitsFour four_back) c.in-Some.count c.loop.numbers.items c.args.cursor.now c.loop.cursor small c.loop.invariant.fit (omega arith) c.loop.invariant.so
+    list_none four FitsFour (same_rest read_four four FitsFour four_back) c.in-Some.count c.loop.numbers.items c.args.cursor.now c.loop.cursor (search rules) c.loop.invariant.fit (omega arith) c.loop.invariant.so
     (too_short four FitsFour 4 c.loop.cursor (λ n. omega arith) (fewer 4 (length c.loop.cursor) c.in_default-take_u32.ensures.enough.1))

@@ -1,4 +1,4 @@
-use Rattle.std.proofs.Common.{rules, ◌^◌, ◌<◌, [], ◌∷◌, ◌++◌, List, length, sym, ◌∙◌, ap, arith, length-append}
+use Rattle.std.proofs.Common.{rules, [], ◌∷◌, ◌++◌, List, length, sym, ◌∙◌, ap, arith, length-append}
 use Rattle.std.specs.List.{flat_map}
 use Rattle.std.proofs.lemmas.List.Elements.{All-push, All-same}
 use Rattle.bd_model.specs.Records.{four}
@@ -15,8 +15,7 @@ returns-then-left-count c = list_short spelled_row FitsRow 20 c.in-Some.count c.
 
 pub returns-in_default-take_row : goal.returns-in_default-take_row
 returns-in_default-take_row c =
-    let small : c.in-Some.count < 2 ^ 32 = search rules in
-    list_none spelled_row FitsRow (same_rest read_row spelled_row FitsRow row_back) c.in-Some.count c.loop.rows.items c.args.cursor.now c.loop.cursor small c.loop.invariant.fit (omega arith) c.loop.invariant.so
+    list_none spelled_row FitsRow (same_rest read_row spelled_row FitsRow row_back) c.in-Some.count c.loop.rows.items c.args.cursor.now c.loop.cursor (search rules) c.loop.invariant.fit (omega arith) c.loop.invariant.so
     (too_short spelled_row FitsRow 20 c.loop.cursor (λ r. omega arith) c.in_default-take_row.ensures.short)
 
 pub loop-preserved : goal.loop-preserved
