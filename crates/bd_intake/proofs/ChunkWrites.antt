@@ -10,7 +10,7 @@ use Rattle.bd_disk.specs.Runs.{Writes}
 use Rattle.bd_disk.specs.declared.disk.Disk.{Ghosts}
 use Rattle.bd_disk.proofs.AgreeLemmas.{agree_fewer}
 use Rattle.bd_disk.proofs.Frames.{same_contents}
-use Rattle.bd_disk.proofs.RunLemmas.{wider_writes, written}
+use Rattle.bd_disk.proofs.RunLemmas.{both_writes, wider_writes, written}
 use Rattle.bd_model.specs.Extents.{owner_bytes, extent_bytes}
 use Rattle.bd_model.specs.Laws.{entries_of_chunks}
 use Rattle.bd_model.specs.Sizes.{Sizes, extent_place, disk_bytes}
@@ -69,6 +69,9 @@ one_writes s extents more writes = wider_writes _ (λ place r. record { extent =
 
 pub other_writes : (s : Sizes) (extents more : List ℕ) {D : Type 0} {g : Ghosts D} {a b : D} → Writes g (InExtents s more) a b → Writes g (InExtents s (extents ++ more)) a b
 other_writes s extents more writes = wider_writes _ (λ place r. record { extent = r.extent; among = Contains-append_right extents more r.extent r.among; within = r.within }) writes
+
+pub both_in : (s : Sizes) (extents more : List ℕ) {D : Type 0} {g : Ghosts D} {a b c : D} → Writes g (InExtents s more) a b → Writes g (InExtents s extents) b c → Writes g (InExtents s (extents ++ more)) a c
+both_in s extents more first second = both_writes (other_writes s extents more first) (one_writes s extents more second)
 
 -- what one owner's bytes begin with stays while another's are written
 still_begins : (s : Sizes) (extents others bytes : List ℕ) → ((e : ℕ) → Contains extents e → Contains others e → ⊥) → {D : Type 0} {g : Ghosts D} {a b : D} → Writes g (InExtents s others) a b → g.tells →
