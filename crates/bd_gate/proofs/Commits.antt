@@ -16,7 +16,7 @@ use Rattle.bd_gate.specs.Halves.{InFrame, InGate, InHalf}
 use Rattle.bd_gate.specs.Commits.{closing_calls, stored_by, FailsWithin, IsFailedCall, IsStored, MakesOrFails, StoresOrFails}
 
 -- a byte before what was written behind it
-byte_before : (xs : List ℕ) (at byte : ℕ) (bytes : List ℕ) → overwritten (overwritten xs (at + 1) bytes) at (byte ∷ []) ≡ overwritten xs at (byte ∷ bytes)
+pub byte_before : (xs : List ℕ) (at byte : ℕ) (bytes : List ℕ) → overwritten (overwritten xs (at + 1) bytes) at (byte ∷ []) ≡ overwritten xs at (byte ∷ bytes)
 unfolding overwritten
 byte_before [] at byte bytes = refl
 byte_before (x ∷ xs) (suc at) byte bytes =

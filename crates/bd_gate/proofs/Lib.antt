@@ -1,3 +1,4 @@
+pub mod Appends
 pub mod Commits
 pub mod Committed
 pub mod Fronts

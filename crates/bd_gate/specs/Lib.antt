@@ -1,5 +1,6 @@
 pub mod Commits
 pub mod Finding
 pub mod Halves
+pub mod Logs
 pub mod Standing
 pub mod Superblock

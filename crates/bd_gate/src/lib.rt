@@ -3,6 +3,8 @@
 
 mod commit;
 mod half;
+mod log;
 
 pub use commit::{close_half, commit_frame, fill_half, open_half, store};
 pub use half::{CLOSED_GATE, GateFault, Half, OPEN_GATE, newest_half, read_payload};
+pub use log::{append_gated, read_log};
