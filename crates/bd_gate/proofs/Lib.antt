@@ -2,7 +2,9 @@ pub mod Appends
 pub mod Commits
 pub mod Committed
 pub mod Fronts
+pub mod Growing
 pub mod Kept
 pub mod Newest
+pub mod Pieces
 pub mod StandingLemmas
 pub mod Stops
