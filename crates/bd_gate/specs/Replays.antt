@@ -4,6 +4,8 @@ use Rattle.std.specs.Int.{w32, from_be_bytes}
 use Rattle.std.specs.List.{concat}
 use Rattle.bd_model.specs.Records.{four}
 use Rattle.bd_gate.specs.Superblock.{open_gate, closed_gate, byte_at}
+use Rattle.bd_gate.specs.declared.log.Gated.{Gated}
+use Rattle.bd_gate.specs.declared.log.Gated.TheVariants.{Ends, Broken, Record}
 
 -- Bytes that begin with a gate: how many bytes the record behind it has by the four bytes before them, and those bytes.
 abbrev pub told_length : List ℕ → ℕ
@@ -15,6 +17,10 @@ content_of bytes = take (told_length bytes) (drop 5 bytes)
 -- whether the record and the gate behind it end among the bytes
 abbrev pub fits_in : List ℕ → Bool
 fits_in bytes = nat_le (6 + told_length bytes) (length bytes)
+
+-- what stands at the gate
+abbrev pub first_gated : List ℕ → Gated
+first_gated bytes = if byte_at bytes 0 == open_gate then (if fits_in bytes then Record (told_length bytes) else Broken) else Ends
 
 -- the state at the end of a log, and the place of the gate that ends it
 pub record Replayed (S : Type 0) : Type 0 where

@@ -7,4 +7,4 @@ mod log;
 
 pub use commit::{close_half, commit_frame, fill_half, open_half, store};
 pub use half::{CLOSED_GATE, GateFault, Half, OPEN_GATE, newest_half, read_payload};
-pub use log::{append_gated, read_log};
+pub use log::{Gated, append_gated, first_record, read_log};

@@ -9,6 +9,7 @@ ghost use Rattle.bd_disk.specs.Trace.{ReadsOnly, upward};
 ghost use Rattle.bd_model.specs.Sizes.{sizes_of, disk_bytes, half_bytes, half_place};
 ghost use Rattle.bd_gate.specs.Commits.{MakesOrFails};
 ghost use Rattle.bd_gate.specs.Logs.{append_calls, EndsShut, InRecord, IsLogEnd, KeepsOrAppends};
+ghost use Rattle.bd_gate.specs.Replays.{first_gated};
 ghost use Rattle.bd_gate.specs.Superblock.{open_gate};
 
 use crate::commit::store;
@@ -78,4 +79,35 @@ pub fn read_log<D: Disk>(
     let place = place_of_half(shape, half.number) + at;
     disk.read(place, into)?;
     Ok(())
+}
+
+/// What stands at a gate of a log.
+#[derive(Clone, Copy, PartialEq, Eq, Debug)]
+pub enum Gated {
+    /// A closed gate, which ends the log.
+    Ends,
+    /// An open gate, and the record or the gate behind it doesn't end among the bytes.
+    Broken,
+    /// An open gate, and behind it the length of a record in four bytes, so many bytes of it, and a gate.
+    Record { length: u32 },
+}
+
+/// What stands at the gate with which these bytes begin.
+pub fn first_record(bytes: &[u8]) -> Gated
+    requires some { 1 ≤ length bytes.now }
+    ensures { result ≡ first_gated bytes.now }
+{
+    if bytes[0] != OPEN_GATE {
+        return Gated::Ends;
+    }
+    if bytes.len() < 6 {
+        return Gated::Broken;
+    }
+    let mut told = [0u8; 4];
+    told.copy_from_slice(&bytes[1..5]);
+    let length = u32::from_be_bytes(told);
+    if ((bytes.len() - 6) as u64) < u64::from(length) {
+        return Gated::Broken;
+    }
+    Gated::Record { length }
 }
