@@ -4,6 +4,7 @@ pub mod Committed
 pub mod Fronts
 pub mod Growing
 pub mod Kept
+pub mod Logging
 pub mod Newest
 pub mod Pieces
 pub mod StandingLemmas
