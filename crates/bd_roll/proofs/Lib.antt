@@ -3,6 +3,7 @@ pub mod CountedNumbers
 pub mod DecodeLemmas
 pub mod RulesAfterDrop
 pub mod RulesAfterBackup
+pub mod EntryBack
 pub mod GivenUp
 pub mod InPlace
 pub mod Lengths

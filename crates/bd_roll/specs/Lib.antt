@@ -1,6 +1,7 @@
 pub mod Capacity
 pub mod Catalogue
 pub mod Checked
+pub mod Entries
 pub mod Giving
 pub mod Growing
 pub mod Reading
