@@ -26,10 +26,8 @@ fn free_splits(space: &mut Space, splits: &mut Splits)
     requires { AreOwned space.old (kept_extents (map kept_entry splits.old.items)) }
     ensures { GivesUp (kept_extents (map kept_entry splits.old.items)) space.old space.new }
 {
-    for _ in 0..splits.len() {
-        if let Some(split) = splits.pop() {
-            free_kept(space, split.kept);
-        }
+    while let Some(split) = splits.pop() {
+        free_kept(space, split.kept);
     }
 }
 

@@ -1,5 +1,5 @@
 -- Giving up what is owned, one list after the other.
-use Rattle.std.proofs.Common.{◌≡◌, ℕ, zero, suc, ◌+◌, ◌<◌, ◌≤◌, false, cond, nat_le, length-append, List, [], ◌∷◌, ◌++◌, length, map, flat_map, take, drop, set, get_or, refl, sym, ◌∙◌, ap, arith, subst, append_assoc}
+use Rattle.std.proofs.Common.{◌≡◌, ℕ, zero, suc, ◌+◌, ◌<◌, ◌≤◌, true, false, cond, nat_le, length-append, List, [], ◌∷◌, ◌++◌, length, map, flat_map, take, drop, set, get_or, refl, sym, ◌∙◌, ap, arith, subst, append_assoc}
 use Rattle.std.specs.Prelude.{All, Contains, nat_eq}
 use Rattle.std.specs.List.{IsDistinct}
 use Rattle.std.proofs.lemmas.List.{append-nil, nil_from_length}
@@ -150,3 +150,8 @@ last_grown-set rows added (y ∷ []) (suc k) v x last is shown = absurd (omega (
 last_grown-set rows added (y ∷ z ∷ zs) zero v x last is shown = absurd (omega (arith, last))
 last_grown-set rows added (y ∷ z ∷ zs) (suc k) v x last is shown =
     ap (λ es. volume_entry y ∷ es) (last_grown-set rows added (z ∷ zs) k v x (omega (arith, last)) is shown)
+
+-- where nothing could be taken out of a list, it is empty
+pub none_left : {A : Type 0} (xs : List A) → (1 ≤ length xs → false ≡ true) → xs ≡ []
+none_left [] some = refl
+none_left (x ∷ xs) some = let no = some (omega arith) in cc

@@ -34,10 +34,8 @@ fn release_all(space: &mut Space, actives: &mut Actives)
     ensures none { actives.new.items ≡ [] }
     ensures gives { GivesUp (flat_map (λ a. a.extents.numbers) actives.old.items) space.old space.new }
 {
-    for _ in 0..actives.len() {
-        if let Some(category) = actives.pop() {
-            release(space, category.extents);
-        }
+    while let Some(category) = actives.pop() {
+        release(space, category.extents);
     }
 }
 

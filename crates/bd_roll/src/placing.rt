@@ -51,10 +51,8 @@ fn place_all(actives: &mut Actives, space: &mut Space, splits: Splits)
     ensures gives { GivesUp (replaced (map kept_entry splits.items) (map open_entry actives.old.items)) space.old space.new }
 {
     let mut splits = splits;
-    for _ in 0..splits.len() {
-        if let Some(split) = splits.pop() {
-            place(actives, space, split);
-        }
+    while let Some(split) = splits.pop() {
+        place(actives, space, split);
     }
 }
 

@@ -1,67 +1,66 @@
-use Rattle.std.proofs.Common.{◌≡◌, ◌++◌, ◌∷◌, [], List, map, length, length-append, true, false, sym, ◌∙◌, ap, subst, arith}
+use Rattle.std.proofs.Common.{◌≡◌, ◌++◌, ◌∷◌, [], List, map, sym, ◌∙◌, ap, subst}
 use Rattle.std.specs.Prelude.{option_to_list}
-use Rattle.std.proofs.lemmas.List.{map-append, nil_from_length}
-use Rattle.bd_roll.specs.declared.step.SplitRow.{SplitRow}
+use Rattle.std.proofs.lemmas.List.{map-append}
 use Rattle.bd_roll.specs.Catalogue.{OpenEntry}
 use Rattle.bd_roll.specs.Giving.{AreOwned, GivesUp}
 use Rattle.bd_roll.specs.Shown.{open_entry}
 use Rattle.bd_roll.specs.Splitting.{KeptEntry, AreSplits, extents_at, in_place, put_in_place, replaced}
 use Rattle.bd_roll.specs.Steps.{kept_entry}
-use Rattle.bd_roll.proofs.GivenUp.{gives_both, gives_none, owned_first, owned_second}
+use Rattle.bd_roll.proofs.GivenUp.{gives_both, gives_none, none_left, owned_first, owned_second}
 use Rattle.bd_roll.proofs.InPlace.{LastSplit, last_split}
 use Rattle.bd_roll.proofs.placing.place_all.Goals as goal
-use Rattle.bd_roll.proofs.placing.place_all.Goals.{in-Some, in_default}
+use Rattle.bd_roll.proofs.placing.place_all.Goals.{In-Some, In_default}
 
--- the splits that are left, and the last of them
-popped : (old rest : List SplitRow) (x : SplitRow) → old ≡ rest ++ x ∷ [] → map kept_entry old ≡ map kept_entry rest ++ kept_entry x ∷ []
-popped old rest x is = ap (map kept_entry) is ∙ map-append kept_entry rest (x ∷ [])
+-- The last split, and the splits before it.
+popped : (c : In-Some) → map kept_entry c.loop-split.splits.items ≡ map kept_entry c.pop.new.self.items ++ kept_entry c.in-Some.split ∷ []
+popped c =
+    let rest = c.pop.new.self.items in
+    ap (map kept_entry) (c.pop.ensures.items ∙ ap (λ o. rest ++ option_to_list o) c.in-Some.is) ∙ map-append kept_entry rest (c.in-Some.split ∷ [])
+
+last : (c : In-Some) → LastSplit (map kept_entry c.pop.new.self.items) (kept_entry c.in-Some.split) (map open_entry c.loop-split.actives.items)
+last c =
+    let cs = map open_entry c.loop-split.actives.items in
+    last_split (map kept_entry c.pop.new.self.items) (kept_entry c.in-Some.split) cs (subst (λ xs. AreSplits xs cs) (popped c) c.loop-split.invariant.splits)
 
 pub place-requires-clause-differ : goal.place-requires-clause-differ
-place-requires-clause-differ c = c.loop.invariant.splits.differ
+place-requires-clause-differ c = c.loop-split.invariant.splits.differ
+
+-- What is owned: what the splits before it put out of place, and what it does.
+owned : (c : In-Some) → AreOwned c.loop-split.space
+    (replaced (map kept_entry c.pop.new.self.items) (put_in_place c.in-Some.split.start (kept_entry c.in-Some.split).kept (map open_entry c.loop-split.actives.items)) ++ extents_at c.in-Some.split.start (map open_entry c.loop-split.actives.items))
+owned c = subst (AreOwned c.loop-split.space) (ap (λ xs. replaced xs (map open_entry c.loop-split.actives.items)) (popped c) ∙ (last c).gives) c.loop-split.invariant.owned
 
 pub place-requires-clause-owned : goal.place-requires-clause-owned
 place-requires-clause-owned c =
-    let rest = c.pop.new.self.items in
-    let x : SplitRow = c.in-Some.split in
-    let cs : List OpenEntry = map open_entry c.loop.actives.items in
-    let es : List KeptEntry = map kept_entry rest in
-    let is = popped c.loop.splits.items rest x (c.pop.ensures.items ∙ ap (λ o. rest ++ option_to_list o) c.in-Some.is) in
-    let last : LastSplit es (kept_entry x) cs = last_split es (kept_entry x) cs (subst (λ xs. AreSplits xs cs) is c.loop.invariant.splits) in
-    owned_second c.loop.space (replaced es (put_in_place x.start (kept_entry x).kept cs)) (extents_at x.start cs)
-    (subst (AreOwned c.loop.space) (ap (λ xs. replaced xs cs) is ∙ last.gives) c.loop.invariant.owned)
+    let cs : List OpenEntry = map open_entry c.loop-split.actives.items in
+    let x = c.in-Some.split in
+    owned_second c.loop-split.space (replaced (map kept_entry c.pop.new.self.items) (put_in_place x.start (kept_entry x).kept cs)) (extents_at x.start cs) (owned (goal.at.place-requires-clause-owned c).In-Some)
 
-pub loop-preserved : goal.loop-preserved
-loop-preserved c =
-    elim c.match-pop.branch [
-      | in-Some w ↦
-          let rest = c.pop.new.self.items in
-          let x : SplitRow = w.in-Some.split in
-          let cs : List OpenEntry = map open_entry c.loop.actives.items in
-          let es : List KeptEntry = map kept_entry rest in
-          let items = c.pop.ensures.items ∙ ap (λ o. rest ++ option_to_list o) w.in-Some.is in
-          let is = popped c.loop.splits.items rest x items in
-          let put : List OpenEntry = put_in_place x.start (kept_entry x).kept cs in
-          let last : LastSplit es (kept_entry x) cs = last_split es (kept_entry x) cs (subst (λ xs. AreSplits xs cs) is c.loop.invariant.splits) in
-          let parts : replaced (map kept_entry c.loop.splits.items) cs ≡ replaced es put ++ extents_at x.start cs = ap (λ xs. replaced xs cs) is ∙ last.gives in
-          let now : put ≡ map open_entry c.match-pop.actives.items = sym (ap (λ l. map open_entry l.items) w.actives-is ∙ w.place.ensures.actives) in
-          let gives : GivesUp (extents_at x.start cs) c.loop.space c.match-pop.space = subst (GivesUp (extents_at x.start cs) c.loop.space) (sym w.space-is) w.place.ensures.gives in
-          record {
-            left = omega (arith, c.loop.invariant.left, ap (λ (xs : List SplitRow). length xs) items, length-append rest (x ∷ []));
-            splits = subst (AreSplits es) now last.splits;
-            placed = ap (in_place es) (sym now) ∙ sym last.placed ∙ ap (λ xs. in_place xs cs) (sym is) ∙ c.loop.invariant.placed;
-            owned = subst (λ xs. AreOwned c.match-pop.space (replaced es xs)) now (owned_first (replaced es put) (subst (AreOwned c.loop.space) parts c.loop.invariant.owned) gives);
-            gives = λ end then.
-                c.loop.invariant.gives end (subst (λ ns. GivesUp ns c.loop.space end) (sym parts) (gives_both gives (subst (λ xs. GivesUp (replaced es xs) c.match-pop.space end) (sym now) then)));
-          }
-      | in_default w ↦ let none : false ≡ true = w.in_default.ensures.some.1 (omega (arith, c.loop.invariant.left, c.len-end.ensures, c.loop-test.true)) in cc
-    ]
+pub loop-split-preserved : goal.loop-split-preserved
+loop-split-preserved c =
+    let at = (goal.at.loop-split-preserved c).In-Some in
+    let cs : List OpenEntry = map open_entry c.loop-split.actives.items in
+    let es : List KeptEntry = map kept_entry c.pop.new.self.items in
+    let now = sym c.place.ensures.actives in
+    let gives = c.place.ensures.gives in
+    record {
+      splits = subst (AreSplits es) now (last at).splits;
+      placed = ap (in_place es) (sym now) ∙ sym (last at).placed ∙ ap (λ xs. in_place xs cs) (sym (popped at)) ∙ c.loop-split.invariant.placed;
+      owned = subst (λ xs. AreOwned c.place.new.space (replaced es xs)) now (owned_first (replaced es (put_in_place c.in-Some.split.start (kept_entry c.in-Some.split).kept cs)) (owned at) gives);
+      gives = λ end then.
+          c.loop-split.invariant.gives end (subst (λ ns. GivesUp ns c.loop-split.space end) (sym (ap (λ xs. replaced xs cs) (popped at) ∙ (last at).gives))
+          (gives_both gives (subst (λ xs. GivesUp (replaced es xs) c.place.new.space end) (sym now) then)));
+    }
+
+-- In the end none is left.
+none : (c : In_default) → c.loop-split.splits.items ≡ []
+none c = none_left c.loop-split.splits.items c.in_default.ensures.some.1
 
 pub returns-clause-actives : goal.returns-clause-actives
 returns-clause-actives c =
-    let none : c.loop.splits.items ≡ [] = nil_from_length c.loop.splits.items (omega (arith, c.loop.invariant.left, c.len-end.ensures, c.loop-test.false)) in
-    ap (λ xs. in_place (map kept_entry xs) (map open_entry c.loop.actives.items)) (sym none) ∙ c.loop.invariant.placed
+    ap (λ xs. in_place (map kept_entry xs) (map open_entry c.loop-split.actives.items)) (sym (none (goal.at.returns-clause-actives c).In_default)) ∙ c.loop-split.invariant.placed
 
 pub returns-clause-gives : goal.returns-clause-gives
 returns-clause-gives c =
-    let none : c.loop.splits.items ≡ [] = nil_from_length c.loop.splits.items (omega (arith, c.loop.invariant.left, c.len-end.ensures, c.loop-test.false)) in
-    c.loop.invariant.gives c.loop.space (subst (λ xs. GivesUp (replaced (map kept_entry xs) (map open_entry c.loop.actives.items)) c.loop.space c.loop.space) (sym none) (gives_none c.loop.space))
+    c.loop-split.invariant.gives c.loop-split.space
+    (subst (λ xs. GivesUp (replaced (map kept_entry xs) (map open_entry c.loop-split.actives.items)) c.loop-split.space c.loop-split.space) (sym (none (goal.at.returns-clause-gives c).In_default)) (gives_none c.loop-split.space))
