@@ -177,7 +177,7 @@ module _ (found : Found) (h0 h1 : History) (agrees : Agrees found h0) (writes : 
     -- where the commit is made the store is arranged
     pub answers_named : (h2 : History) (T : Type 0) → T → (result : Result (Unit {0}) ReadFault) (found_now : Found) → OnErr result (result ≡ Err DiskFault) → OnOk result (found_now ≡ after) → OnOk result (T → IsMade found after h1 h2) →
         AnswersDue held found found_now h0 h2 result
-    answers_named h2 T told (Ok value) found_now fails is done = λ _. subst (λ f. IsArrangedFrom held found f (contents h0) (contents h2)) (sym is) (is_arranged (contents h2) (done told).kept)
+    answers_named h2 T told (Ok value) found_now fails is done = λ _. (subst (λ f. IsArrangedFrom held found f (contents h0) (contents h2)) (sym is) (is_arranged (contents h2) (done told).kept), (done told).settled)
     answers_named h2 T told (Err fault) found_now fails is done = subst (λ (r : Result (Unit {0}) ReadFault). AnswersDue held found found_now h0 h2 r) (sym fails) tt
 
     stops_named : (h2 : History) (shape : Shape) (st : VersionState) → Near (history shape st) → LeavesNow (Stands shape held st) h0 → LeavesEither found after h1 h2 → LeavesSince (Stands shape held st) h0 h2

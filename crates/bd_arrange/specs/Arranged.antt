@@ -2,7 +2,7 @@
 use Rattle.std.specs.Prelude.{◌≡◌, ◌≢◌, ℕ, ◌-◌, List, length, map, flat_map, Contains, Result, Ok, Err}
 use Rattle.bd_disk.specs.History.{History, contents}
 use Rattle.bd_disk.specs.Images.{Agree, InRange}
-use Rattle.bd_disk.specs.Made.{LeavesNow, LeavesSince}
+use Rattle.bd_disk.specs.Made.{IsSettled, LeavesNow, LeavesSince}
 use Rattle.bd_model.specs.Marks.{Near}
 use Rattle.bd_model.specs.Sizes.{extent_place}
 use Rattle.bd_model.specs.State.{VersionState, history}
@@ -86,9 +86,10 @@ pub record IsArrangedFrom (held : ℕ) (found after : Found) (old now : List ℕ
   pub sizes : after.sizes ≡ found.sizes
   pub catalogue : after.catalogue ≡ arranged_catalogue found.catalogue splits
 
--- where the disk tells: a store that waited is arranged, and a damage is of a header in what was due, or of a category
+-- where the disk tells: a store that waited is arranged, with all that was written synced, and a damage is of a header in what
+-- was due, or of a category
 abbrev pub AnswersDue : ℕ → Found → Found → History → History → Result (Unit {0}) ReadFault → Type 0
-AnswersDue held found after old new (Ok _) = found.catalogue.phase ≢ Settled → IsArrangedFrom held found after (contents old) (contents new)
+AnswersDue held found after old new (Ok _) = found.catalogue.phase ≢ Settled → IsArrangedFrom held found after (contents old) (contents new) × IsSettled new
 AnswersDue held found after old new (Err DiskFault) = Unit {0}
 AnswersDue held found after old new (Err (Damaged damage)) = IsDamageOfDue found damage old new
 AnswersDue held found after old new (Err OutOfMemory) = Unit {0}

@@ -46,7 +46,7 @@ use Rattle.bd_intake.specs.Causes.{FailsByTheirCounts}
 use Rattle.bd_intake.specs.Filling.{CountsMissing, LeavesFiles}
 use Rattle.bd_intake.specs.Firsts.{cut_in, new_by_mark}
 use Rattle.bd_arrange.proofs.Opens.{opens_staged}
-use Rattle.bd_store.specs.Attempts.{Scene, attempt, scene, KeepsVersions, SettlesBy, TakesSource, TellsFigures}
+use Rattle.bd_store.specs.Attempts.{Attempt, Scene, attempt, scene, KeepsVersions, RestsBy, SettlesBy, TakesSource, TellsFigures}
 use Rattle.bd_store.specs.Causes.{FailsOnlyByCount, StraysOnlyBy}
 use Rattle.bd_store.specs.Following.{EndsReady, Follows}
 use Rattle.bd_store.specs.Kept.{IsKept}
@@ -123,6 +123,12 @@ refused_step_to c (Full counted free kept) = refl
 refused_step_to c SourceFailed = refl
 refused_step_to c DiskFailed = tt
 refused_step_to c MemoryFailed = refl
+
+refused_rests : (a : Attempt) (fault : IntakeFault) → RestsBy a (refusal_of fault)
+refused_rests a (Full counted free kept) = tt
+refused_rests a SourceFailed = tt
+refused_rests a DiskFailed = tt
+refused_rests a MemoryFailed = tt
 
 refused_answer : (found : Found) (fault : IntakeFault) → is_full found ≡ false → AnswersByNumbers found (refusal_of fault)
 refused_answer found (Full counted free kept) goes = goes
@@ -261,6 +267,7 @@ module _ {D F : Type 0} (d : DiskGhosts D) (f : FilesGhosts F) (w : World) (foun
       writes = unowned told (Err fault) took;
       step = refused_step_to found.catalogue fault;
       reads = nothing_read took.disk told;
+      rests = refused_rests _ fault;
     };
     on_files = λ told. record {
       beside = took.files.same told;
@@ -371,6 +378,7 @@ module _ {D F : Type 0} (d : DiskGhosts D) (f : FilesGhosts F) (w : World) (foun
             writes = within disk3 found3 space3 (Ok answer) told is;
             step = subst (λ a. StepsTo found.catalogue found3.catalogue (Ok a)) says (staged.version.recipe.numbers, fresh_actives staged.fresh, ap (λ (s : Found). s.catalogue) is.made);
             reads = all_read disk3 found3 space3 (Ok answer) told is;
+            rests = subst (λ a. RestsBy (attempt (Backup name) (Ok a) before (scene end (with_files f (with_disk d w disk3) files2))) (Ok a)) says (is.done told).settled;
           };
           on_files = λ told. record { beside = took.files.same told; strays = strays_of _ _ _ _ (took.files.strays told); finished = tt; unfinished = took.files.unfinished told; spares = tt };
           on_both = λ told files_tell. record {
@@ -407,6 +415,7 @@ module _ {D F : Type 0} (d : DiskGhosts D) (f : FilesGhosts F) (w : World) (foun
             writes = within disk3 found3 space3 (Err DiskFault) told is;
             step = tt;
             reads = all_read disk3 found3 space3 (Err DiskFault) told is;
+            rests = tt;
           };
           on_files = λ told. record { beside = took.files.same told; strays = strays_of _ _ _ _ (took.files.strays told); finished = tt; unfinished = took.files.unfinished told; spares = tt };
           on_both = λ told files_tell. record {
@@ -434,7 +443,7 @@ follows_without_memory name s sound agrees goes = record {
   ends = tt;
   answer = goes;
   store = record { held = refl; versions = same_versions s.store; settles = tt; figures = tt };
-  on_disk = λ told. record { opens = opens_quiet (made_none _ s.world.disk); writes = made_none _ s.world.disk; step = refl; reads = reads_none s.world.disk };
+  on_disk = λ told. record { opens = opens_quiet (made_none _ s.world.disk); writes = made_none _ s.world.disk; step = refl; reads = reads_none s.world.disk; rests = tt };
   on_files = λ told. record { beside = refl; strays = record { later = omega arith; missing = inl refl }; finished = tt; unfinished = refl; spares = record { files = refl; unfinished = refl } };
   on_both = λ told files_tell. record { transfers = takes_nothing (λ s. tt) tt; step = memory_step (Backup name) s.store.held s.world.disk s.world.files; stops = safe_untouched (Backup name) s.store.held s.world.disk s.world.files OutOfMemory };
 }

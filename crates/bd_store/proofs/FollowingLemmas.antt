@@ -1,5 +1,5 @@
 -- A command that made the store ready meets its promise by what it does then.
-use Rattle.std.proofs.Common.{◌↔◌, true, false, ◌≡◌, ◌∙◌, ℕ, Bool, List, refl, sym, ap, subst, Result, Ok, Err}
+use Rattle.std.proofs.Common.{◌↔◌, true, false, ◌≡◌, ◌≢◌, ◌∙◌, ℕ, Bool, List, refl, sym, ap, subst, Result, Ok, Err}
 use Rattle.std.proofs.lemmas.Bool.{false_from_ne_true}
 use Rattle.bd_files.specs.World.{World, with_disk}
 use Rattle.bd_recipe.specs.Reading.{is_disk_fault_of_read}
@@ -8,20 +8,22 @@ use Rattle.bd_recipe.specs.declared.fault.ReadFault.TheVariants.{DiskFault as Re
 use Rattle.bd_disk.specs.Calls.{FailsByCount}
 use Rattle.bd_disk.specs.History.{History, contents}
 use Rattle.bd_disk.specs.Looks.{LooksOnlyAt}
+use Rattle.bd_disk.specs.Made.{IsSettled, WritesNothing}
 use Rattle.bd_disk.specs.Runs.{Works}
 use Rattle.bd_disk.specs.declared.disk.Disk.{Ghosts as DiskGhosts}
-use Rattle.bd_disk.proofs.Frames.{made_both, writes_wider}
+use Rattle.bd_disk.proofs.Frames.{made_both, still_settled, writes_wider}
 use Rattle.bd_disk.proofs.RunLemmas.{work_looked, work_written}
 use Rattle.bd_model.specs.declared.answer.Answer.{Answer}
 use Rattle.bd_model.specs.declared.command.Command.{Command}
 use Rattle.bd_model.specs.declared.layout.RecipeEntry.{RecipeEntry}
 use Rattle.bd_catalog.specs.Agreement.{Agrees}
 use Rattle.bd_catalog.specs.Opening.{Found}
-use Rattle.bd_model.specs.declared.layout.Phase.TheVariants.{Settled}
+use Rattle.bd_model.specs.declared.layout.Phase.{Phase}
+use Rattle.bd_model.specs.declared.layout.Phase.TheVariants.{Settled, Waiting}
 use Rattle.bd_recipe.specs.Marked.{Marked}
 use Rattle.bd_store.specs.Writes.{arranges}
 use Rattle.bd_arrange.specs.Arranged.{IsSpared}
-use Rattle.bd_store.specs.Attempts.{scene, Attempt, Meets, Scene, attempt, EndsFor, MayLook, NamesFor, TransfersByCommand, NewestEnds, ReadsByCommand, SparesTarget}
+use Rattle.bd_store.specs.Attempts.{scene, Attempt, Meets, Scene, attempt, EndsFor, MayLook, NamesFor, TransfersByCommand, NewestEnds, ReadsByCommand, RestsBy, SparesTarget}
 use Rattle.bd_store.specs.Deeds.{Deed, TakesIn, GivesBack, GivesUp, Settles, Checks, Tells, deed_of}
 use Rattle.bd_store.specs.Following.{Follows, IsMadeReady, IsMadeReadyOn, MakesReady, ReadiesFor}
 use Rattle.bd_store.specs.Naming.{NamesArranging}
@@ -30,12 +32,19 @@ use Rattle.bd_store.specs.Readying.{IsReady, Readies, ReadiesOn}
 use Rattle.bd_store.specs.Shown.{Shown}
 use Rattle.bd_store.specs.Steps.{KeepsFiles}
 use Rattle.bd_store.specs.Taken.{Source, TakesStream}
-use Rattle.bd_store.specs.Touches.{InArranging, ExpiryReads, IsByNumbers}
+use Rattle.bd_store.specs.Touches.{InArranging, ExpiryReads, IsByNumbers, is_waiting, waits}
 use Rattle.bd_store.specs.declared.fault.StoreFault.{StoreFault}
 use Rattle.bd_store.proofs.Behind.{answers_before, backup_reads, ready_settled, step_before, stops_before, then_no_looks, then_none, versions_before, writes_before}
 use Rattle.bd_store.proofs.CommandEnds.{gone_on, went_on, rests_not, by_end, by_ready, not_both}
 use Rattle.bd_store.proofs.Opens.{opens_behind}
 use Rattle.bd_store.proofs.Taken.{counted_before, newest_same, taken_before}
+
+-- a store that waited is synced once it is arranged, and another as it was before
+ready_rests : (found : Found) {h0 h1 : History} → (found.catalogue.phase ≡ Settled → WritesNothing h0 h1) → (found.catalogue.phase ≢ Settled → IsSettled h1) → (is_waiting found ≡ false → IsSettled h0) → IsSettled h1
+ready_rests found {h0} {h1} quiet arranged rested = by found.catalogue.phase refl where
+  by : (phase : Phase) → found.catalogue.phase ≡ phase → IsSettled h1
+  by Settled at = still_settled (quiet at) (rested (ap waits at))
+  by (Waiting cursor) at = arranged (λ settled. let no : Waiting cursor ≡ Settled = sym at ∙ settled in absurd (cc))
 
 module _ (disk files : Type 0) (command : Command) (before : Scene) (mid : Found) (worn : Bool) (h1 : History) (after : Scene) (neighbour : Marked) (result : Result Answer StoreFault)
     (makes : MakesReady before.store.found command) (agrees : disk → Agrees before.store.found before.world.disk) where
@@ -159,6 +168,17 @@ module _ (disk files : Type 0) (command : Command) (before : Scene) (mid : Found
       memory = λ is. record { files = is.files; unfinished = is.unfinished };
     }) result follows.ends
 
+    rests : disk → RestsBy whole result
+    rests told = by_end (λ e. RestsBy (attempt command result now after) e → RestsBy whole e) (record {
+      named = λ version bytes chunks fresh need is. is;
+      full = λ counted free held is. tt;
+      expired = λ version extents is. is;
+      arranged = λ owned free is rested. is (λ _. ready_rests before.store.found (readied told).readies.quiet (readied told).readies.answer.rests rested);
+      source = λ is. tt;
+      disk = λ is. tt;
+      memory = λ is. tt;
+    }) result follows.ends (follows.on_disk told).rests
+
     rested : arranges before.store.found command ≡ false → before.store.found.catalogue.phase ≡ Settled
     rested = ready_settled before.store.found (deed_of before.store.found command) makes
 
@@ -188,6 +208,7 @@ module _ (disk files : Type 0) (command : Command) (before : Scene) (mid : Found
         looks = looks told (deed_of before.store.found command) makes;
         damage = damage (deed_of before.store.found command) makes;
         recipe = recipe told (deed_of before.store.found command) makes;
+        rests = rests told;
       };
       on_files = λ told. record {
         beside = (follows.on_files told).beside;

@@ -218,6 +218,7 @@ module _ {D : Type 0} (d : DiskGhosts D) (w : World) (found : Found) (held : ℕ
       looks = looks_from _ {places = []} tt (nothing_read writes told);
       damage = tt;
       recipe = λ first. not_both first (lean found fits);
+      rests = (made told).settled;
     };
     on_files = λ told. record { beside = refl; strays = record { later = omega arith; missing = inl refl }; finished = tt; unfinished = refl; spares = tt };
     on_both = λ told files_tell. record {
@@ -247,6 +248,7 @@ module _ {D : Type 0} (d : DiskGhosts D) (w : World) (found : Found) (held : ℕ
       looks = looks_from _ {places = []} tt (nothing_read writes told);
       damage = tt;
       recipe = λ first. not_both first (lean found fits);
+      rests = tt;
     };
     on_files = λ told. record { beside = refl; strays = record { later = omega arith; missing = inl refl }; finished = tt; unfinished = refl; spares = tt };
     on_both = λ told files_tell. record {
@@ -334,6 +336,7 @@ lean_follows {disk} {files} {result} {before} {after} settled some meets =
               disk = λ read. (read no).1;
               memory = λ read. read no;
             }) result ends is.reads;
+            rests = is.rests;
           };
       on_files = meets.on_files;
       on_both = λ told files_tell. record { transfers = tt; step = (meets.on_both told files_tell).step; stops = (meets.on_both told files_tell).stops };

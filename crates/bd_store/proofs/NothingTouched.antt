@@ -9,7 +9,7 @@ use Rattle.bd_model.specs.declared.answer.Answer.{Answer}
 use Rattle.bd_model.specs.declared.command.Command.{Command}
 use Rattle.bd_catalog.specs.Agreement.{Agrees}
 use Rattle.bd_catalog.specs.Opening.{Found}
-use Rattle.bd_store.specs.Attempts.{Scene, Attempt, attempt, DamageByCommand, FinishesByCommand, TransfersByCommand, IsAnswerOf, KeepsVersions, Meets, MeetsCommon, ReadsByCommand, RecipeByCommand, SettlesBy, TellsFigures, WhereRestored, SparesTarget, TouchesNoFile, UnfinishesBut}
+use Rattle.bd_store.specs.Attempts.{Scene, Attempt, attempt, DamageByCommand, FinishesByCommand, TransfersByCommand, IsAnswerOf, KeepsVersions, Meets, MeetsCommon, ReadsByCommand, RecipeByCommand, RestsBy, SettlesBy, TellsFigures, WhereRestored, SparesTarget, TouchesNoFile, UnfinishesBut}
 use Rattle.bd_store.specs.Causes.{ByCount}
 use Rattle.bd_store.specs.Deeds.{deed_of, target_of}
 use Rattle.bd_store.specs.Shown.{Shown, SameVersions}
@@ -40,6 +40,14 @@ given_nothing P TargetFault = tt
 given_nothing P DiskFault = tt
 given_nothing P (Damaged damage) = tt
 given_nothing P OutOfMemory = tt
+
+-- after a fault nothing is said of what is synced
+pub rests_failed : (a : Attempt) (fault : StoreFault) → RestsBy a (Err fault)
+rests_failed a SourceFault = tt
+rests_failed a TargetFault = tt
+rests_failed a DiskFault = tt
+rests_failed a (Damaged damage) = tt
+rests_failed a OutOfMemory = tt
 
 -- where no file was touched, no target was
 pub spared : (disk : Type 0) (before now : World) (result : Result Answer StoreFault) → TouchesNoFile before now → SparesTarget disk before now result
@@ -90,6 +98,7 @@ module _ (command : Command) (result : Result Answer StoreFault) (s : Scene) whe
     pub reads : ReadsByCommand still command
     pub damage : DamageByCommand still command
     pub recipe : RecipeByCommand still command
+    pub rests : RestsBy still result
     pub step : StepsTo s.store.found.catalogue s.store.found.catalogue result
     pub arranging : arranges s.store.found command ≡ true → WritesArranging s.store.held s.store.found s.store.found command s.world.disk s.world.disk result
     pub finished : FinishesByCommand command result s.world.unfinished
@@ -110,6 +119,7 @@ module _ (command : Command) (result : Result Answer StoreFault) (s : Scene) whe
       looks = made_none _ s.world.disk;
       damage = is.damage;
       recipe = is.recipe;
+      rests = is.rests;
     };
     on_files = λ told. record {
       beside = files_stay (target_of command) s.world.files;

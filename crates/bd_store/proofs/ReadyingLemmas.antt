@@ -145,7 +145,8 @@ module _ {D : Type 0} (d : DiskGhosts D) (found : Found) (held : ℕ) (disk0 dis
         answer = record {
           recipe = newest_stays found mid neighbour.entries some (agrees_behind told) (work_written works told) same (recipe_behind told (is told));
           found_before = is told;
-          arranged = λ waits. subst (λ image. IsArrangedFrom held found mid image (contents h2)) (unchanged (quiet told)) (answers told waits);
+          arranged = λ waits. subst (λ image. IsArrangedFrom held found mid image (contents h2)) (unchanged (quiet told)) (answers told waits).0;
+          rests = λ waits. (answers told waits).1;
           reads = λ settled. subst (λ disk. ReadsOnly (newest_places found) h0 (d.history disk)) (sym (still settled)) (places told);
         };
         quiet = λ settled. subst (λ disk. WritesNothing h0 (d.history disk)) (sym (still settled)) (quiet told);

@@ -21,6 +21,7 @@ use Rattle.bd_store.specs.Following.{Follows}
 use Rattle.bd_store.specs.Shown.{AreFiguresOf, HasFigures, Shown}
 use Rattle.bd_store.specs.Steps.{IsOneStep}
 use Rattle.bd_store.specs.Stops.{IsSafeAtStops}
+use Rattle.bd_store.specs.Touches.{waits}
 use Rattle.bd_store.specs.declared.figures.Figures.{Figures}
 use Rattle.bd_store.proofs.CommandEnds.{rests_not}
 use Rattle.bd_store.proofs.NothingTouched.{common_untouched, meets_untouched, same_versions}
@@ -63,7 +64,7 @@ module _ {disk files : Type 0} (s : Scene) (figures : Figures) (sound : s.store.
     ends = tt;
     answer = tt;
     store = record { held = refl; versions = same_versions s.store; settles = settled; figures = (has.owned, has.free) };
-    on_disk = λ told. record { opens = opens_quiet (made_none _ s.world.disk); writes = made_none _ s.world.disk; step = refl; reads = reads_none s.world.disk };
+    on_disk = λ told. record { opens = opens_quiet (made_none _ s.world.disk); writes = made_none _ s.world.disk; step = refl; reads = reads_none s.world.disk; rests = λ rested. rested (ap waits settled) };
     on_files = λ told. record { beside = refl; strays = record { later = omega arith; missing = inl refl }; finished = tt; unfinished = refl; spares = tt };
     on_both = λ told files_tell. record {
       transfers = tt;
@@ -86,6 +87,7 @@ module _ {disk files : Type 0} (s : Scene) (figures : Figures) (sound : s.store.
         reads = λ _. refl;
         damage = tt;
         recipe = λ waiting. rests_not s.store.found waiting settled;
+        rests = λ rested. rested (ap waits settled);
         step = refl;
         arranging = λ waiting. rests_not s.store.found waiting settled;
         finished = tt;

@@ -7,7 +7,7 @@ use Rattle.bd_disk.specs.Made.{WritesNothing}
 use Rattle.bd_disk.specs.Runs.{Reads}
 use Rattle.bd_disk.specs.Trace.{ReadsOnly}
 use Rattle.bd_disk.specs.declared.disk.Disk.{Ghosts as DiskGhosts}
-use Rattle.bd_disk.proofs.Frames.{nothing_within, unchanged}
+use Rattle.bd_disk.proofs.Frames.{nothing_within, still_settled, unchanged}
 use Rattle.bd_disk.proofs.RunLemmas.{both_reads, looked, nothing_written, wider_reads}
 use Rattle.bd_files.specs.Files.{ChangesOnly, IsFinished, UnfinishesOnly}
 use Rattle.bd_files.specs.declared.files.Files.{Ghosts as FilesGhosts}
@@ -43,7 +43,7 @@ use Rattle.bd_store.specs.Writes.{StepsTo, WritesByCommand}
 use Rattle.bd_store.specs.declared.fault.StoreFault.{StoreFault}
 use Rattle.bd_store.specs.declared.fault.StoreFault.TheVariants.{DiskFault}
 use Rattle.bd_store.proofs.AskedVersion.{retained_is}
-use Rattle.bd_store.proofs.NothingTouched.{given_nothing, spared}
+use Rattle.bd_store.proofs.NothingTouched.{given_nothing, rests_failed, spared}
 use Rattle.bd_store.proofs.RestoreStep.{agrees_quiet, reading_names, reading_one_step, restored_content, restored_one_step, restored_safe, restored_once, restored_walks, walk_names, walk_one_step}
 use Rattle.bd_store.proofs.Quiet.{safe_quiet}
 use Rattle.bd_store.proofs.Opens.{opens_quiet, opens_unarranged}
@@ -153,6 +153,7 @@ module _ {D F : Type 0} (d : DiskGhosts D) (f : FilesGhosts F) (w : World) (foun
         looks = looked (wider_reads (InRestore found v) in_recipe is.disk) told;
         damage = reading_names found v (d.history disk0) (d.history disk1) told fault (is.entries told) is.seen;
         recipe = unread_ends fault is told;
+        rests = rests_failed (ended (Err (fault_of_reading fault)) worn disk1 files0) (fault_of_reading fault);
       };
       on_files = λ told. record {
         beside = record { others = λ other differ. refl };
@@ -221,6 +222,7 @@ module _ {D F : Type 0} (d : DiskGhosts D) (f : FilesGhosts F) (w : World) (foun
         looks = looked (reads (Ok given) ran) told;
         damage = tt;
         recipe = λ damage broken. let no : Err damage ≡ Ok plan.entries = sym broken ∙ read.entries told in absurd (cc);
+        rests = still_settled (nothing_written (reads (Ok given) ran) told);
       };
       on_files = λ told. record {
         beside = (changed_target ran.files told).1;
@@ -295,6 +297,7 @@ module _ {D F : Type 0} (d : DiskGhosts D) (f : FilesGhosts F) (w : World) (foun
         looks = looked (reads (Err fault) ran) told;
         damage = walk_names found v (d.history disk0) (d.history disk1) told plan (read.entries told) read.made.version (nothing_written read.disk told) (read.places told) (d.history disk2) fault met;
         recipe = λ damage broken. let no : Err damage ≡ Ok plan.entries = sym broken ∙ read.entries told in absurd (cc);
+        rests = rests_failed (ended (Err (fault_of_restore fault)) worn disk2 files2) (fault_of_restore fault);
       };
       on_files = λ told. record {
         beside = (changed_target ran.files told).1;

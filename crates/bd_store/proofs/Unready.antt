@@ -35,7 +35,7 @@ use Rattle.bd_store.specs.declared.fault.StoreFault.{StoreFault}
 use Rattle.bd_store.specs.declared.fault.StoreFault.TheVariants.{DiskFault}
 use Rattle.bd_store.proofs.Behind.{quiet_writing, ready_settled}
 use Rattle.bd_store.proofs.CommandEnds.{by_ready, gone_on, went_on, rests_not, first_two, not_both}
-use Rattle.bd_store.proofs.NothingTouched.{files_stay, given_nothing, spared, unfinished_stay}
+use Rattle.bd_store.proofs.NothingTouched.{files_stay, given_nothing, rests_failed, spared, unfinished_stay}
 use Rattle.bd_store.proofs.TaskMarks.{near_state}
 use Rattle.bd_store.proofs.Opens.{opens_before}
 use Rattle.bd_store.proofs.Taken.{takes_nothing}
@@ -261,6 +261,7 @@ module _ (disk files : Type 0) (command : Command) (before : Scene) (mid : Found
         looks = refusal_looks told (deed_of before.store.found command) makes;
         damage = refusal_names told (deed_of before.store.found command) makes;
         recipe = refusal_recipe told (deed_of before.store.found command) makes;
+        rests = rests_failed refusal (fault_of_reading fault);
       };
       on_files = λ told. record {
         beside = files_stay (target_of command) before.world.files;

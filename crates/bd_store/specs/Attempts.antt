@@ -3,7 +3,7 @@ use Rattle.std.specs.Prelude.{◌≡◌, ◌↔◌, ◌≤◌, ℕ, ◌+◌, tru
 use Rattle.std.specs.FinMap as map
 use Rattle.bd_disk.specs.History.{contents}
 use Rattle.bd_disk.specs.Looks.{LooksOnlyAt}
-use Rattle.bd_disk.specs.Made.{TouchesNothing, WritesOnly}
+use Rattle.bd_disk.specs.Made.{IsSettled, TouchesNothing, WritesOnly}
 use Rattle.bd_files.specs.Files.{Holds, IsFinished, Lacks, UnfinishesOnly}
 use Rattle.bd_files.specs.World.{World}
 use Rattle.bd_model.specs.FileMap.{FileMap}
@@ -265,6 +265,26 @@ EndsFor a Tells = Unit {0}
 abbrev pub RecipeByCommand : Attempt → Command → Type 0
 RecipeByCommand a command = EndsFor a (deed_of a.before.store.found command)
 
+-- Whether a stop now leaves the contents and nothing else: always where a version was named or given up and where the store was
+-- arranged, as before where nothing is written. What a backup wrote that lacked room may be lost.
+abbrev pub RestsAs : Kind → Attempt → Type 0
+RestsAs (Gained bytes chunks fresh) a = IsSettled a.after.world.disk
+RestsAs (Lost extents) a = IsSettled a.after.world.disk
+RestsAs Given a = IsSettled a.before.world.disk → IsSettled a.after.world.disk
+RestsAs (Figures owned free) a = (is_waiting a.before.store.found ≡ false → IsSettled a.before.world.disk) → IsSettled a.after.world.disk
+RestsAs (NoRoom counted free held) a = Unit {0}
+RestsAs ByNumbers a = IsSettled a.before.world.disk → IsSettled a.after.world.disk
+RestsAs Shows a = IsSettled a.before.world.disk → IsSettled a.after.world.disk
+RestsAs Elsewhere a = IsSettled a.before.world.disk → IsSettled a.after.world.disk
+
+abbrev pub RestsBy : Attempt → Result Answer StoreFault → Type 0
+RestsBy a (Ok answer) = RestsAs (kind_of answer) a
+RestsBy a (Err SourceFault) = Unit {0}
+RestsBy a (Err TargetFault) = Unit {0}
+RestsBy a (Err DiskFault) = Unit {0}
+RestsBy a (Err (Damaged damage)) = Unit {0}
+RestsBy a (Err OutOfMemory) = Unit {0}
+
 -- over every image
 pub record MeetsOnDisk (a : Attempt) : Type 0 where
   -- a stop at any moment leaves a whole catalogue: the one before, the arranged one, or the command's
@@ -274,6 +294,8 @@ pub record MeetsOnDisk (a : Attempt) : Type 0 where
   pub looks : LooksByCommand a a.command
   pub damage : DamageByCommand a a.command
   pub recipe : RecipeByCommand a a.command
+  -- behind an answer all that was written is synced
+  pub rests : RestsBy a a.result
 
 -- ---- where the files tell
 

@@ -13,7 +13,7 @@ use Rattle.bd_recipe.specs.Reading.{is_disk_fault_of_read}
 use Rattle.bd_recipe.specs.declared.fault.ReadFault.{ReadFault}
 use Rattle.bd_recipe.specs.declared.fault.ReadFault.TheVariants.{DiskFault as ReadDisk}
 use Rattle.bd_arrange.specs.Arranged.{IsSpared}
-use Rattle.bd_store.specs.Attempts.{Attempt, IsAnswerOf, KeepsStore, MeetsCommon, MeetsOnFiles, Scene, TransfersByCommand}
+use Rattle.bd_store.specs.Attempts.{Attempt, IsAnswerOf, KeepsStore, MeetsCommon, MeetsOnFiles, RestsBy, Scene, TransfersByCommand}
 use Rattle.bd_store.specs.Deeds.{Deed, TakesIn, GivesBack, GivesUp, Settles, Checks, Tells, deed_of}
 use Rattle.bd_store.specs.Opens.{KeepsReady}
 use Rattle.bd_store.specs.Readying.{Readies, ReadiesOn}
@@ -80,6 +80,7 @@ pub record FollowsOnDisk (a : Attempt) : Type 0 where
   pub writes : WritesReady a.before.store.found a.command a.before.world.disk a.after.world.disk
   pub step : StepsTo a.before.store.found.catalogue a.after.store.found.catalogue a.result
   pub reads : ReadsOnly [] a.before.world.disk a.after.world.disk
+  pub rests : RestsBy a a.result
 
 pub record FollowsOnBoth (a : Attempt) : Type 0 where
   pub transfers : TransfersByCommand a a.command a.result

@@ -1,7 +1,7 @@
 -- A store made ready for its next version: the newest recipe in memory, and the store arranged.
 use Rattle.std.specs.Prelude.{◌≡◌, ◌≢◌, ◌⊎◌, ◌≤◌, ℕ, Result, Ok, Err}
 use Rattle.bd_disk.specs.History.{History, contents}
-use Rattle.bd_disk.specs.Made.{WritesNothing}
+use Rattle.bd_disk.specs.Made.{IsSettled, WritesNothing}
 use Rattle.bd_disk.specs.Trace.{ReadsOnly}
 use Rattle.bd_model.specs.declared.damage.Damage.{Damage}
 use Rattle.bd_model.specs.declared.layout.Phase.TheVariants.{Settled}
@@ -33,12 +33,13 @@ Readies old new (Err DiskFault) = Unit {0}
 Readies old new (Err (Damaged damage)) = (new ≡ old) × (1 ≤ retained_in old.found.catalogue)
 Readies old new (Err OutOfMemory) = new ≡ old
 
--- where the disk tells: the recipe is the newest one, and a store that waited is arranged by it; of a settled store nothing else
--- is read
+-- where the disk tells: the recipe is the newest one, and a store that waited is arranged by it and synced; of a settled store
+-- nothing else is read
 pub record IsReadyOn (held : ℕ) (old new : Found) (neighbour : Marked) (before now : History) : Type 0 where
   pub recipe : IsNewestRecipe new (contents now) neighbour.entries
   pub found_before : IsNewestRecipe old (contents before) neighbour.entries
   pub arranged : old.catalogue.phase ≢ Settled → IsArrangedFrom held old new (contents before) (contents now)
+  pub rests : old.catalogue.phase ≢ Settled → IsSettled now
   pub reads : old.catalogue.phase ≡ Settled → ReadsOnly (newest_places old) before now
 
 -- a damage is of the newest recipe, or of an open category that was due

@@ -2,7 +2,7 @@ use Rattle.std.proofs.Common.{refl, Ok}
 use Rattle.bd_files.specs.World.{with_disk, with_files}
 use Rattle.bd_model.specs.declared.answer.Answer.{Answer}
 use Rattle.bd_model.specs.declared.command.Command.TheVariants.{List as Listing}
-use Rattle.bd_store.specs.Attempts.{scene, KeepsVersions, SettlesBy, TellsFigures}
+use Rattle.bd_store.specs.Attempts.{attempt, scene, KeepsVersions, RestsBy, SettlesBy, TellsFigures}
 use Rattle.bd_store.specs.Shown.{Shown}
 use Rattle.bd_store.specs.Writes.{StepsTo}
 use Rattle.bd_store.proofs.Listed.{as_list, listed_step, listed_stops}
@@ -28,6 +28,7 @@ returns-in-Ok g c = record {
         reads = refl;
         damage = tt;
         recipe = tt;
+        rests = as_list (λ a. RestsBy (attempt Listing (Ok a) here here) (Ok a)) answer c.in-Ok.ensures.lines (λ l rested. rested);
         step = as_list (λ a. StepsTo store.found.catalogue store.found.catalogue (Ok a)) answer c.in-Ok.ensures.lines (λ l. refl);
         arranging = λ no. absurd (cc no);
         finished = tt;
@@ -43,7 +44,7 @@ returns-in-Err g c = record {
       let here = scene c.args.self.now (with_files g.F.Files (with_disk g.D.Disk w c.args.disk.now) c.args.files.now) in
       meets_as c.in-List.is
       (meets_untouched _ _ _ c.requires.opened.sound c.requires.opened.agrees
-      (record { cause = refl; has_disk = tt; answer = refl; versions = same_versions c.args.self.now; settles = tt; figures = tt; reads = refl; damage = tt; recipe = tt; step = refl; arranging = λ no. absurd (cc no); finished = tt; transfers = tt })
+      (record { cause = refl; has_disk = tt; answer = refl; versions = same_versions c.args.self.now; settles = tt; figures = tt; reads = refl; damage = tt; recipe = tt; rests = tt; step = refl; arranging = λ no. absurd (cc no); finished = tt; transfers = tt })
       (λ told files_tell. memory_step _ _ _ _)
       (λ told files_tell. safe_untouched _ _ _ _ _));
 }

@@ -16,7 +16,7 @@ returns-then-retained-eq0 g c =
     let none : retained_in c.args.self.now.found.catalogue ≡ 0 = omega (arith, c.retained-retained.ensures, c.if-retained-eq0.true, ap (λ (s : Shown). retained_in s.found.catalogue) c.self.view_is) in
     record {
       meets = λ w. meets_untouched _ _ _ c.requires.opened.sound c.requires.opened.agrees
-          (record { cause = refl; has_disk = tt; answer = (none, refl); versions = same_versions c.args.self.now; settles = tt; figures = tt; reads = refl; damage = tt; recipe = λ first damage some broken. tt; step = refl; arranging = λ _. inr (tt, record { writes = made_none _ _; step = refl }); finished = tt; transfers = tt })
+          (record { cause = refl; has_disk = tt; answer = (none, refl); versions = same_versions c.args.self.now; settles = tt; figures = tt; reads = refl; damage = tt; recipe = λ first damage some broken. tt; rests = λ rested. rested; step = refl; arranging = λ _. inr (tt, record { writes = made_none _ _; step = refl }); finished = tt; transfers = tt })
           (λ told files_tell. refused_step _ _ _ _ _ (nothing_expires _ _ _ c.args.self.now.found (c.requires.opened.agrees told) none) refl (λ st phase. refl))
           (λ told files_tell. refused_stops _ _ _ _ _ (nothing_expires _ _ _ c.args.self.now.found (c.requires.opened.agrees told) none));
     }

@@ -11,7 +11,7 @@ returns-then-retained-eq0 g c =
     let none : retained_in c.args.self.now.found.catalogue ≡ 0 = ap (λ (s : Shown). retained_in s.found.catalogue) (sym c.self.view_is) ∙ sym c.retained-retained.ensures ∙ c.if-retained-eq0.true in
     record {
       meets = λ w. meets_untouched _ _ _ c.requires.opened.sound c.requires.opened.agrees
-          (record { cause = refl; has_disk = tt; answer = (none, refl); versions = same_versions c.args.self.now; settles = tt; figures = tt; reads = refl; damage = tt; recipe = λ damage is. tt; step = refl; arranging = λ no. absurd (cc no); finished = tt; transfers = tt })
+          (record { cause = refl; has_disk = tt; answer = (none, refl); versions = same_versions c.args.self.now; settles = tt; figures = tt; reads = refl; damage = tt; recipe = λ damage is. tt; rests = λ rested. rested; step = refl; arranging = λ no. absurd (cc no); finished = tt; transfers = tt })
           (λ told files_tell. refused_step _ _ _ _ _ (nothing_refuses _ _ _ _ _ c.args.self.now.found (c.requires.opened.agrees told) none) refl (λ st phase. refl))
           (λ told files_tell. refused_stops _ _ _ _ _ (nothing_refuses _ _ _ _ _ c.args.self.now.found (c.requires.opened.agrees told) none));
     }
@@ -34,6 +34,7 @@ returns-then-version-oldest g c =
             reads = refl;
             damage = tt;
             recipe = λ damage is. tt;
+            rests = λ rested. rested;
             step = refl;
             arranging = λ no. absurd (cc no);
             finished = tt;
