@@ -11,7 +11,7 @@ use Rattle.bd_session.specs.Ends.{EndsOnlyByCount, IsMetByCommand, session_cause
 use Rattle.bd_session.specs.Headline.{EndsWell, MeetsTheHeadline}
 use Rattle.bd_session.specs.Keeping.{ClocksRise, KeepsOthers, StoreGoesOn, StaysFinished, StraysOnlyFor, WritesByCommands}
 use Rattle.bd_session.specs.Promised.{HoldsPremise, start}
-use Rattle.bd_session.specs.Stops.{OpensAsStore, CataloguesStay}
+use Rattle.bd_session.specs.Stops.{OpensAsStore, CataloguesStay, StopsAtRest}
 use Rattle.bd_session.specs.Telling.{HandsAnswers}
 use Rattle.bd_session.specs.Turns.{Goes}
 
@@ -42,5 +42,7 @@ pub record MeetsSession (disk files sink : Type 0) (c : Course) (before now : Sc
   -- and where each image opened with the store's catalogue, a stop leaves that behind the last answer, or what the next command may
   -- leave
   pub catalogues : disk → OpensAsStore before → CataloguesStay goes
+  -- what was answered isn't lost by a stop
+  pub rests : disk → StopsAtRest disk files sink c.commands before
   -- no extent is held for readers, and disk and files tell
   pub honestly : disk → files → before.store.held ≡ 0 → MeetsHonestly c before.world now.world

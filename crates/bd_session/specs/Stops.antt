@@ -1,10 +1,11 @@
--- What the images that a stop may leave open with, whatever images they were before: whole catalogues.
-use Rattle.std.specs.Prelude.{◌≡◌, ◌⊎◌, ℕ, List, Some}
+-- What a stop leaves, whatever images there were before: whole catalogues, and behind most answers the contents alone.
+use Rattle.std.specs.Prelude.{◌≡◌, ◌⊎◌, ℕ, List, [], ◌∷◌, Some}
 use Rattle.bd_disk.specs.History.{contents}
-use Rattle.bd_disk.specs.Made.{LeavesNow, LeavesSince}
+use Rattle.bd_disk.specs.Made.{IsSettled, LeavesNow, LeavesSince}
 use Rattle.bd_model.specs.declared.answer.Answer.{Answer}
 use Rattle.bd_model.specs.declared.command.Command.{Command}
 use Rattle.bd_store.specs.Attempts.{Scene}
+use Rattle.bd_store.specs.Kinds.{Kind, Gained, Lost, Given, Figures, NoRoom, ByNumbers, Shows, Elsewhere, kind_of}
 use Rattle.bd_store.specs.Opens.{OpensOnEitherSide, OpensWith}
 use Rattle.bd_session.specs.Course.{Course, next_command}
 use Rattle.bd_session.specs.Turns.{Goes, AnsweredCommands}
@@ -24,3 +25,25 @@ OpensBehind c last now image =
 pub record CataloguesStay {disk files sink : Type 0} {c : Course} {first now : Scene} (goes : Goes disk files sink c first now) : Type 0 where
   pub answered : {answers : List Answer} {clocks : List ℕ} {at : Scene} → AnsweredCommands disk files sink c.commands first answers clocks at → OpensAsStore at
   pub ended : LeavesSince (OpensBehind c goes.last now) goes.last.world.disk now.world.disk
+
+-- A stop behind the answer leaves the contents and nothing else where a version was named or given up, elsewhere where `before`
+-- says so of the moment before it. What a backup wrote that lacked room may be lost.
+abbrev pub RestsBehind : Kind → Type 0 → Type 0
+RestsBehind (Gained bytes chunks fresh) before = Unit {0}
+RestsBehind (Lost extents) before = Unit {0}
+RestsBehind Given before = before
+RestsBehind (Figures owned free) before = before
+RestsBehind (NoRoom counted free held) before = ⊥
+RestsBehind ByNumbers before = before
+RestsBehind Shows before = before
+RestsBehind Elsewhere before = before
+
+-- and behind these answers, the first of them first
+abbrev pub RestsBehindAll : List Answer → Type 0 → Type 0
+RestsBehindAll [] before = before
+RestsBehindAll (answer ∷ answers) before = RestsBehindAll answers (RestsBehind (kind_of answer) before)
+
+-- Behind each answer a stop leaves the contents and nothing else, as the answers so far say.
+pub record StopsAtRest (disk files sink : Type 0) (commands : List Command) (first : Scene) : Type 0 where
+  pub each : {answers : List Answer} {clocks : List ℕ} {at : Scene} → AnsweredCommands disk files sink commands first answers clocks at →
+      RestsBehindAll answers (IsSettled first.world.disk) → IsSettled at.world.disk
