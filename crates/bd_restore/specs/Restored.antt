@@ -26,8 +26,8 @@ pub record HasGivenBack (found : Found) (plan : Planned) (image name : List ℕ)
   pub file : new ≡ map.insert old name (joined plan.entries (records_for found.sizes found.catalogue image plan.version))
   pub checked : HasChunks plan.entries (held new name)
 
--- The damage is one of a restore of the plan's version, and none of the recipe. Where the plan has the entries of its recipe, the bytes that it
--- names were read, they break its rule, and the restore came to it; and some row or entry of the walk doesn't hold.
+-- The damage is one of a restore of the plan's version, and not of its recipe. Where the plan has its recipe's entries, the
+-- bytes that it names were read, they break its rule, and the restore came to it; and some row or entry of the walk fails.
 pub record IsMetBy (found : Found) (plan : Planned) (damage : Damage) (old new : History) : Type 0 where
   pub part : IsOfVersion plan.version damage
   pub walked : ¬ IsOfRecipe damage
