@@ -47,21 +47,6 @@ pub(crate) struct Cut {
     pub(crate) archived: Tally,
 }
 
-impl Stretch {
-    // With another one behind it, which goes the same way.
-    fn with(self, more: Stretch) -> Stretch
-        requires chunks { self.chunks + more.chunks < 2 ^ 64 }
-        requires bytes { self.bytes + more.bytes < 2 ^ 64 }
-        ensures { result ≡ longer self more }
-    {
-        Stretch {
-            bytes: self.bytes + more.bytes,
-            chunks: self.chunks + more.chunks,
-            kept: self.kept,
-        }
-    }
-}
-
 impl Tally {
     // Of no record.
     fn none() -> Tally
@@ -128,7 +113,11 @@ fn put_stretch(stretches: &mut Sequence<Stretch>, more: Stretch) -> Result<(), O
         return Ok(());
     };
     if last.kept == more.kept {
-        stretches.push(last.with(more));
+        stretches.push(Stretch {
+            bytes: last.bytes + more.bytes,
+            chunks: last.chunks + more.chunks,
+            ..last
+        });
         return Ok(());
     }
     stretches.push(last);

@@ -35,31 +35,6 @@ unfolding upward
 all-upward P at zero each = tt
 all-upward P at (suc n) each = (each at (omega arith, omega arith), all-upward P (at + 1) n (λ place r. each place (omega (arith, r.0), omega (arith, r.1))))
 
-all-places : (P : ℕ → Type 0) (call : Call) → Looks P call → AllByRecursion P (places_of (shown call))
-all-places P (Put at bytes) looks = tt
-all-places P Flush looks = tt
-all-places P (Idle None) looks = tt
-all-places P (Idle (Some (Read at n))) looks = all-upward P at n looks
-all-places P (Idle (Some (Write at n))) looks = tt
-all-places P (Idle (Some Sync)) looks = tt
-
-all-both : (P : ℕ → Type 0) (xs ys : List ℕ) → AllByRecursion P xs → AllByRecursion P ys → AllByRecursion P (xs ++ ys)
-all-both P [] ys f g = g
-all-both P (x ∷ xs) ys f g = (f.0, all-both P xs ys f.1 g)
-
-all-going_on : (P : ℕ → Type 0) (calls : List Call) → AllByRecursion (Looks P) calls → AllByRecursion P (read_going_on calls)
-unfolding read_going_on
-all-going_on P [] all = tt
-all-going_on P (call ∷ calls) all = all-both P (read_going_on calls) (places_of (shown call)) (all-going_on P calls all.1) (all-places P call all.0)
-
--- what a run reads lies where it looks
-pub reads_within : {Places : ℕ → Type 0} {places : List ℕ} {a b : History} → LooksOnlyAt Places a b → ReadsOnly places a b → AllByRecursion Places places
-reads_within {Places} {places} {a} {b} f g =
-    let same : read_going_on f.calls ≡ places = append_cancel_left (reads a) _ _ (sym (reads_on a f.calls) ∙ ap reads (sym f.so) ∙ g.so) in
-    subst (AllByRecursion Places) same (all-going_on Places f.calls f.each)
-
--- ---- back from what was read
-
 from-upward : (P : ℕ → Type 0) (at n : ℕ) → AllByRecursion P (upward at n) → (place : ℕ) → InRange at n place → P place
 unfolding upward
 from-upward P at zero all place r = absurd (omega (arith, r.0, r.1))
@@ -69,13 +44,31 @@ from-upward P at (suc n) all place r =
     (λ (here : place ≤ at). subst P (omega (arith, here, r.0)) all.0)
     (cases_lt at place)
 
-from-places : (P : ℕ → Type 0) (call : Call) → AllByRecursion P (places_of (shown call)) → Looks P call
-from-places P (Put at bytes) all = tt
-from-places P Flush all = tt
-from-places P (Idle None) all = tt
-from-places P (Idle (Some (Read at n))) all = from-upward P at n all
-from-places P (Idle (Some (Write at n))) all = tt
-from-places P (Idle (Some Sync)) all = tt
+-- a call looks only where the places lie that it reads, and the other way round
+places_looks : (P : ℕ → Type 0) (call : Call) → (Looks P call → AllByRecursion P (places_of (shown call))) × (AllByRecursion P (places_of (shown call)) → Looks P call)
+places_looks P (Put at bytes) = (λ looks. tt, λ all. tt)
+places_looks P Flush = (λ looks. tt, λ all. tt)
+places_looks P (Idle None) = (λ looks. tt, λ all. tt)
+places_looks P (Idle (Some (Read at n))) = (all-upward P at n, from-upward P at n)
+places_looks P (Idle (Some (Write at n))) = (λ looks. tt, λ all. tt)
+places_looks P (Idle (Some Sync)) = (λ looks. tt, λ all. tt)
+
+all-both : (P : ℕ → Type 0) (xs ys : List ℕ) → AllByRecursion P xs → AllByRecursion P ys → AllByRecursion P (xs ++ ys)
+all-both P [] ys f g = g
+all-both P (x ∷ xs) ys f g = (f.0, all-both P xs ys f.1 g)
+
+all-going_on : (P : ℕ → Type 0) (calls : List Call) → AllByRecursion (Looks P) calls → AllByRecursion P (read_going_on calls)
+unfolding read_going_on
+all-going_on P [] all = tt
+all-going_on P (call ∷ calls) all = all-both P (read_going_on calls) (places_of (shown call)) (all-going_on P calls all.1) ((places_looks P call).0 all.0)
+
+-- what a run reads lies where it looks
+pub reads_within : {Places : ℕ → Type 0} {places : List ℕ} {a b : History} → LooksOnlyAt Places a b → ReadsOnly places a b → AllByRecursion Places places
+reads_within {Places} {places} {a} {b} f g =
+    let same : read_going_on f.calls ≡ places = append_cancel_left (reads a) _ _ (sym (reads_on a f.calls) ∙ ap reads (sym f.so) ∙ g.so) in
+    subst (AllByRecursion Places) same (all-going_on Places f.calls f.each)
+
+-- ---- back from what was read
 
 all-first : (P : ℕ → Type 0) (xs ys : List ℕ) → AllByRecursion P (xs ++ ys) → AllByRecursion P xs
 all-first P [] ys all = tt
@@ -88,7 +81,7 @@ all-last P (x ∷ xs) ys all = all-last P xs ys all.1
 from-going_on : (P : ℕ → Type 0) (calls : List Call) → AllByRecursion P (read_going_on calls) → AllByRecursion (Looks P) calls
 unfolding read_going_on
 from-going_on P [] all = tt
-from-going_on P (call ∷ calls) all = (from-places P call (all-last P (read_going_on calls) (places_of (shown call)) all), from-going_on P calls (all-first P (read_going_on calls) (places_of (shown call)) all))
+from-going_on P (call ∷ calls) all = ((places_looks P call).1 (all-last P (read_going_on calls) (places_of (shown call)) all), from-going_on P calls (all-first P (read_going_on calls) (places_of (shown call)) all))
 
 -- a run looks where the places lie that it reads
 pub looks_from : (Places : ℕ → Type 0) {places : List ℕ} {a b : History} → AllByRecursion Places places → ReadsOnly places a b → LooksOnlyAt Places a b

@@ -1,12 +1,11 @@
 -- The chunks that a state keeps and that commands read, from one command to the next.
-use Rattle.std.proofs.Common.{◌≡◌, ℕ, ◌+◌, true, false, cond, ◌&&◌, ◌||◌, List, [], ◌∷◌, ◌++◌, sym, ◌∙◌, ap, subst, map, flat_map, length, nat_eq, nat_le, nat_lt, Some, None, IfSome, option_map, unwrap_or, append_assoc, ◌-◌, ⊎_elim}
+use Rattle.std.proofs.Common.{◌≡◌, ℕ, ◌+◌, true, false, cond, ◌&&◌, ◌||◌, List, [], ◌∷◌, ◌++◌, sym, ◌∙◌, ap, subst, map, flat_map, length, nat_eq, nat_le, Some, None, IfSome, option_map, unwrap_or, append_assoc, ◌-◌, ⊎_elim}
 use Rattle.std.proofs.lemmas.List.{append-nil}
 use Rattle.std.proofs.lemmas.List.Folds.{flat_map-map}
 use Rattle.std.proofs.lemmas.Bool.{false≢true, or_left, or_right, or_cases}
 use Rattle.std.specs.FinMap as map
 use Rattle.bd_model.specs.declared.shape.Shape.{Shape}
-use Rattle.bd_model.specs.declared.answer.Answer.{Answer}
-use Rattle.bd_model.specs.declared.answer.Answer.TheVariants.{BackedUp, Expired, FullNumbers, FullVersions, FullExtents, NoVersion, NothingRetained}
+use Rattle.bd_model.specs.declared.answer.Answer.TheVariants.{Expired, FullNumbers, FullVersions, NoVersion, NothingRetained}
 use Rattle.bd_model.specs.declared.command.Command.{Command}
 use Rattle.bd_model.specs.declared.command.Command.TheVariants.{Backup, Restore, Expire, Reorganise, Scrub, List as Listing}
 use Rattle.bd_model.specs.Chunks.{chunks}
@@ -14,9 +13,9 @@ use Rattle.bd_model.specs.FileMap.{FileMap}
 use Rattle.bd_model.specs.Folds.{HeldCommand, chunks_read, all_read, given}
 use Rattle.bd_model.specs.History.{newest, oldest, retained, contains, version}
 use Rattle.bd_model.specs.Marks.{Distinct}
-use Rattle.bd_model.specs.Room.{counted, need, fresh}
 use Rattle.bd_model.specs.State.{Version, VersionState, history, cut_of, last_number, plain}
-use Rattle.bd_model.specs.Step.{Outcome, unchanged, restore, backup, free_extents, with_version, drop_oldest, expired_extents, step, emptied, fewer_by}
+use Rattle.bd_model.specs.Step.{Outcome, unchanged, restore, backup, drop_oldest, expired_extents, step, emptied, fewer_by}
+use Rattle.bd_model.proofs.StepLemmas.{either_backup}
 use Rattle.bd_model.specs.CommandLaws.{GivenChunksStayApart}
 use Rattle.bd_model.proofs.ChunkListLemmas.{contains-append}
 use Rattle.bd_model.proofs.FoldLemmas.{along}
@@ -61,15 +60,8 @@ module _ (shape : Shape) where
 
   leaves-backup : (held : ℕ) (s : VersionState) (files : FileMap) (stream : List ℕ) → Leaves s (chunks (cut_of shape) stream) (backup shape held s files stream)
   leaves-backup held s files stream =
-      let h = history shape s in
       let parts = chunks (cut_of shape) stream in
-      let free = free_extents shape held s in
-      let count = counted shape.extent h parts free in
-      elim (nat_lt free count) as (λ t. Leaves s parts (let result : Answer × VersionState = cond t (FullExtents count free held, s) (BackedUp (newest h + 1) (length stream) (length parts) (length (fresh h parts)) (need shape.extent h parts), with_version s stream) in
-      record { answer = result.0; state = result.1; files = files })) [
-        | true ↦ in_left (all_chunks s.versions) parts
-        | false ↦ pushed s.versions (plain stream)
-      ]
+      either_backup shape (Leaves s parts) held s files stream (λ more. in_left (all_chunks s.versions) parts) (λ few. pushed s.versions (plain stream))
 
   leaves : (held : ℕ) (s : VersionState) (files : FileMap) (command : Command) → IfSome (step shape held s files command) (Leaves s (chunks_read shape s files command))
   leaves held s files (Backup name) =

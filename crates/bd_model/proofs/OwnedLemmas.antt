@@ -1,24 +1,23 @@
 -- A settled store never owns more extents than there are.
-use Rattle.std.proofs.Common.{◌≡◌, ℕ, ◌+◌, ◌≤◌, true, false, cond, ◌&&◌, List, refl, sym, ap, subst, arith, map, length, nat_eq, nat_lt, nat_le, Some, None, IfSome, option_map, ⊎_elim}
+use Rattle.std.proofs.Common.{◌≡◌, ℕ, ◌+◌, ◌≤◌, true, false, cond, ◌&&◌, List, refl, sym, ap, subst, arith, map, length, nat_eq, nat_le, Some, None, IfSome, option_map, ⊎_elim}
 use Rattle.std.proofs.lemmas.Bool.{ltb-false, cases_lt, leb-false}
 use Rattle.std.specs.FinMap as map
 use Rattle.bd_model.specs.declared.shape.Shape.{Shape}
-use Rattle.bd_model.specs.declared.answer.Answer.{Answer}
-use Rattle.bd_model.specs.declared.answer.Answer.TheVariants.{BackedUp, Expired, FullNumbers, FullVersions, FullExtents, NoVersion, NothingRetained}
+use Rattle.bd_model.specs.declared.answer.Answer.TheVariants.{Expired, FullNumbers, FullVersions, NoVersion, NothingRetained}
 use Rattle.bd_model.specs.declared.command.Command.{Command}
 use Rattle.bd_model.specs.declared.command.Command.TheVariants.{Backup, Restore, Expire, Reorganise, Scrub, List as Listing}
 use Rattle.bd_model.specs.declared.layout.Phase.TheVariants.{Settled}
 use Rattle.bd_model.specs.Chunks.{chunks}
 use Rattle.bd_model.specs.FileMap.{FileMap}
 use Rattle.bd_model.specs.History.{newest, oldest, retained, no_versions}
-use Rattle.bd_model.specs.Room.{owned, need, counted, fresh}
+use Rattle.bd_model.specs.Room.{owned, need, counted}
 use Rattle.bd_model.specs.State.{VersionState, IsState, history, cut_of, last_number}
 use Rattle.bd_model.specs.Step.{unchanged, restore, backup, free_extents, with_version, drop_oldest, expired_extents, step, emptied, fewer_by, drop_versions}
 use Rattle.bd_model.specs.Laws.{grown, TakesOnlyTheFirst, RoomSuffices}
 use Rattle.bd_model.proofs.CountedLemmas.{counted-above}
 use Rattle.bd_model.proofs.ExpiryLemmas.{giving_up_takes_only_the_first, nothing_owned}
 use Rattle.bd_model.proofs.LawLemmas.{need-first, owned-settled}
-use Rattle.bd_model.proofs.StepLemmas.{length-history, history-grown}
+use Rattle.bd_model.proofs.StepLemmas.{either_backup, length-history, history-grown}
 
 module _ (shape : Shape) where
   -- the state's settled store has the extents that it owns
@@ -44,15 +43,11 @@ module _ (shape : Shape) where
       let h = history shape s in
       let parts = chunks (cut_of shape) stream in
       let free = free_extents shape held s in
-      let count = counted shape.extent h parts free in
-      let one : 1 ≤ shape.extent = omega (arith, shape.in_range.extent_low) in
-      elim (nat_lt free count) as (λ t. nat_lt free count ≡ t → Fits (let result : Answer × VersionState = cond t (FullExtents count free held, s) (BackedUp (newest h + 1) (length stream) (length parts) (length (fresh h parts)) (need shape.extent h parts), with_version s stream) in result.1)) [
-        | true ↦ λ e. fits
-        | false ↦ λ e.
-            let few : count ≤ free = ltb-false free count e in
-            let exact = counted-above shape.extent h one parts free in
-            fits-pushed held s stream is fits (⊎_elim (λ more. absurd (omega (arith, exact.1 more))) (λ le. le) (cases_lt free (need shape.extent h parts)))
-      ] refl
+      let exact = counted-above shape.extent h (omega (arith, shape.in_range.extent_low)) parts free in
+      either_backup shape (λ o. Fits o.state) held s files stream (λ more. fits)
+      (λ few.
+      let enough : counted shape.extent h parts free ≤ free = ltb-false free _ few in
+      fits-pushed held s stream is fits (⊎_elim (λ more. absurd (omega (arith, exact.1 more))) (λ le. le) (cases_lt free (need shape.extent h parts))))
 
   fits-dropped : (d : ℕ) (s : VersionState) → 1 ≤ d → Fits s → Fits (drop_versions d s)
   fits-dropped d s some fits =

@@ -20,7 +20,7 @@ use Rattle.bd_model.specs.Room.{counted, need, fresh}
 use Rattle.bd_model.specs.CommandLaws.{Keeps}
 use Rattle.bd_model.specs.Laws.{BackupsGrowTheHistory, grown}
 use Rattle.std.proofs.lemmas.Option.{IfSome_then}
-use Rattle.bd_model.specs.Step.{unchanged, restore, expired_extents, step, backup, free_extents, drop_oldest, with_version, next_start, phase_after, phase_after_step, without_room, emptied, fewer_by, drop_versions}
+use Rattle.bd_model.specs.Step.{Outcome, unchanged, restore, expired_extents, step, backup, free_extents, drop_oldest, with_version, next_start, phase_after, phase_after_step, without_room, emptied, fewer_by, drop_versions}
 use Rattle.bd_model.proofs.ListLemmas.{IfSome-find_range_with_len}
 
 module _ (shape : Shape) where
@@ -56,17 +56,31 @@ module _ (shape : Shape) where
             (omega arith, omega arith, omega arith)
       ] refl
 
-  keeps-backup : (held : ℕ) (s : VersionState) (files : FileMap) (stream : List ℕ) → IsState s → newest (history shape s) ≢ last_number → Keeps shape s (backup shape held s files stream)
-  keeps-backup held s files stream is below =
+  -- a backup where numbers and versions are left is refused, or done
+  pub either_backup : (P : Outcome → Type 0) (held : ℕ) (s : VersionState) (files : FileMap) (stream : List ℕ) →
       let h = history shape s in
       let parts = chunks (cut_of shape) stream in
       let free = free_extents shape held s in
       let count = counted shape.extent h parts free in
-      elim (nat_lt free count) as (λ t. Keeps shape s (let result : Answer × VersionState = cond t (FullExtents count free held, s) (BackedUp (newest h + 1) (length stream) (length parts) (length (fresh h parts)) (need shape.extent h parts), with_version s stream) in
+      (nat_lt free count ≡ true → P (unchanged s files (FullExtents count free held))) →
+      (nat_lt free count ≡ false → P (record { answer = BackedUp (newest h + 1) (length stream) (length parts) (length (fresh h parts)) (need shape.extent h parts); state = with_version s stream; files = files })) →
+      P (backup shape held s files stream)
+  either_backup P held s files stream refused done =
+      let h = history shape s in
+      let parts = chunks (cut_of shape) stream in
+      let free = free_extents shape held s in
+      let count = counted shape.extent h parts free in
+      elim (nat_lt free count) as (λ t. nat_lt free count ≡ t → P (let result : Answer × VersionState = cond t (FullExtents count free held, s) (BackedUp (newest h + 1) (length stream) (length parts) (length (fresh h parts)) (need shape.extent h parts), with_version s stream) in
       record { answer = result.0; state = result.1; files = files })) [
-        | true ↦ record { state = is; phase = λ phase k. tt }
-        | false ↦ record { state = IsState-pushed s stream is below; phase = λ phase k. IsPhase-pushed s stream is }
-      ]
+        | true ↦ refused
+        | false ↦ done
+      ] refl
+
+  keeps-backup : (held : ℕ) (s : VersionState) (files : FileMap) (stream : List ℕ) → IsState s → newest (history shape s) ≢ last_number → Keeps shape s (backup shape held s files stream)
+  keeps-backup held s files stream is below =
+      either_backup (Keeps shape s) held s files stream
+      (λ more. record { state = is; phase = λ phase k. tt })
+      (λ few. record { state = IsState-pushed s stream is below; phase = λ phase k. IsPhase-pushed s stream is })
 
   IsState-dropped : (d : ℕ) (s : VersionState) → IsState s → IsState (drop_versions d s)
   IsState-dropped d s is =

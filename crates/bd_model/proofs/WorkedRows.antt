@@ -241,40 +241,6 @@ abbrev after_expiry : VersionState
 after_expiry = record after_three { expired = 1 }
 
 module _ (files : FileMap) (x y z : List ℕ) (in_x : map.get files x ≡ Some (a ++ b ++ c)) (in_y : map.get files y ≡ Some (a ++ c ++ d)) (in_z : map.get files z ≡ Some (b ++ a ++ d)) where
-  backup_one : step small 0 empty files (Backup x) ≡ outcome (BackedUp 1 12 3 3 4) after_one files
-  unfolding need owned reserve_left counted
-  backup_one = rw in_x (simp pieces)
-
-  backup_two : step small 0 after_one files (Backup y) ≡ outcome (BackedUp 2 12 3 1 6) after_two files
-  unfolding need owned reserve_left counted
-  backup_two = rw in_y (simp pieces)
-
-  arrange_two : step small 0 after_two files Reorganise ≡ outcome (Arranged 8 8) after_two files
-  unfolding need owned reserve_left counted
-  arrange_two = simp pieces
-
-  backup_three : step small 0 after_two files (Backup z) ≡ outcome (BackedUp 3 12 3 1 5) after_three files
-  unfolding need owned reserve_left counted
-  backup_three = rw in_z (simp pieces)
-
-  arrange_three : step small 0 after_three files Reorganise ≡ outcome (Arranged 11 5) after_three files
-  unfolding need owned reserve_left counted
-  arrange_three = simp pieces
-
-  list_three : step small 0 after_three files Listing ≡ outcome (Listed (record { items = line_for 1 12 3 3 ∷ line_for 2 12 3 1 ∷ line_for 3 12 3 1 ∷ []; spare = 0 })) after_three files
-  list_three = simp pieces
-
-  expire_first : step small 0 after_three files Expire ≡ outcome (Expired 1 3) after_expiry files
-  unfolding need owned reserve_left counted
-  expire_first = simp pieces
-
-  arrange_rest : step small 0 after_expiry files Reorganise ≡ outcome (Arranged 8 8) after_expiry files
-  unfolding need owned reserve_left counted
-  arrange_rest = simp pieces
-
-  restore_given_up : step small 0 after_expiry files (Restore 1 x) ≡ outcome (NoVersion 1 2 3) after_expiry files
-  restore_given_up = refl
-
   scrub_three : step small 0 after_three files Scrub ≡ outcome (Scrubbed (record { records = 5; entries = 9; damaged = 0; findings = record { items = []; spare = 0 } })) after_three files
   scrub_three = simp pieces
 
@@ -282,6 +248,7 @@ module _ (files : FileMap) (x y z : List ℕ) (in_x : map.get files x ≡ Some (
   three_versions : answers_of small empty files (unheld (Backup x ∷ Backup y ∷ Reorganise ∷ Backup z ∷ Reorganise ∷ Listing ∷ Expire ∷ Reorganise ∷ Restore 1 x ∷ []))
       ≡ BackedUp 1 12 3 3 4 ∷ BackedUp 2 12 3 1 6 ∷ Arranged 8 8 ∷ BackedUp 3 12 3 1 5 ∷ Arranged 11 5
       ∷ Listed (record { items = line_for 1 12 3 3 ∷ line_for 2 12 3 1 ∷ line_for 3 12 3 1 ∷ []; spare = 0 }) ∷ Expired 1 3 ∷ Arranged 8 8 ∷ NoVersion 1 2 3 ∷ []
+  unfolding need owned reserve_left counted
   three_versions =
       in_a_row small files empty
       (did (Backup x) (BackedUp 1 12 3 3 4) after_one
@@ -294,7 +261,7 @@ module _ (files : FileMap) (x y z : List ℕ) (in_x : map.get files x ≡ Some (
       ∷ did Reorganise (Arranged 8 8) after_expiry
       ∷ did (Restore 1 x) (NoVersion 1 2 3) after_expiry
       ∷ [])
-      (backup_one, (backup_two, (arrange_two, (backup_three, (arrange_three, (list_three, (expire_first, (arrange_rest, (restore_given_up, tt)))))))))
+      (rw in_x (simp pieces), (rw in_y (simp pieces), (simp pieces, (rw in_z (simp pieces), (simp pieces, (simp pieces, (simp pieces, (simp pieces, (refl, tt)))))))))
 
   -- the same stream again, and one chunk three times
   backup_again : step small 0 after_one files (Backup x) ≡ outcome (BackedUp 2 12 3 0 2) (state_of ((a ++ b ++ c) ∷ (a ++ b ++ c) ∷ [])) files
@@ -302,19 +269,12 @@ module _ (files : FileMap) (x y z : List ℕ) (in_x : map.get files x ≡ Some (
   backup_again = rw in_x (simp pieces)
 
   -- a store that was emptied goes on with the numbers
-  expire_only : step small 0 after_one files Expire ≡ outcome (Expired 1 4) emptied_state files
-  unfolding need owned reserve_left counted
-  expire_only = simp pieces
-
-  backup_after_emptied : step small 0 emptied_state files (Backup x) ≡ outcome (BackedUp 2 12 3 3 4) refilled files
-  unfolding need owned reserve_left counted
-  backup_after_emptied = rw in_x (simp pieces)
-
   emptied_between : answers_of small empty files (unheld (Backup x ∷ Expire ∷ Backup x ∷ [])) ≡ BackedUp 1 12 3 3 4 ∷ Expired 1 4 ∷ BackedUp 2 12 3 3 4 ∷ []
+  unfolding need owned reserve_left counted
   emptied_between =
       in_a_row small files empty
       (did (Backup x) (BackedUp 1 12 3 3 4) after_one ∷ did Expire (Expired 1 4) emptied_state ∷ did (Backup x) (BackedUp 2 12 3 3 4) refilled ∷ [])
-      (backup_one, (expire_only, (backup_after_emptied, tt)))
+      (rw in_x (simp pieces), (simp pieces, (rw in_x (simp pieces), tt)))
 
   -- too little room for the second version, and just enough
   backup_in_nine : step nine 0 after_one files (Backup y) ≡ outcome (FullExtents 6 5 0) after_one files
@@ -366,23 +326,8 @@ module _ (files : FileMap) (x y : List ℕ) where
 
   -- empty files: the fifth is one version too many
   module _ (there : map.get files x ≡ Some []) where
-    backup_nothing : step small 0 empty files (Backup x) ≡ outcome (BackedUp 1 0 0 0 0) (state_of ([] ∷ [])) files
-    unfolding need owned reserve_left counted
-    backup_nothing = rw there (simp pieces)
-
-    backup_nothing_2 : step small 0 (state_of ([] ∷ [])) files (Backup x) ≡ outcome (BackedUp 2 0 0 0 0) (state_of ([] ∷ [] ∷ [])) files
-    unfolding need owned reserve_left counted
-    backup_nothing_2 = rw there (simp pieces)
-
-    backup_nothing_3 : step small 0 (state_of ([] ∷ [] ∷ [])) files (Backup x) ≡ outcome (BackedUp 3 0 0 0 0) (state_of ([] ∷ [] ∷ [] ∷ [])) files
-    unfolding need owned reserve_left counted
-    backup_nothing_3 = rw there (simp pieces)
-
-    backup_nothing_4 : step small 0 (state_of ([] ∷ [] ∷ [] ∷ [])) files (Backup x) ≡ outcome (BackedUp 4 0 0 0 0) (state_of ([] ∷ [] ∷ [] ∷ [] ∷ [])) files
-    unfolding need owned reserve_left counted
-    backup_nothing_4 = rw there (simp pieces)
-
     five_versions : answers_of small empty files (unheld (Backup x ∷ Backup x ∷ Backup x ∷ Backup x ∷ Backup x ∷ [])) ≡ BackedUp 1 0 0 0 0 ∷ BackedUp 2 0 0 0 0 ∷ BackedUp 3 0 0 0 0 ∷ BackedUp 4 0 0 0 0 ∷ FullVersions 4 ∷ []
+    unfolding need owned reserve_left counted
     five_versions =
         in_a_row small files empty
         (did (Backup x) (BackedUp 1 0 0 0 0) (state_of ([] ∷ []))
@@ -391,7 +336,7 @@ module _ (files : FileMap) (x y : List ℕ) where
         ∷ did (Backup x) (BackedUp 4 0 0 0 0) (state_of ([] ∷ [] ∷ [] ∷ [] ∷ []))
         ∷ did (Backup x) (FullVersions 4) (state_of ([] ∷ [] ∷ [] ∷ [] ∷ []))
         ∷ [])
-        (backup_nothing, (backup_nothing_2, (backup_nothing_3, (backup_nothing_4, (refl, tt)))))
+        (rw there (simp pieces), (rw there (simp pieces), (rw there (simp pieces), (rw there (simp pieces), (refl, tt)))))
 
 -- The lines of answers.
 lines_of_backups : map answer_text (BackedUp 1 12 3 3 4 ∷ BackedUp 2 12 3 1 6 ∷ BackedUp 1 0 0 0 0 ∷ [])

@@ -20,7 +20,7 @@ use Rattle.bd_roll.specs.Catalogue.{Catalogue, VolumeEntry, bytes_of_rows, oldes
 use Rattle.bd_catalog.specs.Rows.{RowPlace, begun_by, row_place, rows_from, rows_in, volume_rows}
 use Rattle.bd_roll.specs.Rules.{fits_eight, obeys, row_holds, volume_holds}
 use Rattle.bd_catalog.proofs.StandingFound.{numbers-each, obeys-each}
-use Rattle.bd_volume.specs.Pieces.{closed_rows}
+use Rattle.bd_volume.specs.Pieces.{closed_rows, rows_closed_from}
 
 pub begun-append : (v : ℕ) (xs ys : List RowPlace) → begun_by v (xs ++ ys) ≡ begun_by v xs ++ begun_by v ys
 begun-append v xs ys = filter-append (λ (p : RowPlace). nat_le p.row.start v) xs ys
@@ -123,8 +123,8 @@ module _ (c : Catalogue) (v n : ℕ) (low : v ≤ n) where
       ∙ flat_map-append (volume_rows c) (numbers v n) (numbers (n + 1) (c.newest - 1))
       ∙ ap (λ l. l ++ flat_map (volume_rows c) (numbers (n + 1) (c.newest - 1))) volumes_next
 
--- the numbers of all volumes from v on
-pub all_numbers : (s : Sizes) (c : Catalogue) (v n : ℕ) → IsTrue (obeys s c) → oldest_in c ≤ v → v ≤ n → n ≡ c.newest → range_with_len v (n - v) ≡ numbers v (c.newest - 1)
-all_numbers s c v n rules old low is =
+-- the rows of all volumes from v on
+pub all_rows : (s : Sizes) (c : Catalogue) (v n : ℕ) → IsTrue (obeys s c) → oldest_in c ≤ v → v ≤ n → n ≡ c.newest → flat_map (volume_rows c) (range_with_len v (n - v)) ≡ rows_closed_from c v
+all_rows s c v n rules old low is =
     let size : n - v ≡ c.newest - 1 + 1 - v = omega (arith, oldest_some s c rules) in
-    ap (range_with_len v) size
+    ap (λ k. flat_map (volume_rows c) (range_with_len v k)) size

@@ -6,7 +6,7 @@ use Rattle.bd_catalog.specs.Rows.{volume_rows}
 use Rattle.bd_roll.specs.Shown.{volume_entry}
 use Rattle.bd_volume.specs.Pieces.{closed_rows, pieces_of}
 use Rattle.bd_volume.proofs.PieceLemmas.{put_behind}
-use Rattle.bd_volume.proofs.RowLists.{all_numbers, length-closed, volumes_next, volumes_rest}
+use Rattle.bd_volume.proofs.RowLists.{all_rows, length-closed, volumes_next, volumes_rest}
 use Rattle.bd_volume.proofs.walk.put_volumes.Goals as goal
 
 pub put_volume-requires-clause-spare : goal.put_volume-requires-clause-spare
@@ -51,11 +51,8 @@ loop-number-init c =
 
 pub returns : goal.returns
 returns c =
-    let s = c.args.catalog.now.found.sizes in
-    let cat = c.args.catalog.now.found.catalogue in
-    let v = c.args.version in
-    let all : range_with_len v (c.loop-number.number - v) ≡ numbers v (cat.newest - 1) = all_numbers s cat v c.loop-number.number c.requires.rules c.requires.oldest (omega arith) (omega (arith, c.loop-number-test.false, c.newest-number-end.ensures)) in
+    let all = all_rows c.args.catalog.now.found.sizes c.args.catalog.now.found.catalogue c.args.version c.loop-number.number c.requires.rules c.requires.oldest (omega arith) (omega (arith, c.loop-number-test.false, c.newest-number-end.ensures)) in
     record {
-      items = c.loop-number.invariant.items ∙ ap (λ l. c.args.pieces.now.items ++ pieces_of v (flat_map (volume_rows cat) l)) all;
-      spare = subst (λ l. c.args.pieces.now.spare ≤ c.loop-number.pieces.spare + length (flat_map (volume_rows cat) l)) all c.loop-number.invariant.spare;
+      items = c.loop-number.invariant.items ∙ ap (λ l. c.args.pieces.now.items ++ pieces_of c.args.version l) all;
+      spare = subst (λ l. c.args.pieces.now.spare ≤ c.loop-number.pieces.spare + length l) all c.loop-number.invariant.spare;
     }

@@ -1,10 +1,9 @@
 use Rattle.std.proofs.Common.{◌≡◌, ◌+◌, ◌-◌, length, length-append, ◌∙◌, ap, arith}
 use Rattle.std.proofs.lemmas.List.{length-map}
 use Rattle.std.specs.List.{flat_map, range_with_len}
-use Rattle.bd_model.specs.Chunks.{numbers}
 use Rattle.bd_catalog.specs.Rows.{volume_rows}
 use Rattle.bd_roll.specs.Shown.{open_entry, volume_entry}
-use Rattle.bd_volume.proofs.RowLists.{all_numbers, length-closed, volumes_next}
+use Rattle.bd_volume.proofs.RowLists.{all_rows, length-closed, volumes_next}
 use Rattle.bd_volume.proofs.walk.rows_ahead.Goals as goal
 
 pub loop-number-init : goal.loop-number-init
@@ -27,8 +26,6 @@ loop-number-preserved c =
 
 pub returns : goal.returns
 returns c =
-    let s = c.args.catalog.now.found.sizes in
-    let cat = c.args.catalog.now.found.catalogue in
-    let v = c.args.version in
-    let all : range_with_len v (c.loop-number.number - v) ≡ numbers v (cat.newest - 1) = all_numbers s cat v c.loop-number.number c.requires.rules c.requires.oldest (omega arith) (omega (arith, c.loop-number-test.false, c.newest-number-end.ensures)) in
-    c.loop-number.invariant ∙ ap (λ l. length (flat_map (volume_rows cat) l) + length cat.actives) all
+    c.loop-number.invariant
+    ∙ ap (λ l. length l + length c.args.catalog.now.found.catalogue.actives)
+    (all_rows c.args.catalog.now.found.sizes c.args.catalog.now.found.catalogue c.args.version c.loop-number.number c.requires.rules c.requires.oldest (omega arith) (omega (arith, c.loop-number-test.false, c.newest-number-end.ensures)))
