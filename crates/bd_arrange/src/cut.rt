@@ -11,7 +11,7 @@ ghost use Rattle.bd_roll.specs.Rules.{active_holds};
 ghost use Rattle.bd_roll.specs.Shown.{open_entry};
 ghost use Rattle.bd_recipe.specs.Reading.{IfDamaged, is_disk_fault_of_read};
 ghost use Rattle.bd_volume.specs.Headers.{IsRefusedAt};
-ghost use Rattle.bd_arrange.specs.Cuts.{AddsUp, HasRoomFor, InCategory, IsCutOf, IsDamageIn, IsFoundAt, IsInside, IsRecord, Joins, PutsStretch, TellsApart, read_fault_of, longer, more_of};
+ghost use Rattle.bd_arrange.specs.Cuts.{AddsUp, HasRoomFor, InCategory, IsCutOf, IsDamageIn, IsFoundAt, IsInside, IsRecord, Joins, PutsStretch, TellsApart, read_fault_of, more_of};
 
 use bd_catalog::ActiveCategory;
 use bd_category::{CategoryFault, read_header};
