@@ -42,7 +42,7 @@ pub record MeetsSession (disk files sink : Type 0) (c : Course) (before now : Sc
   -- and where each image opened with the store's catalogue, a stop leaves that behind the last answer, or what the next command may
   -- leave
   pub catalogues : disk → OpensAsStore before → CataloguesStay goes
-  -- what was answered isn't lost by a stop
+  -- and a stop leaves the contents and nothing else, as the answers so far say
   pub rests : disk → StopsAtRest disk files sink c.commands before
   -- no extent is held for readers, and disk and files tell
   pub honestly : disk → files → before.store.held ≡ 0 → MeetsHonestly c before.world now.world

@@ -294,7 +294,7 @@ pub record MeetsOnDisk (a : Attempt) : Type 0 where
   pub looks : LooksByCommand a a.command
   pub damage : DamageByCommand a a.command
   pub recipe : RecipeByCommand a a.command
-  -- behind an answer all that was written is synced
+  -- what a stop leaves behind an answer
   pub rests : RestsBy a a.result
 
 -- ---- where the files tell
