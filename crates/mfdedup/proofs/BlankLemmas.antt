@@ -4,6 +4,7 @@ use Rattle.std.specs.FinMap as map
 use Rattle.bd_disk.specs.Calls.{Rose}
 use Rattle.bd_disk.specs.History.{clock}
 use Rattle.bd_files.specs.Files.{ChangesOnly, IsFinished}
+use Rattle.bd_model.specs.Texts.{answer_text}
 use Rattle.bd_model.specs.declared.answer.Answer.TheVariants.{Blanked}
 use Rattle.bd_session.specs.Ends.{EndsOnlyByCount}
 use Rattle.bd_session.specs.Telling.{HandsAnswers}
@@ -17,7 +18,7 @@ use Rattle.mfdedup.specs.Works.{ComesOfWords}
 use Rattle.mfdedup.specs.declared.progress.Progress.{Progress}
 use Rattle.mfdedup.specs.declared.report.End.{End}
 use Rattle.mfdedup.specs.declared.report.End.TheVariants.{Done, OutputFault, TargetFault, OutOfMemory}
-use Rattle.mfdedup.proofs.NotedLemmas.{alone_clocks, carried, carried_cause, no_clocks, no_texts}
+use Rattle.mfdedup.proofs.NotedLemmas.{alone_clocks, carried, carried_cause, carried_part, no_clocks, no_texts}
 
 blanking : (x : End) → IsCarriedOut x → EndsBlank x
 blanking x (inl is) = subst EndsBlank (sym is) tt
@@ -31,16 +32,17 @@ module _ {disk files sink : Type 0} (count : ℕ) (name : List ℕ) (p : Progres
   pub blanked_works : (mid : World) → NotesAlone disk sink (Blanked count) p mid now → record now.counts { sink = o.counts.sink } ≡ o.counts → mid.counts.sink ≡ o.counts.sink → mid.handed ≡ o.handed → (disk → clock o.disk ≤ clock now.disk) →
       (files → now.files ≡ map.insert o.files name (replicate count 0)) → (files → IsFinished name now.unfinished) → ComesOfWords disk files sink (ToBlank count name) p o now
   blanked_works mid alone counts faults handed later made finished =
-      let done = carried p.end mid now alone.ends in
+      let done = carried sink (answer_text (Blanked count)) p.end mid now alone.ends in
       record {
         bytes = bytes;
-        cause = carried_cause p.end o mid now alone.ends counts faults alone.later;
+        cause = carried_cause sink (answer_text (Blanked count)) p.end o mid now alone.ends counts faults alone.later;
         clocks = alone_clocks alone o later;
         written = λ told. subst (λ h. HandsAnswers disk p.answers.items p.clocks.items (end_cause p.end) h now.handed) handed (alone.written told);
         words = record {
           commands = alone.commands;
           ends = blanking p.end done;
           answers = alone.answers;
+          fails = carried_part sink (answer_text (Blanked count)) p.end o mid now alone.ends faults handed;
           on_files = λ told. record { made = λ _. made told; finished = λ _. finished told; others = others told; memory = λ other. absurd (no_memory p.end done other) };
           disk = same;
           strays = strays;
@@ -60,6 +62,7 @@ module _ {disk files sink : Type 0} (count : ℕ) (name : List ℕ) (p : Progres
       commands = none.commands;
       ends = ends;
       answers = answers;
+      fails = λ is. absurd (undone (inr is));
       on_files = λ told. record { made = λ done. absurd (undone done); finished = λ done. absurd (undone done); others = others told; memory = memory told };
       disk = same;
       strays = strays;

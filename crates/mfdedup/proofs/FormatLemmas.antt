@@ -8,6 +8,7 @@ use Rattle.bd_disk.proofs.Frames.{later, since_now}
 use Rattle.bd_model.specs.Sizes.{sizes_of, extent_place}
 use Rattle.bd_model.specs.State.{empty}
 use Rattle.bd_model.specs.declared.answer.Answer.{Answer}
+use Rattle.bd_model.specs.Texts.{answer_text}
 use Rattle.bd_model.specs.declared.answer.Answer.TheVariants.{Formatted}
 use Rattle.bd_model.specs.declared.layout.Phase.TheVariants.{Settled}
 use Rattle.bd_model.specs.declared.shape.Shape.{Shape}
@@ -30,7 +31,7 @@ use Rattle.mfdedup.specs.Works.{ComesOfWords}
 use Rattle.mfdedup.specs.declared.progress.Progress.{Progress}
 use Rattle.mfdedup.specs.declared.report.End.{End}
 use Rattle.mfdedup.specs.declared.report.End.TheVariants.{Done, OutputFault, AlreadyAStore, TooSmall, DiskFault, OutOfMemory}
-use Rattle.mfdedup.proofs.NotedLemmas.{alone_clocks, carried, carried_cause, no_clocks, no_texts}
+use Rattle.mfdedup.proofs.NotedLemmas.{alone_clocks, carried, carried_cause, carried_part, no_clocks, no_texts}
 
 -- ---- made
 
@@ -70,10 +71,10 @@ pub formatted_works : {disk sink : Type 0} (shape : Shape) (p : Progress) (o mid
     (disk → format_refusal (sizes_of shape) o.disk_bytes (contents o.disk) ≡ None) → (disk → StandsFor shape empty Settled 0 (contents now.disk)) → (disk → IsSettled now.disk) → (disk → WritesOnly (λ place. place < extent_place (sizes_of shape) 0) o.disk now.disk) →
     (disk → MakingStops shape o.disk now.disk) → (disk → SyncsFirst o.disk now.disk) → ComesOfWords disk (Unit {0}) sink (ToFormat (sizes_of shape)) p o now
 formatted_works {disk} {sink} shape p o mid now alone bytes counts faults handed files unfinished strays none made settled writes stops sync =
-    let done = carried p.end mid now alone.ends in
+    let done = carried sink (answer_text Formatted) p.end mid now alone.ends in
     record {
       bytes = bytes;
-      cause = carried_cause p.end o mid now alone.ends counts faults alone.later;
+      cause = carried_cause sink (answer_text Formatted) p.end o mid now alone.ends counts faults alone.later;
       clocks = alone_clocks alone o (λ told. later (writes told));
       written = λ told. subst (λ h. HandsAnswers disk p.answers.items p.clocks.items (end_cause p.end) h now.handed) handed (alone.written told);
       words = record {
@@ -82,6 +83,7 @@ formatted_works {disk} {sink} shape p o mid now alone bytes counts faults handed
         commands = alone.commands;
         ends = making p.end done;
         answers = alone.answers;
+        fails = carried_part sink (answer_text Formatted) p.end o mid now alone.ends faults handed;
         on_disk = λ told. formats_done shape o.disk_bytes p.end p.clocks.items o.disk now.disk done (none told) (made told) (settled told) (alone.clocks told) (writes told) (stops told) (sync told);
         files = files;
         unfinished = unfinished;
@@ -127,6 +129,12 @@ failed_answers (FormatSmall need have) answers none = none
 failed_answers FormatDisk answers none = none
 failed_answers FormatMemory answers none = none
 
+no_output : (fault : FormatFault) → end_of_format fault ≡ OutputFault → ⊥
+no_output FormatMarked is = cc is
+no_output (FormatSmall need have) is = cc is
+no_output FormatDisk is = cc is
+no_output FormatMemory is = cc is
+
 failed_cause : {T : Type 0} (fault : FormatFault) (c : Faults) (faults : ℕ) → FailsByCount {T = T} is_disk_fault_of_format c.disk faults (Err fault) → EndsOnlyByCount (end_cause (end_of_format fault)) c (record c { disk = faults })
 failed_cause FormatMarked c faults fails = by_nothing refl (λ i. record c { disk = fails.cause i })
 failed_cause (FormatSmall need have) c faults fails = by_nothing refl (λ i. record c { disk = fails.cause i })
@@ -147,6 +155,7 @@ unformatted_works {D} {sink} d shape p fault w now none e same fails answers unt
     commands = none.commands;
     ends = subst EndsMaking (sym e) (failed_ends fault);
     answers = subst (λ x. AnswersAlone Formatted x p.answers.items) (sym e) (failed_answers fault p.answers.items none.answers);
+    fails = λ is. absurd (no_output fault (sym e ∙ is));
     on_disk = λ told. subst (λ x. Formats shape w.disk_bytes x p.clocks.items w.disk (d.history now)) (sym e) (formats_failed shape w.disk_bytes w.disk (d.history now) (untouched told) (writes told) (stops told) fault (answers told) (memory told) (sync told) p.clocks.items none.clocks);
     files = refl;
     unfinished = refl;

@@ -11,7 +11,7 @@ use Rattle.bd_script.specs.Long.{is_long}
 use Rattle.bd_session.specs.Telling.{HandsAnswers, told, ToldByCount}
 use Rattle.bd_session.specs.declared.telling.Untold.{Untold}
 use Rattle.bd_session.specs.declared.telling.Untold.TheVariants.{Output, Memory}
-use Rattle.bd_session.specs.Ends.{EndsOnlyByCount, FromSink}
+use Rattle.bd_session.specs.Ends.{EndsOnlyByCount, FailsSink, FromSink}
 use Rattle.bd_session.specs.Keeping.{ClocksRise}
 use Rattle.bd_session.proofs.AnsweredLemmas.{by_nothing, none_fell}
 use Rattle.mfdedup.specs.Failing.{end_cause}
@@ -54,7 +54,7 @@ pub alone_noted : {disk sink : Type 0} (answer : Answer) (moment : ℕ) (p : Pro
     now.counts.sink ≡ before.counts.sink → (disk → moment ≡ clock now.disk) → (sink → HandsOn disk moment (answer_text answer) before.handed now.handed) → NotesAlone disk sink answer p before now
 alone_noted {disk} {sink} answer moment p before now ends no_commands answers clocks same at put = record {
   commands = no_commands;
-  ends = subst (λ e. NotesByEnd e before now) (sym ends) same;
+  ends = subst (λ e. NotesByEnd sink (answer_text answer) e before now) (sym ends) same;
   later = omega (arith, same);
   answers = subst (λ e. AnswersAlone answer e p.answers.items) (sym ends) answers;
   paired = ap length clocks ∙ sym (ap length answers);
@@ -81,7 +81,7 @@ pub alone_untold : {disk sink : Type 0} (answer : Answer) (p : Progress) (before
     (sink → HandsPart (answer_text answer) before.handed now.handed) → NotesAlone disk sink answer p before now
 alone_untold {disk} {sink} answer p before now ends none later rose put = record {
   commands = none.commands;
-  ends = subst (λ e. NotesByEnd e before now) (sym ends) rose;
+  ends = subst (λ e. NotesByEnd sink (answer_text answer) e before now) (sym ends) (record { later = later; faults = rose; handed = put });
   later = later;
   answers = subst (λ e. AnswersAlone answer e p.answers.items) (sym ends) none.answers;
   paired = ap length none.clocks ∙ sym (ap length none.answers);
@@ -104,18 +104,28 @@ alone_untold {disk} {sink} answer p before now ends none later rose put = record
   }
 
 -- it was answered, or only its text couldn't be put
-pub carried : (e : End) (before now : World) → NotesByEnd e before now → IsCarriedOut e
-carried Done before now notes = inl refl
-carried OutputFault before now notes = inr refl
-carried _ before now notes = absurd notes
+pub carried : (sink : Type 0) (text : List ℕ) (e : End) (before now : World) → NotesByEnd sink text e before now → IsCarriedOut e
+carried _ _ Done before now notes = inl refl
+carried _ _ OutputFault before now notes = inr refl
+carried _ _ _ before now notes = absurd notes
 
 -- a sink that was put a text after all else was done
-pub carried_cause : (e : End) (before mid now : World) → NotesByEnd e mid now → record now.counts { sink = before.counts.sink } ≡ before.counts → mid.counts.sink ≡ before.counts.sink → mid.counts.sink ≤ now.counts.sink → EndsOnlyByCount (end_cause e) before.counts now.counts
-carried_cause Done before mid now notes same sink low = by_nothing refl (λ k. record (same k) { sink = (notes ∙ sink) k })
-carried_cause OutputFault before mid now notes same sink low =
+pub carried_cause : (sink : Type 0) (text : List ℕ) (e : End) (before mid now : World) → NotesByEnd sink text e mid now → record now.counts { sink = before.counts.sink } ≡ before.counts → mid.counts.sink ≡ before.counts.sink → mid.counts.sink ≤ now.counts.sink → EndsOnlyByCount (end_cause e) before.counts now.counts
+carried_cause _ _ Done before mid now notes same sink low = by_nothing refl (λ k. record (same k) { sink = (notes ∙ sink) k })
+carried_cause _ _ OutputFault before mid now notes same sink low =
     let was = none_fell same in
-    record { later = record { disk = was.disk; sources = was.sources; targets = was.targets; sink = omega (arith, sink, low) }; by = (subst (λ n. Rose n now.counts.sink) sink notes, λ k. record (same k) { sink = now.counts.sink }) }
-carried_cause _ before mid now notes same sink low = absurd notes
+    record { later = record { disk = was.disk; sources = was.sources; targets = was.targets; sink = omega (arith, sink, low) }; by = (subst (λ n. Rose n now.counts.sink) sink notes.faults, λ k. record (same k) { sink = now.counts.sink }) }
+carried_cause _ _ _ before mid now notes same sink low = absurd notes
+
+-- and what it took of the text where it failed
+pub carried_part : (sink : Type 0) (text : List ℕ) (e : End) (before mid now : World) → NotesByEnd sink text e mid now → mid.counts.sink ≡ before.counts.sink → mid.handed ≡ before.handed → e ≡ OutputFault → FailsSink sink text before now
+carried_part sink text e before mid now notes same handed is =
+    let fails : FailsSink sink text mid now = subst (λ x. NotesByEnd sink text x mid now) is notes in
+    record {
+      later = omega (arith, same, fails.later);
+      faults = subst (λ n. Rose n now.counts.sink) same fails.faults;
+      handed = λ told. subst (λ h. HandsPart text h now.handed) handed (fails.handed told);
+    }
 
 -- a clock at the end of the call rises from the one at entry
 module _ {disk sink : Type 0} {answer : Answer} {p : Progress} {mid now : World} (alone : NotesAlone disk sink answer p mid now) (before : World) (later : disk → clock before.disk ≤ clock now.disk) where

@@ -3,7 +3,9 @@ use Rattle.std.specs.Prelude.{◌≡◌, ◌⊎◌, ℕ, ◌≤◌, ◌<◌, Lis
 use Rattle.bd_disk.specs.Calls.{Rose}
 use Rattle.bd_disk.specs.History.{clock}
 use Rattle.bd_files.specs.Sinks.{HandsPart, whole}
+use Rattle.bd_model.specs.Texts.{answer_text}
 use Rattle.bd_model.specs.declared.answer.Answer.{Answer}
+use Rattle.bd_session.specs.Ends.{FailsSink}
 use Rattle.bd_session.specs.Telling.{HandsAnswers}
 use Rattle.mfdedup.specs.Failing.{end_cause}
 use Rattle.bd_files.specs.World.{World}
@@ -22,16 +24,16 @@ abbrev pub AnswersAlone : Answer → End → List Answer → Type 0
 AnswersAlone answer Done answers = answers ≡ answer ∷ []
 AnswersAlone answer ending answers = answers ≡ []
 
--- how an answer that is no command's can be noted: with the disk's clock, or not where the sink failed
-abbrev pub NotesByEnd : End → World → World → Type 0
-NotesByEnd Done before now = now.counts.sink ≡ before.counts.sink
-NotesByEnd OutputFault before now = Rose before.counts.sink now.counts.sink
-NotesByEnd ending before now = ⊥
+-- how an answer of this text that is no command's can be noted: with the disk's clock, or not where the sink failed
+abbrev pub NotesByEnd : Type 0 → List ℕ → End → World → World → Type 0
+NotesByEnd sink text Done before now = now.counts.sink ≡ before.counts.sink
+NotesByEnd sink text OutputFault before now = FailsSink sink text before now
+NotesByEnd sink text ending before now = ⊥
 
 -- this answer was noted alone, where the text was taken
 pub record NotesAlone (disk sink : Type 0) (answer : Answer) (p : Progress) (before now : World) : Type 0 where
   pub commands : p.commands.items ≡ []
-  pub ends : NotesByEnd p.end before now
+  pub ends : NotesByEnd sink (answer_text answer) p.end before now
   pub later : before.counts.sink ≤ now.counts.sink
   pub answers : AnswersAlone answer p.end p.answers.items
   pub paired : length p.clocks.items ≡ length p.answers.items

@@ -7,6 +7,7 @@ use Rattle.bd_files.specs.Files.{ChangesOnly, IsFinished}
 use Rattle.bd_model.specs.FileMap.{FileMap}
 use Rattle.bd_model.specs.Sizes.{Sizes, sizes_of, extent_place}
 use Rattle.bd_model.specs.State.{empty}
+use Rattle.bd_model.specs.Texts.{answer_text}
 use Rattle.bd_model.specs.declared.answer.Answer.TheVariants.{Formatted, Blanked}
 use Rattle.bd_model.specs.declared.layout.Phase.TheVariants.{Settled}
 use Rattle.bd_model.specs.declared.shape.Shape.{Shape}
@@ -16,6 +17,7 @@ use Rattle.bd_recover.specs.Opens.{SyncsFirst}
 use Rattle.bd_recover.specs.declared.fault.FormatFault.{FormatFault}
 use Rattle.bd_recover.specs.declared.fault.FormatFault.TheVariants.{AlreadyAStore as FormatMarked, TooSmall as FormatSmall}
 use Rattle.bd_store.specs.Openings.{MakingStops}
+use Rattle.bd_session.specs.Ends.{FailsSink}
 use Rattle.bd_words.specs.declared.request.Request.{Request}
 use Rattle.mfdedup.specs.Noted.{AnswersAlone, NothingNoted}
 use Rattle.bd_files.specs.World.{World}
@@ -78,13 +80,15 @@ pub record Formats (shape : Shape) (bytes : ℕ) (ending : End) (clocks : List �
   pub stops : MakingStops shape old new
   pub acknowledged : (k : ℕ) → k < length clocks → (image : List ℕ) → Since new (get_or clocks k 0) image → StandsFor shape empty Settled 0 image
 
--- a format to a shape of these sizes: nothing but the disk is changed, and its count of faults
-pub record FormatsStore (disk : Type 0) (sizes : Sizes) (p : Progress) (before now : World) : Type 0 where
+-- A format to a shape of these sizes: nothing but the disk is changed, and its count of faults. A sink that failed took a part of
+-- the answer's text at most.
+pub record FormatsStore (disk sink : Type 0) (sizes : Sizes) (p : Progress) (before now : World) : Type 0 where
   pub shape : Shape
   pub is_shape : sizes_of shape ≡ sizes
   pub commands : p.commands.items ≡ []
   pub ends : EndsMaking p.end
   pub answers : AnswersAlone Formatted p.end p.answers.items
+  pub fails : p.end ≡ OutputFault → FailsSink sink (answer_text Formatted) before now
   pub on_disk : disk → Formats shape before.disk_bytes p.end p.clocks.items before.disk now.disk
   pub files : now.files ≡ before.files
   pub unfinished : now.unfinished ≡ before.unfinished
@@ -107,11 +111,13 @@ pub record Blanks (name : List ℕ) (count : ℕ) (ending : End) (old new : File
   pub others : ChangesOnly name old new
   pub memory : ending ≡ OutOfMemory → new ≡ old
 
--- a blank file: nothing but the files is changed, and their count of faults
-pub record BlanksFile (files : Type 0) (count : ℕ) (name : List ℕ) (p : Progress) (before now : World) : Type 0 where
+-- A blank file: nothing but the files is changed, and their count of faults. A sink that failed took a part of the answer's text at
+-- most.
+pub record BlanksFile (files sink : Type 0) (count : ℕ) (name : List ℕ) (p : Progress) (before now : World) : Type 0 where
   pub commands : p.commands.items ≡ []
   pub ends : EndsBlank p.end
   pub answers : AnswersAlone (Blanked count) p.end p.answers.items
+  pub fails : p.end ≡ OutputFault → FailsSink sink (answer_text (Blanked count)) before now
   pub on_files : files → Blanks name count p.end before.files now.files now.unfinished
   pub disk : now.disk ≡ before.disk
   pub strays : files → now.strays ≡ before.strays

@@ -19,10 +19,10 @@ use Rattle.mfdedup.specs.declared.report.Report.{Report}
 
 -- by what the words ask for; what is still to come ends at once
 abbrev pub WorksByWords : Type 0 → Type 0 → Type 0 → Reading → Progress → World → World → Type 0
-WorksByWords disk files sink (ToFormat sizes) p before now = FormatsStore disk sizes p before now
+WorksByWords disk files sink (ToFormat sizes) p before now = FormatsStore disk sink sizes p before now
 WorksByWords disk files sink (ToRun command) p before now = MatchBool (is_built command) (RunsCommands disk files sink (command ∷ []) p before now) (EndsAtOnce Unbuilt p before now)
 WorksByWords disk files sink (ToScript name) p before now = RunsScript disk files sink name p before now
-WorksByWords disk files sink (ToBlank count name) p before now = BlanksFile files count name p before now
+WorksByWords disk files sink (ToBlank count name) p before now = BlanksFile files sink count name p before now
 WorksByWords disk files sink (ToSoak seed count) p before now = EndsAtOnce Unbuilt p before now
 WorksByWords disk files sink (Refused fault) p before now = EndsAtOnce (end_of_words fault) p before now
 
