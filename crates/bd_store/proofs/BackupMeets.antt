@@ -4,14 +4,16 @@ use Rattle.std.proofs.Common.{◌≡◌, ◌∙◌, ◌↔◌, ◌≤◌, ◌<�
 use Rattle.std.specs.Result.{is_err}
 use Rattle.bd_disk.specs.Calls.{HasCause, Rose}
 use Rattle.bd_disk.specs.History.{History, contents}
-use Rattle.bd_disk.specs.Made.{WritesOnly}
+use Rattle.bd_disk.specs.Images.{AgreeBut}
+use Rattle.bd_disk.specs.Made.{LeavesNow, LeavesSince, WritesOnly}
 use Rattle.bd_disk.specs.Runs.{Writes}
 use Rattle.bd_disk.specs.Trace.{ReadsOnly}
 use Rattle.bd_disk.specs.declared.disk.Disk.{Ghosts as DiskGhosts}
-use Rattle.bd_disk.proofs.Frames.{made_both, made_none, writes_wider}
+use Rattle.bd_disk.proofs.Frames.{leaves_both, leaves_now, leaves_wider, made_both, made_none, writes_wider}
 use Rattle.bd_disk.proofs.RunLemmas.{nothing_read, written}
 use Rattle.bd_disk.proofs.Traces.{reads_both, reads_none}
 use Rattle.bd_files.specs.declared.files.Files.{Ghosts as FilesGhosts}
+use Rattle.bd_files.specs.Files.{Holds}
 use Rattle.bd_files.specs.World.{World, counts, with_disk, with_files}
 use Rattle.bd_model.specs.FileMap.{FileMap}
 use Rattle.bd_model.specs.Chunks.{chunks}
@@ -35,9 +37,10 @@ use Rattle.bd_roll.specs.Growing.{after_backup, empty_volume, with_entries}
 use Rattle.bd_catalog.specs.Opening.{Found}
 use Rattle.bd_roll.specs.Shown.{version_entry}
 use Rattle.bd_roll.specs.Steps.{fresh_actives}
-use Rattle.bd_catalog.specs.Steps.{committed, InOtherHalf, IsMade, LeavesEither}
+use Rattle.bd_catalog.specs.Steps.{committed, HasCommitted, InOtherHalf, IsMade, LeavesEither}
 use Rattle.bd_catalog.proofs.CommitLemmas.{number-small}
 use Rattle.bd_catalog.proofs.Staged.{agrees_staged}
+use Rattle.bd_catalog.proofs.StandingLemmas.{found_once}
 use Rattle.bd_intake.specs.declared.staged.Staged.{Staged}
 use Rattle.bd_intake.specs.declared.fault.IntakeFault.{IntakeFault}
 use Rattle.bd_intake.specs.declared.fault.IntakeFault.TheVariants.{Full, SourceFault as SourceFailed, DiskFault as DiskFailed, OutOfMemory as MemoryFailed}
@@ -45,8 +48,9 @@ use Rattle.bd_intake.specs.Answers.{CountsSource, HoldsVersion, IsVersion, Store
 use Rattle.bd_intake.specs.Causes.{FailsByTheirCounts}
 use Rattle.bd_intake.specs.Filling.{CountsMissing, LeavesFiles}
 use Rattle.bd_intake.specs.Firsts.{cut_in, new_by_mark}
-use Rattle.bd_arrange.proofs.Opens.{opens_staged}
+use Rattle.bd_arrange.proofs.Opens.{opens_staged, opens_committed}
 use Rattle.bd_store.specs.Attempts.{Attempt, Scene, attempt, scene, KeepsVersions, RestsBy, SettlesBy, TakesSource, TellsFigures}
+use Rattle.bd_arrange.specs.Opens.{OpensWith}
 use Rattle.bd_store.specs.Causes.{FailsOnlyByCount, StraysOnlyBy}
 use Rattle.bd_store.specs.Following.{EndsReady, Follows}
 use Rattle.bd_store.specs.Kept.{IsKept}
@@ -54,6 +58,7 @@ use Rattle.bd_store.specs.Naming.{refusal_of, with_room, AnswersNaming}
 use Rattle.bd_store.specs.Newest.{IsNewestRecipe}
 use Rattle.bd_store.specs.Opens.{KeepsReady}
 use Rattle.bd_store.specs.Shown.{HasFree, SameVersions, Shown}
+use Rattle.bd_store.specs.Taken.{Source, TakesAtStops, TakesVersion}
 use Rattle.bd_store.specs.Touches.{is_full, AnswersByNumbers}
 use Rattle.bd_store.specs.Writes.{IsUnowned, StepsTo}
 use Rattle.bd_store.specs.declared.fault.StoreFault.{StoreFault}
@@ -64,7 +69,7 @@ use Rattle.bd_store.proofs.OneCall.{failed_one_step, failed_safe, made_one_step,
 use Rattle.bd_store.proofs.Opens.{opens_named, opens_quiet, opens_written}
 use Rattle.bd_store.proofs.Quiet.{safe_untouched}
 use Rattle.bd_store.proofs.RefusalStep.{backup_goes_on}
-use Rattle.bd_store.proofs.Taken.{holds_committed, newest_same, takes_nothing}
+use Rattle.bd_store.proofs.Taken.{holds_committed, newest_same, takes_nothing, takes_untouched, unnamed}
 use Rattle.bd_store.proofs.Unowned.{free_unowned, half_unowned}
 
 -- a settled store in which a number and a version are left, and the disk that it is of, where that tells
@@ -189,6 +194,13 @@ module _ {D F : Type 0} (d : DiskGhosts D) (f : FilesGhosts F) (w : World) (foun
   unowned : d.tells → (result : Result Staged IntakeFault) → TookIn result → WritesOnly (IsUnowned found) h1 h2
   unowned told result took = writes_wider (IsUnowned found) (free_unowned found (small told) space begun.count begun.owners) (written took.disk told)
 
+  -- no image names the next version until the commit
+  still_opens : d.tells → (result : Result Staged IntakeFault) → TookIn result → LeavesNow (OpensWith found) h1 → LeavesSince (OpensWith found) h1 h2
+  still_opens told result took sure = opens_staged found sure (InFree found.sizes space) (λ place inside. omega (arith, inside.within.0)) (written took.disk told)
+
+  unnamed_yet : d.tells → (result : Result Staged IntakeFault) → TookIn result → (old : List RecipeEntry) (stream : List ℕ) → TakesAtStops (record { found = found; held = held; old = old; stream = stream }) h1 h2
+  unnamed_yet told result took old stream sure = leaves_wider _ (unnamed _) (still_opens told result took sure)
+
   -- ---- the source wasn't taken in
 
   -- so many extents are free as the space counts
@@ -237,11 +249,12 @@ module _ {D F : Type 0} (d : DiskGhosts D) (f : FilesGhosts F) (w : World) (foun
           fewer = omega (arith, so.0, so.1, so.2);
           counts = so.1 ∙ (λ k. counted_of found.sizes.extent (same k) (entries_of_chunks (same k) (found.catalogue.newest + 1) (chunks (cut_in found.sizes) stream)) (sym so.2 k));
         };
+    stops = λ older stream newest there. unnamed_yet told (Err (Full counted free kept)) took older stream;
     missing = took.files.missing files_tell;
   }
-  refused_transfers SourceFailed worn took told files_tell = takes_nothing (λ s. tt) tt
-  refused_transfers DiskFailed worn took told files_tell = takes_nothing (λ s. tt) tt
-  refused_transfers MemoryFailed worn took told files_tell = takes_nothing (λ s. tt) tt
+  refused_transfers SourceFailed worn took told files_tell = takes_nothing (λ s. tt) tt (unnamed_yet told (Err SourceFailed) took)
+  refused_transfers DiskFailed worn took told files_tell = takes_nothing (λ s. tt) tt (unnamed_yet told (Err DiskFailed) took)
+  refused_transfers MemoryFailed worn took told files_tell = takes_nothing (λ s. tt) tt (unnamed_yet told (Err MemoryFailed) took)
 
   follows_refused : (fault : IntakeFault) (worn : Bool) → TookIn (Err fault) → TellsFigures (record { found = found; held = held; worn = worn }) (refusal_of fault) → ((worn ≡ true) ↔ (refusal_of fault ≡ Err DiskFault)) →
       Follows d.tells f.tells (attempt (Backup name) (refusal_of fault) before (scene (record { found = found; held = held; worn = worn }) (with_files f (with_disk d w disk2) files2)))
@@ -312,7 +325,7 @@ module _ {D F : Type 0} (d : DiskGhosts D) (f : FilesGhosts F) (w : World) (foun
 
       at_stops : (end : Shown) → (end.worn ≡ false → after ≡ end.found) → d.tells → Named → KeepsReady found (Backup name) end h1 (d.history disk3)
       at_stops end same told is = opens_named found (Backup name) end after refl (version_entry staged.version, fresh_actives staged.fresh, refl) same
-          (λ sure. opens_staged found sure (InFree found.sizes space) (λ place inside. omega (arith, inside.within.0)) (written took.disk told)) (is.either told)
+          (still_opens told (Ok staged) took) (is.either told)
 
       all_read : d.tells → Named → ReadsOnly [] h1 (d.history disk3)
       all_read told is = reads_both (nothing_read took.disk told) (nothing_read is.disk told)
@@ -321,11 +334,14 @@ module _ {D F : Type 0} (d : DiskGhosts D) (f : FilesGhosts F) (w : World) (foun
     abbrev figures : Answer
     figures = BackedUp (found.catalogue.newest + 1) staged.version.length staged.version.chunks staged.version.fresh staged.need
 
-    taken_in : (disk3 : D) (found3 : Found) (space3 : Allotment) (worn : Bool) → d.tells → f.tells → found3 ≡ after → IsMade found after h2 (d.history disk3) →
-        TakesSource (attempt (Backup name) (Ok figures) before (scene (record { found = found3; held = held_count space3; worn = worn }) (with_files f (with_disk d w disk3) files2))) name (Ok figures)
-    taken_in disk3 found3 space3 worn told files_tell made done = record {
-      taken = λ older stream newest there.
-          let same : old ≡ older = newest_same (is_old told) newest in
+    -- the extents that the commit leaves have the version
+    module _ (told : d.tells) (files_tell : f.tells) (older : List RecipeEntry) (stream : List ℕ) (newest_before : IsNewestRecipe found (contents h1) older) (there : Holds (f.files files0) name stream) where
+      abbrev source : Source
+      source = record { found = found; held = held; old = older; stream = stream }
+
+      takes_version : (next : Found) (image : List ℕ) → next ≡ after → AgreeBut (InOtherHalf found) (contents h2) image → TakesVersion source figures next image
+      takes_version next image made elsewhere =
+          let same : old ≡ older = newest_same (is_old told) newest_before in
           record {
             ready = found;
             settled = record { sizes = refl; phase = begun.settled; base = refl; newest = refl; versions = refl };
@@ -335,9 +351,24 @@ module _ {D F : Type 0} (d : DiskGhosts D) (f : FilesGhosts F) (w : World) (foun
             version = subst (λ es. IsVersion found.sizes es (found.catalogue.newest + 1) stream (chunks (cut_in found.sizes) stream) (free_count space) staged) same (took.counted files_tell stream there);
             figures = refl;
             named = ap (λ (s : Found). s.catalogue) made;
-            holds = subst (λ es. HoldsVersion found.sizes es (found.catalogue.newest + 1) (chunks (cut_in found.sizes) stream) staged (contents (d.history disk3))) same
-                (holds_committed found (small told) done.kept.elsewhere (stored told files_tell stream there));
-          };
+            holds = subst (λ es. HoldsVersion found.sizes es (found.catalogue.newest + 1) (chunks (cut_in found.sizes) stream) staged image) same
+                (holds_committed found (small told) elsewhere (stored told files_tell stream there));
+          }
+
+      takes_at_stops : (h3 : History) → LeavesEither found after h2 h3 → TakesAtStops source h1 h3
+      takes_at_stops h3 either sure =
+          let staged_so = still_opens told (Ok staged) took sure in
+          leaves_both (leaves_wider _ (unnamed source) staged_so)
+          (leaves_wider _
+          (λ image is. ⊎_elim (unnamed source image) (λ (made : HasCommitted found after (contents h2) image) next opens names.
+          (figures, takes_version next image (sym (found_once image after next made.opens opens)) made.elsewhere)) is)
+          (opens_committed found (leaves_now staged_so) after either.stops))
+
+    taken_in : (disk3 : D) (found3 : Found) (space3 : Allotment) (worn : Bool) → d.tells → f.tells → found3 ≡ after → IsMade found after h2 (d.history disk3) → LeavesEither found after h2 (d.history disk3) →
+        TakesSource (attempt (Backup name) (Ok figures) before (scene (record { found = found3; held = held_count space3; worn = worn }) (with_files f (with_disk d w disk3) files2))) name (Ok figures)
+    taken_in disk3 found3 space3 worn told files_tell made done either = record {
+      taken = λ older stream newest_before there. takes_version told files_tell older stream newest_before there found3 (contents (d.history disk3)) made done.kept.elsewhere;
+      stops = λ older stream newest_before there. takes_at_stops told files_tell older stream newest_before there (d.history disk3) either;
       missing = took.files.missing files_tell;
     }
 
@@ -382,7 +413,7 @@ module _ {D F : Type 0} (d : DiskGhosts D) (f : FilesGhosts F) (w : World) (foun
           };
           on_files = λ told. record { beside = took.files.same told; strays = strays_of _ _ _ _ (took.files.strays told); finished = tt; unfinished = took.files.unfinished told; spares = tt };
           on_both = λ told files_tell. record {
-            transfers = subst (λ a. TakesSource (attempt (Backup name) (Ok a) before (scene end (with_files f (with_disk d w disk3) files2))) name (Ok a)) says (taken_in disk3 found3 space3 worn told files_tell is.made (is.done told));
+            transfers = subst (λ a. TakesSource (attempt (Backup name) (Ok a) before (scene end (with_files f (with_disk d w disk3) files2))) name (Ok a)) says (taken_in disk3 found3 space3 worn told files_tell is.made (is.done told) (is.either told));
             step = made_one_step found name (f.files files0) (f.files files2) (took.files.same files_tell) h1 h2 space (begun.agrees told) begun.settled begun.below begun.fewer (written took.disk told) begun.count begun.owners old (is_old told)
                 law staged (took.counted files_tell) (took.files.missing files_tell) (stored told files_tell) (d.history disk3) answer is.answer (is.done told).kept;
             stops = made_safe found name (f.files files0) (f.files files2) (took.files.same files_tell) h1 h2 space (begun.agrees told) begun.settled begun.below begun.fewer (written took.disk told) begun.count begun.owners old (is_old told)
@@ -419,7 +450,7 @@ module _ {D F : Type 0} (d : DiskGhosts D) (f : FilesGhosts F) (w : World) (foun
           };
           on_files = λ told. record { beside = took.files.same told; strays = strays_of _ _ _ _ (took.files.strays told); finished = tt; unfinished = took.files.unfinished told; spares = tt };
           on_both = λ told files_tell. record {
-            transfers = takes_nothing (λ s. tt) tt;
+            transfers = record { taken = λ older stream newest_before there. tt; stops = λ older stream newest_before there. takes_at_stops told files_tell older stream newest_before there (d.history disk3) (is.either told); missing = λ lacks. tt };
             step = failed_one_step found name (f.files files0) (f.files files2) (took.files.same files_tell) h1 h2 space (begun.agrees told) begun.settled begun.below begun.fewer (written took.disk told) begun.count begun.owners old (is_old told)
                 law staged (took.counted files_tell) (took.files.missing files_tell) (stored told files_tell) (d.history disk3) (is.either told).contents;
             stops = failed_safe found name (f.files files0) (f.files files2) (took.files.same files_tell) h1 h2 space (begun.agrees told) begun.settled begun.below begun.fewer (written took.disk told) begun.count begun.owners old (is_old told)
@@ -445,5 +476,5 @@ follows_without_memory name s sound agrees goes = record {
   store = record { held = refl; versions = same_versions s.store; settles = tt; figures = tt };
   on_disk = λ told. record { opens = opens_quiet (made_none _ s.world.disk); writes = made_none _ s.world.disk; step = refl; reads = reads_none s.world.disk; rests = tt };
   on_files = λ told. record { beside = refl; strays = record { later = omega arith; missing = inl refl }; finished = tt; unfinished = refl; spares = record { files = refl; unfinished = refl } };
-  on_both = λ told files_tell. record { transfers = takes_nothing (λ s. tt) tt; step = memory_step (Backup name) s.store.held s.world.disk s.world.files; stops = safe_untouched (Backup name) s.store.held s.world.disk s.world.files OutOfMemory };
+  on_both = λ told files_tell. record { transfers = takes_nothing (λ s. tt) tt (λ old stream. takes_untouched _ _); step = memory_step (Backup name) s.store.held s.world.disk s.world.files; stops = safe_untouched (Backup name) s.store.held s.world.disk s.world.files OutOfMemory };
 }

@@ -11,7 +11,7 @@ use Rattle.bd_disk.specs.Looks.{LooksOnlyAt}
 use Rattle.bd_disk.specs.Made.{IsSettled, WritesNothing}
 use Rattle.bd_disk.specs.Runs.{Works}
 use Rattle.bd_disk.specs.declared.disk.Disk.{Ghosts as DiskGhosts}
-use Rattle.bd_disk.proofs.Frames.{made_both, still_settled, writes_wider}
+use Rattle.bd_disk.proofs.Frames.{made_both, still_settled, writes_wider, leaves_both, leaves_wider}
 use Rattle.bd_disk.proofs.RunLemmas.{work_looked, work_written}
 use Rattle.bd_model.specs.declared.answer.Answer.{Answer}
 use Rattle.bd_model.specs.declared.command.Command.{Command}
@@ -36,8 +36,8 @@ use Rattle.bd_store.specs.Touches.{InArranging, ExpiryReads, IsByNumbers, is_wai
 use Rattle.bd_store.specs.declared.fault.StoreFault.{StoreFault}
 use Rattle.bd_store.proofs.Behind.{answers_before, backup_reads, ready_settled, step_before, stops_before, then_no_looks, then_none, versions_before, writes_before}
 use Rattle.bd_store.proofs.CommandEnds.{gone_on, went_on, rests_not, by_end, by_ready, not_both}
-use Rattle.bd_store.proofs.Opens.{opens_behind}
-use Rattle.bd_store.proofs.Taken.{counted_before, newest_same, taken_before}
+use Rattle.bd_store.proofs.Opens.{opens_behind, opens_ready}
+use Rattle.bd_store.proofs.Taken.{counted_before, named_before, newest_same, taken_before, unnamed_so_far}
 
 -- a store that waited is synced once it is arranged, and another as it was before
 ready_rests : (found : Found) {h0 h1 : History} → (found.catalogue.phase ≡ Settled → WritesNothing h0 h1) → (found.catalogue.phase ≢ Settled → IsSettled h1) → (is_waiting found ≡ false → IsSettled h0) → IsSettled h1
@@ -144,6 +144,12 @@ module _ (disk files : Type 0) (command : Command) (before : Scene) (mid : Found
         taken = λ old stream newest_before there.
             let same : neighbour.entries ≡ old = newest_same (readied told).readies.answer.found_before newest_before in
             taken told old stream newest_before (is.taken old stream (subst (IsNewestRecipe mid (contents h1)) same (readied told).readies.answer.recipe) there);
+        stops = λ old stream newest_before there sure.
+            let same : neighbour.entries ≡ old = newest_same (readied told).readies.answer.found_before newest_before in
+            let safe = (readied told).readies.opens in
+            let begun = opens_ready ready.settled.sizes (readied told).readies.agrees safe sure in
+            leaves_both (leaves_wider _ (unnamed_so_far _) (safe sure)) (leaves_wider _ (named_before before.store.found mid ready.settled before.store.held old stream)
+            (is.stops old stream (subst (IsNewestRecipe mid (contents h1)) same (readied told).readies.answer.recipe) there (record { each = λ image now. (begun.each image now).0 })));
         missing = is.missing;
       };
       expiry = λ first is. tt;

@@ -123,6 +123,16 @@ only_unowned Settles found writes = nothing_within _ writes
 only_unowned Checks found writes = nothing_within _ writes
 only_unowned Tells found writes = nothing_within _ writes
 
+-- each image at that moment has its catalogue, so far as an arranging came
+pub opens_ready : {held : ℕ} {found mid : Found} {h0 h1 : History} → mid.sizes ≡ found.sizes → Agrees mid h1 → IsSafeOpening held found h0 h1 → LeavesNow (OpensWith found) h0 → LeavesNow (λ image. OpensWith mid image × ArrangedSoFar held found mid (contents h0) image) h1
+opens_ready {held} {found} {mid} {h0} {h1} sizes agrees safe sure = record { each = mid_now } where
+  mid_now : (image : List ℕ) → Now h1 image → OpensWith mid image × ArrangedSoFar held found mid (contents h0) image
+  mid_now image now =
+      let is : OpensSoFar held found (contents h0) image = (leaves_now (safe sure)).each image now in
+      let same : is.ready.sizes ≡ mid.sizes = sizes_so_far is.so ∙ sym sizes in
+      let catalogue = same_catalogue (contents h1) image mid is.ready agrees.opens is.opens same (agrees.sure.each image now) in
+      (record { again = is.ready; opens = is.opens; same = record { sizes = same; catalogue = catalogue } }, same_so_far (record { sizes = sym same; catalogue = sym catalogue }) is.so)
+
 -- and then
 pub opens_behind : {held : ℕ} {found mid : Found} {command : Command} {end : Shown} {h0 h1 h2 : History} → Agrees found h0 → mid.sizes ≡ found.sizes → (arranges found command ≡ false → mid ≡ found) → (arranges found command ≡ false → WritesNothing h0 h1) → Agrees mid h1 →
     IsSafeOpening held found h0 h1 → WritesReady mid command h1 h2 → KeepsReady mid command end h1 h2 → KeepsOpening held found command end h0 h2
@@ -133,13 +143,8 @@ opens_behind {held} {found} {mid} {command} {end} {h0} {h1} {h2} before sizes re
     (leaves_and (keeps (record { each = λ image now. (mid_now image now).0 }))
     (leaves_by_writes (ArrangedSoFar held found mid (contents h0)) (only_unowned (deed_of mid command) mid writes) (λ from image now agree. still_so_far from image (agree_fewer _ _ from image (λ place owned unowned. unowned.owners owned) agree) (mid_now from now).1))))
   where
-    -- each image at that moment has this catalogue, so far as an arranging came
     mid_now : (image : List ℕ) → Now h1 image → OpensWith mid image × ArrangedSoFar held found mid (contents h0) image
-    mid_now image now =
-        let is : OpensSoFar held found (contents h0) image = (leaves_now (safe sure)).each image now in
-        let same : is.ready.sizes ≡ mid.sizes = sizes_so_far is.so ∙ sym sizes in
-        let catalogue = same_catalogue (contents h1) image mid is.ready agrees.opens is.opens same (agrees.sure.each image now) in
-        (record { again = is.ready; opens = is.opens; same = record { sizes = same; catalogue = catalogue } }, same_so_far (record { sizes = sym same; catalogue = sym catalogue }) is.so)
+    mid_now = (opens_ready sizes agrees safe sure).each
 
     -- and so far it came where each owner's extents have the same bytes
     still_so_far : (from image : List ℕ) → Agree (InExtents mid.sizes (all_extents mid.catalogue)) from image → ArrangedSoFar held found mid (contents h0) from → ArrangedSoFar held found mid (contents h0) image

@@ -1,8 +1,8 @@
 -- What a backup takes in of its source, whatever image it is.
-use Rattle.std.proofs.Common.{◌≡◌, ◌∙◌, ◌≤◌, ◌+◌, ◌-◌, ℕ, List, arith, sym, subst, ⊎_elim, Ok, Result}
+use Rattle.std.proofs.Common.{◌≡◌, ◌∙◌, ◌≤◌, ◌+◌, ◌-◌, ℕ, List, arith, refl, sym, subst, ap, ⊎_elim, Ok, Result}
 use Rattle.std.proofs.lemmas.Bool.{cases_lt}
 use Rattle.bd_disk.specs.Images.{Agree, AgreeBut}
-use Rattle.bd_disk.specs.History.{contents}
+use Rattle.bd_disk.specs.History.{History, contents}
 use Rattle.bd_model.specs.Chunks.{chunks}
 use Rattle.bd_model.specs.Laws.{entries_of_chunks}
 use Rattle.bd_model.specs.Room.{counted_of}
@@ -14,15 +14,18 @@ use Rattle.bd_roll.specs.Catalogue.{retained_in}
 use Rattle.bd_catalog.specs.Opening.{Found}
 use Rattle.bd_catalog.specs.Steps.{InOtherHalf}
 use Rattle.bd_disk.proofs.AgreeLemmas.{agree_fewer}
+use Rattle.bd_disk.proofs.Frames.{leaves_same}
+use Rattle.bd_catalog.proofs.StandingLemmas.{found_once}
 use Rattle.bd_catalog.proofs.AgreeLemmas.{begin_with_agrees, front_apart}
 use Rattle.bd_intake.specs.Answers.{HoldsVersion, IsVersion}
 use Rattle.bd_intake.specs.Firsts.{cut_in}
 use Rattle.bd_intake.specs.declared.staged.Staged.{Staged}
 use Rattle.bd_arrange.specs.Arranged.{IsSettledFrom}
+use Rattle.bd_arrange.specs.Opens.{OpensSoFar, OpensWith}
 use Rattle.bd_volume.proofs.Beside.{half_front}
-use Rattle.bd_store.specs.Attempts.{Attempt, TakesSource}
+use Rattle.bd_store.specs.Attempts.{Attempt, TakesSource, source_before}
 use Rattle.bd_store.specs.Newest.{IsNewestRecipe}
-use Rattle.bd_store.specs.Taken.{CountsVersion, Source, TakesNothing, TakesStream, TakesVersion, parts}
+use Rattle.bd_store.specs.Taken.{CountsVersion, Source, TakesAtStops, TakesIfNamed, TakesNothing, TakesStream, TakesVersion, parts}
 use Rattle.bd_store.specs.declared.fault.StoreFault.{StoreFault}
 
 -- there is one newest recipe
@@ -43,9 +46,27 @@ holds_committed found {before = before} {after = after} small elsewhere holds = 
   apart : (extents : List ℕ) → Agree (InExtents found.sizes extents) before after
   apart extents = agree_fewer _ (InExtents found.sizes extents) before after (λ place owned written. front_apart found.sizes extents place (half_front found.sizes (1 - found.half.number) place (omega (arith, small)) written) owned) elsewhere
 
--- so does a source that wasn't taken in
-pub takes_nothing : {a : Attempt} {name : List ℕ} {result : Result Answer StoreFault} → ((s : Source) → TakesStream s a.after.store.found (contents a.after.world.disk) result) → TakesNothing result → TakesSource a name result
-takes_nothing every nothing = record { taken = λ old stream newest there. every _; missing = λ lacks. nothing }
+-- an image that opens with these versions names no next one
+pub unnamed : (s : Source) (image : List ℕ) → OpensWith s.found image → TakesIfNamed s image
+unnamed s image is next opens names =
+    let one : is.again ≡ next = found_once image is.again next is.opens opens in
+    absurd (omega (arith, names, ap (λ (f : Found). f.catalogue.newest) one, ap (λ c. c.newest) is.same.catalogue))
+
+-- so does one that an arranging left
+pub unnamed_so_far : {held : ℕ} {before : List ℕ} (s : Source) (image : List ℕ) → OpensSoFar held s.found before image → TakesIfNamed s image
+unnamed_so_far s image is next opens names =
+    let one : is.ready ≡ next = found_once image is.ready next is.opens opens in
+    let same : is.ready.catalogue.newest ≡ s.found.catalogue.newest = ⊎_elim (λ as_found. ap (λ c. c.newest) as_found.catalogue) (λ arranged. ap (λ c. c.newest) arranged.catalogue) is.so in
+    absurd (omega (arith, names, ap (λ (f : Found). f.catalogue.newest) one, same))
+
+-- a source that wasn't taken in
+pub takes_nothing : {a : Attempt} {name : List ℕ} {result : Result Answer StoreFault} → ((s : Source) → TakesStream s a.after.store.found (contents a.after.world.disk) result) → TakesNothing result →
+    ((old : List RecipeEntry) (stream : List ℕ) → TakesAtStops (source_before a old stream) a.before.world.disk a.after.world.disk) → TakesSource a name result
+takes_nothing every nothing stops = record { taken = λ old stream newest there. every _; stops = λ old stream newest there. stops old stream; missing = λ lacks. nothing }
+
+-- where nothing was touched
+pub takes_untouched : (s : Source) (h : History) → TakesAtStops s h h
+takes_untouched s h sure = leaves_same refl (record { each = λ image now. unnamed s image (sure.each image now) })
 
 -- ---- behind what settled the store
 
@@ -76,6 +97,11 @@ module _ (found mid : Found) (settled : IsSettledFrom found mid) (held : ℕ) (o
     holds = subst (λ s. HoldsVersion s old (found.catalogue.newest + 1) (chunks (cut_in s) stream) is.staged image) settled.sizes
         (subst (λ n. HoldsVersion mid.sizes old (n + 1) (parts (of mid)) is.staged image) settled.newest is.holds);
   }
+
+  pub named_before : (image : List ℕ) → TakesIfNamed (of mid) image → TakesIfNamed (of found) image
+  named_before image takes next opens names =
+      let is = takes next opens (omega (arith, names, settled.newest)) in
+      (is.0, taken_before is.1)
 
   pub counted_before : {counted free : ℕ} → CountsVersion (of mid) counted free → CountsVersion (of found) counted free
   counted_before {counted} {free} is = record {

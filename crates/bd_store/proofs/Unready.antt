@@ -38,7 +38,7 @@ use Rattle.bd_store.proofs.CommandEnds.{by_ready, gone_on, went_on, rests_not, f
 use Rattle.bd_store.proofs.NothingTouched.{files_stay, given_nothing, rests_failed, spared, unfinished_stay}
 use Rattle.bd_store.proofs.TaskMarks.{near_state}
 use Rattle.bd_store.proofs.Opens.{opens_before}
-use Rattle.bd_store.proofs.Taken.{takes_nothing}
+use Rattle.bd_store.proofs.Taken.{takes_nothing, unnamed_so_far}
 
 -- ---- over whatever disk
 
@@ -228,13 +228,13 @@ module _ (disk files : Type 0) (command : Command) (before : Scene) (mid : Found
     refusal_finishes None = tt
     refusal_finishes (Some target) = given_nothing _ (fault_of_reading fault)
 
-    refusal_transfers : (deed : Deed) → ReadiesFor before.store.found deed → TransfersFor refusal deed (Err (fault_of_reading fault))
-    refusal_transfers (TakesIn source) may = takes_nothing (λ s. tt) tt
-    refusal_transfers (GivesBack v target) may = absurd may
-    refusal_transfers (GivesUp count) may = tt
-    refusal_transfers Settles may = tt
-    refusal_transfers Checks may = absurd may
-    refusal_transfers Tells may = absurd may
+    refusal_transfers : disk → (deed : Deed) → ReadiesFor before.store.found deed → TransfersFor refusal deed (Err (fault_of_reading fault))
+    refusal_transfers told (TakesIn source) may = takes_nothing (λ s. tt) tt (λ old stream sure. leaves_wider _ (unnamed_so_far _) ((is.told told).readies.opens sure))
+    refusal_transfers told (GivesBack v target) may = absurd may
+    refusal_transfers told (GivesUp count) may = tt
+    refusal_transfers told Settles may = tt
+    refusal_transfers told Checks may = absurd may
+    refusal_transfers told Tells may = absurd may
 
     refusal_meets : Meets disk files refusal
     refusal_meets = record {
@@ -271,7 +271,7 @@ module _ (disk files : Type 0) (command : Command) (before : Scene) (mid : Found
         spares = spared disk before.world failed.world (Err (fault_of_reading fault)) (record { files = refl; unfinished = refl });
       };
       on_both = λ told files_tell. record {
-        transfers = refusal_transfers (deed_of before.store.found command) makes;
+        transfers = refusal_transfers told (deed_of before.store.found command) makes;
         step = unready_step command before.store.held before.world.disk h1 before.world.files fault (is.told told).readies.states (files_stay (target_of command) before.world.files);
         stops = unready_stops command before.store.held before.world.disk h1 before.world.files fault (is.told told).readies.states;
       };

@@ -35,7 +35,7 @@ use Rattle.bd_store.specs.Kinds.{Kind, Gained, Lost, Given, Figures, NoRoom, ByN
 use Rattle.bd_store.specs.Shown.{HasFree, SameVersions, Shown}
 use Rattle.bd_store.specs.Steps.{IsOneStep, KeepsFiles}
 use Rattle.bd_store.specs.Stops.{IsSafeAtStops}
-use Rattle.bd_store.specs.Taken.{TakesNothing, TakesStream}
+use Rattle.bd_store.specs.Taken.{Source, TakesAtStops, TakesNothing, TakesStream}
 use Rattle.bd_store.specs.Touches.{AnswersArranging, AnswersByNumbers, AnswersByVersion, AnswersExpiry, ArrangingReads, BackupReads, ExpiryReads, InArranging, InRestore, InStored, IsByNumbers, IsNumbers, ReadsOnce, WalksTo, arranges_first, is_waiting}
 use Rattle.bd_store.specs.Writes.{WritesByCommand, arranges_for}
 use Rattle.bd_store.specs.declared.fault.StoreFault.{StoreFault}
@@ -361,11 +361,17 @@ pub record GivesContent (found : Found) (v : ℕ) (name image : List ℕ) (old n
   pub checked : HasChunks (recipe_of found.sizes found.catalogue image v) (held new name)
   pub headers : HasGoodHeaders found.sizes image (walk found.catalogue v)
 
--- whatever image it is: a backup takes the file under the name in, beside the newest recipe, and nothing where there is no
--- such file
+-- a stream beside the newest recipe, before an attempt
+abbrev pub source_before : Attempt → List RecipeEntry → List ℕ → Source
+source_before a old stream = record { found = a.before.store.found; held = a.before.store.held; old = old; stream = stream }
+
+-- Whatever image it is: a backup takes the file under the name in, beside the newest recipe, and nothing where there is no
+-- such file. Each image of a stop that opens with its version has taken it in too.
 pub record TakesSource (a : Attempt) (name : List ℕ) (result : Result Answer StoreFault) : Type 0 where
   pub taken : (old : List RecipeEntry) (stream : List ℕ) → IsNewestRecipe a.before.store.found (contents a.before.world.disk) old → Holds a.before.world.files name stream →
-      TakesStream (record { found = a.before.store.found; held = a.before.store.held; old = old; stream = stream }) a.after.store.found (contents a.after.world.disk) result
+      TakesStream (source_before a old stream) a.after.store.found (contents a.after.world.disk) result
+  pub stops : (old : List RecipeEntry) (stream : List ℕ) → IsNewestRecipe a.before.store.found (contents a.before.world.disk) old → Holds a.before.world.files name stream →
+      TakesAtStops (source_before a old stream) a.before.world.disk a.after.world.disk
   pub missing : Lacks a.before.world.files name → TakesNothing result
 
 -- what goes from the disk to the target, and from the source to the disk

@@ -1,5 +1,7 @@
 -- What a backup takes in of its source, whatever image it is.
-use Rattle.std.specs.Prelude.{◌≡◌, ◌<◌, ℕ, ◌+◌, List, length, IfOk, Result}
+use Rattle.std.specs.Prelude.{◌≡◌, ◌<◌, ℕ, ◌+◌, List, length, IfOk, Ok, Result}
+use Rattle.bd_disk.specs.History.{History}
+use Rattle.bd_disk.specs.Made.{LeavesNow, LeavesSince}
 use Rattle.bd_model.specs.Chunks.{chunks}
 use Rattle.bd_model.specs.Laws.{entries_of_chunks}
 use Rattle.bd_model.specs.Room.{counted_of}
@@ -8,13 +10,14 @@ use Rattle.bd_model.specs.declared.answer.Answer.TheVariants.{BackedUp}
 use Rattle.bd_model.specs.declared.layout.RecipeEntry.{RecipeEntry}
 use Rattle.bd_roll.specs.Catalogue.{all_extents}
 use Rattle.bd_roll.specs.Growing.{after_backup}
-use Rattle.bd_catalog.specs.Opening.{Found}
+use Rattle.bd_catalog.specs.Opening.{Found, opened}
 use Rattle.bd_roll.specs.Shown.{version_entry}
 use Rattle.bd_roll.specs.Steps.{fresh_actives}
 use Rattle.bd_intake.specs.Answers.{HoldsVersion, IsVersion}
 use Rattle.bd_intake.specs.Firsts.{cut_in}
 use Rattle.bd_intake.specs.declared.staged.Staged.{Staged}
 use Rattle.bd_arrange.specs.Arranged.{IsSettledFrom}
+use Rattle.bd_arrange.specs.Opens.{OpensWith}
 use Rattle.bd_store.specs.Kinds.{Kind, Gained, Lost, Given, Figures, NoRoom, ByNumbers, Shows, Elsewhere, kind_of}
 use Rattle.bd_store.specs.declared.fault.StoreFault.{StoreFault}
 
@@ -64,6 +67,14 @@ WhereCut taken full Elsewhere = Unit {0}
 -- a source that is there: its version is taken in, or its chunks are counted
 abbrev pub TakesStream : Source → Found → List ℕ → Result Answer StoreFault → Type 0
 TakesStream s after image result = IfOk result (λ answer. WhereCut (TakesVersion s answer after image) (CountsVersion s) (kind_of answer))
+
+-- an image that opens with the next version has taken it in
+abbrev pub TakesIfNamed : Source → List ℕ → Type 0
+TakesIfNamed s image = (next : Found) → opened image ≡ Ok next → next.catalogue.newest ≡ next_version s → (answer : Answer) × TakesVersion s answer next image
+
+-- where each image opened with the catalogue that was found, so has each that a stop at any moment left, also after a fault
+abbrev pub TakesAtStops : Source → History → History → Type 0
+TakesAtStops s old new = LeavesNow (OpensWith s.found) old → LeavesSince (TakesIfNamed s) old new
 
 -- one that isn't
 abbrev pub TakesNothing : Result Answer StoreFault → Type 0
